@@ -1,0 +1,15 @@
+-- Two numbers are in order one way or the other. Assumes nothing.
+use Prim.Native.Nat.{ℕ, _≤_, _<_}
+use mathlib.Core.Path.{_≡_, refl}
+use mathlib.Core.Bool.{Bool, true, false}
+use mathlib.Core.Logic.{_⊎_, inl, inr}
+use lib.Dec.{leb}
+use borrow.Author.Tests.{leb-true, leb-false}
+
+-- for a proof by cases on a test
+pub le-or-lt : (m n : ℕ) → (m ≤ n) ⊎ (n < m)
+le-or-lt m n = told (leb m n) refl
+  where
+    told : (b : Bool) → leb m n ≡ b → (m ≤ n) ⊎ (n < m)
+    told true e = inl (leb-true m n e)
+    told false e = inr (leb-false m n e)

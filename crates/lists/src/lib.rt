@@ -1,0 +1,1 @@
+// Laws of lists alone: the definitions are in specs/, their laws in proofs/, and no function is here.

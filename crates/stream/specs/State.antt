@@ -1,0 +1,27 @@
+-- The state of one stream: document 01, "State of a port", last paragraph.
+use Prim.Native.Nat.{ℕ, _≤_}
+use mathlib.Core.Bool.{true}
+use Rattle.stream.specs.declared.Stream.{Stream}
+
+-- "a place (current, next or last)", by the numbers that the replies give them: 1 current, 2 next, 3 last. The rules below take the last
+-- place as a parameter; this is the number that the code has.
+abbrev pub currentPlace : ℕ
+currentPlace = 1
+
+abbrev pub lastPlace : ℕ
+lastPlace = 3
+
+-- the stream at a place with so much left there; P (permitted octets per epoch) and whether it is reserved stay as they are
+abbrev pub atPlace : Stream → ℕ → ℕ → Stream
+atPlace s place left = record { reserved = s .reserved; permitted = s .permitted; place = place; left = left }
+
+-- "Reserve(s, P) sets place current, left P"
+abbrev pub reserveOf : ℕ → Stream
+reserveOf permitted = record { reserved = true; permitted = permitted; place = currentPlace; left = permitted }
+
+-- what refusal 19 asks of a reserved stream's place and left: one of the places up to the last, and left (octets still free at that place)
+-- at most P
+pub record Fit (last : ℕ) (s : Stream) : Type 0 where
+  pub first-place : currentPlace ≤ s .place
+  pub last-place : s .place ≤ last
+  pub left-within : s .left ≤ s .permitted

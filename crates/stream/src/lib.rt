@@ -1,0 +1,154 @@
+// The rules of one reserved stream: what an arriving frame and a tick do to its record. The record goes in by value and comes
+// back, with the answer. The definitions are in specs/, in document 01's order.
+ghost use mathlib.Core.Path.{_≡_};
+ghost use Prim.Native.Nat.{_≤_, _<_};
+ghost use Rattle.stream.specs.State.{lastPlace, atPlace, reserveOf};
+ghost use Rattle.stream.specs.Steps.{advanced, settled, joined, discarded, arriveOf, tickOf};
+ghost use Rattle.stream.specs.Replies.{replyOf};
+
+// The places that have a name in the code: current is the first, and the last is that of a port with four queues.
+const CURRENT: u8 = 1;
+
+const LAST: u8 = 3;
+
+// The refusal of a discarded frame.
+const DISCARD: u8 = 14;
+
+// One stream: whether it is reserved, its permitted octets per epoch (P), its place, and the octets still free there (left).
+pub struct Stream {
+    pub reserved: bool,
+    pub permitted: u16,
+    pub place: u8,
+    pub left: u16,
+}
+
+// What becomes of an arriving frame: it joins the queue at a place, or it is discarded. The stream's new record comes with it.
+pub enum Arrival {
+    Joined(u8, Stream),
+    Discarded(Stream),
+}
+
+// The reply of a call: its refusal, or 0, and two numbers.
+pub struct Reply {
+    pub refusal: u8,
+    pub first: u32,
+    pub second: u32,
+}
+
+impl Stream {
+    // A stream as its reservation leaves it: at current, with all of P left.
+    pub fn reserve(permitted: u16) -> Stream
+        ensures { λ r. ⌜ r ≡ reserveOf permitted ⌝ }
+    {
+        Stream {
+            reserved: true,
+            permitted,
+            place: CURRENT,
+            left: permitted,
+        }
+    }
+
+    // The same stream at another place.
+    fn at(self, place: u8, left: u16) -> Stream
+        ensures { λ r. ⌜ r ≡ atPlace self place left ⌝ }
+    {
+        Stream {
+            reserved: self.reserved,
+            permitted: self.permitted,
+            place,
+            left,
+        }
+    }
+
+    // One place further, with all of P left.
+    fn advanced(self) -> Stream
+        requires { ⌜ self .place < lastPlace ⌝ }
+        ensures { λ r. ⌜ r ≡ advanced self ⌝ }
+    {
+        self.at(self.place + 1, self.permitted)
+    }
+
+    // One place further if nothing is left, unless the place is the last.
+    fn settled(self) -> Stream
+        ensures { λ r. ⌜ r ≡ settled lastPlace self ⌝ }
+    {
+        if self.left == 0 {
+            if self.place < LAST {
+                return self.advanced();
+            }
+            return self;
+        }
+        self
+    }
+
+    // A frame that fits joins the queue at the place.
+    fn joined(self, charge: u16) -> Arrival
+        requires { ⌜ charge ≤ self .left ⌝ }
+        ensures { λ r. ⌜ r ≡ joined lastPlace self charge ⌝ }
+    {
+        let place = self.place;
+        Arrival::Joined(place, self.at(place, self.left - charge).settled())
+    }
+
+    // A frame that does not fit at the place joins the queue at the one after it, and the stream stays there.
+    fn joined_next(self, charge: u16) -> Arrival
+        requires { ⌜ (self .place < lastPlace) × (charge ≤ self .permitted) ⌝ }
+        ensures { λ r. ⌜ r ≡ joined lastPlace (advanced self) charge ⌝ }
+    {
+        self.advanced().joined(charge)
+    }
+
+    // A frame that fits nowhere is discarded, and the stream is spent.
+    fn discarded(self) -> Arrival
+        ensures { λ r. ⌜ r ≡ discarded lastPlace self ⌝ }
+    {
+        Arrival::Discarded(self.at(LAST, 0))
+    }
+
+    // The frame joins at the place, or, where more than left is asked, at the next, or is discarded: after one advance left is P, so that a
+    // frame which does not fit there fits nowhere.
+    pub fn arrive(self, charge: u16) -> Arrival
+        ensures { λ r. ⌜ r ≡ arriveOf lastPlace self charge ⌝ }
+    {
+        if charge <= self.left {
+            return self.joined(charge);
+        }
+        if self.place < LAST {
+            if charge <= self.permitted {
+                return self.joined_next(charge);
+            }
+            return self.discarded();
+        }
+        self.discarded()
+    }
+
+    // A tick: at current the stream has all of P again; from a later place it comes one place nearer.
+    pub fn tick(self) -> Stream
+        ensures { λ r. ⌜ r ≡ tickOf self ⌝ }
+    {
+        if self.place <= CURRENT {
+            return self.at(CURRENT, self.permitted);
+        }
+        self.at(self.place - 1, self.left)
+    }
+}
+
+impl Arrival {
+    // The reply to the arrival.
+    pub fn reply(self) -> Reply
+        ensures { λ r. ⌜ r ≡ replyOf self ⌝ }
+    {
+        match self {
+            Arrival::Joined(place, stream) => Reply {
+                refusal: 0,
+                first: place as u32,
+                second: stream.left as u32,
+            },
+            Arrival::Discarded(_) => Reply {
+                refusal: DISCARD,
+                first: 0,
+                second: 0,
+            },
+        }
+    }
+}
