@@ -1,13 +1,13 @@
--- Laws of `allTo`, `sumTo`, `listTo` and `iterate`. Assumes nothing.
-use Prim.Native.Nat.{ℕ, zero, suc, _+_, _*_, _≤_, _<_}
+-- Laws of `allTo`, `sumTo`, `listTo`, `sumOf` and `iterate`. Assumes nothing.
+use Prim.Native.Nat.{ℕ, zero, suc, _+_, _<_}
 use mathlib.Core.Path.{_≡_, refl, sym, ap, ap₂, _∙_}
 use mathlib.Core.Bool.{Bool, true, false, _&&_}
 use mathlib.Core.Logic.{⊎-elim}
-use native.Mathlib.Nat.{eq-or-lt-of-le, mul-suc}
+use native.Mathlib.Nat.{eq-or-lt-of-le}
 use mathlib.Core.List.{List, [], _∷_, _++_}
 use native.Mathlib.Omega.{arith}
 use lib.ListN.{length, length-append}
-use Rattle.lists.specs.Turns.{allTo, sumTo, listTo, iterate}
+use Rattle.lists.specs.Turns.{allTo, sumTo, listTo, sumOf, iterate}
 
 -- both halves of a test that is true
 pub both : (a b : Bool) → (a && b) ≡ true → (a ≡ true) × (b ≡ true)
@@ -30,25 +30,6 @@ unfolding allTo
 allTo-all f zero h = refl
 allTo-all f (suc n) h = ap₂ _&&_ (h n (omega arith)) (allTo-all f n (λ k b. h k (omega arith)))
 
-module _ (f g : ℕ → ℕ) where
-  -- equal terms, equal sums
-  pub sumTo-same : (n : ℕ) → ((k : ℕ) → k < n → f k ≡ g k) → sumTo f n ≡ sumTo g n
-  unfolding sumTo
-  sumTo-same zero h = refl
-  sumTo-same (suc n) h = ap₂ _+_ (sumTo-same n (λ k b. h k (omega arith))) (h n (omega arith))
-
--- the first term taken out of the sum
-pub sumTo-first : (f : ℕ → ℕ) (n : ℕ) → sumTo f (suc n) ≡ f 0 + sumTo (λ k. f (suc k)) n
-unfolding sumTo
-sumTo-first f zero = omega arith
-sumTo-first f (suc n) = omega (arith, sumTo-first f n)
-
--- terms of at most m make a sum of at most m for each
-pub sumTo-most : (f : ℕ → ℕ) (m n : ℕ) → ((k : ℕ) → k < n → f k ≤ m) → sumTo f n ≤ m * n
-unfolding sumTo
-sumTo-most f m zero h = omega arith
-sumTo-most f m (suc n) h = simp mul-suc (omega (arith, sumTo-most f m n (λ k b. h k (omega arith)), h n (omega arith)))
-
 module _ {A : Type 0} where
   -- equal values, equal lists
   pub listTo-same : (f g : ℕ → A) (n : ℕ) → ((k : ℕ) → k < n → f k ≡ g k) → listTo f n ≡ listTo g n
@@ -68,11 +49,16 @@ module _ {A : Type 0} where
   length-listTo f zero = refl
   length-listTo f (suc n) = length-append (listTo f n) (f n ∷ []) ∙ omega (arith, length-listTo f n)
 
-  -- turns that change nothing leave what there was
-  pub iterate-fixed : (f : ℕ → A → A) (n : ℕ) (a : A) → ((k : ℕ) → f k a ≡ a) → iterate f n a ≡ a
-  unfolding iterate
-  iterate-fixed f zero a h = refl
-  iterate-fixed f (suc n) a h = ap (f n) (iterate-fixed f n a h) ∙ h n
+  -- the sum over a list with one more at its end
+  pub sumOf-snoc : (g : A → ℕ) (l : List A) (a : A) → sumOf g (l ++ (a ∷ [])) ≡ sumOf g l + g a
+  sumOf-snoc g [] a = omega arith
+  sumOf-snoc g (x ∷ l) a = omega (arith, sumOf-snoc g l a)
+
+  -- a sum by turns is the sum over the list of the turns' values
+  pub sumTo-list : (g : A → ℕ) (f : ℕ → A) (n : ℕ) → sumTo (λ i. g (f i)) n ≡ sumOf g (listTo f n)
+  unfolding sumTo listTo
+  sumTo-list g f zero = refl
+  sumTo-list g f (suc n) = omega (arith, sumTo-list g f n, sumOf-snoc g (listTo f n) (f n))
 
   -- what each turn keeps is kept by all
   pub iterate-keeps : (P : A → Type 0) (f : ℕ → A → A) (n : ℕ) (a : A) → ((k : ℕ) (x : A) → P x → P (f k x)) → P a → P (iterate f n a)

@@ -35,6 +35,22 @@ get-put l i (v ∷ vs) h =
     (getD-put (set l i v) (i + 1) vs i (λ m a b c d. omega arith) ∙ getD-set-same l i v 0 (omega arith))
     (get-put (set l i v) (i + 1) vs (simp length-set (omega arith)))
 
+-- one write after another that ends where it begins is one write of both
+pub put-append : (l : List ℕ) (i : ℕ) (vs ws : List ℕ) → put l i (vs ++ ws) ≡ put (put l i vs) (i + length vs) ws
+put-append l i [] ws = ap (λ (k : ℕ). put l k ws) (omega arith)
+put-append l i (v ∷ vs) ws = put-append (set l i v) (i + 1) vs ws ∙ ap (λ (k : ℕ). put (put (set l i v) (i + 1) vs) k ws) (omega arith)
+
+getD-get : (l : List ℕ) (i m j : ℕ) → j < m → getD (get l i m) j 0 ≡ getD l (i + j) 0
+getD-get l i zero j h = absurd (omega arith)
+getD-get l i (suc m) zero h = ap (λ (k : ℕ). getD l k 0) (omega arith)
+getD-get l i (suc m) (suc j) h = getD-get l (i + 1) m j (omega arith) ∙ ap (λ (k : ℕ). getD l k 0) (omega arith)
+
+-- what is read of something read
+pub get-get : (l : List ℕ) (i m j n : ℕ) → j + n ≤ m → get (get l i m) j n ≡ get l (i + j) n
+get-get l i m j zero h = refl
+get-get l i m j (suc n) h =
+    ap₂ _∷_ (getD-get l i m j (omega arith)) (get-get l i m (j + 1) n (omega arith) ∙ ap (λ (k : ℕ). get l k n) (omega arith))
+
 -- one octet written before or after others that lie apart
 set-put : (l : List ℕ) (i : ℕ) (vs : List ℕ) (k a : ℕ) → Apart k 1 i (length vs) → set (put l i vs) k a ≡ put (set l k a) i vs
 set-put l i [] k a h = refl

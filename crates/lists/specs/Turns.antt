@@ -18,6 +18,11 @@ unfoldable pub listTo : {A : Type 0} → (ℕ → A) → ℕ → List A
 listTo f zero = []
 listTo f (suc n) = listTo f n ++ (f n ∷ [])
 
+-- the sum of g over a list
+abbrev pub sumOf : {A : Type 0} → (A → ℕ) → List A → ℕ
+sumOf g [] = 0
+sumOf g (x ∷ xs) = g x + sumOf g xs
+
 -- what a becomes in n turns, where turn i is f i
 unfoldable pub iterate : {A : Type 0} → (ℕ → A → A) → ℕ → A → A
 iterate f zero a = a

@@ -1,0 +1,2 @@
+-- Numbers in octets.
+pub mod Numbers

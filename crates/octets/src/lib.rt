@@ -1,0 +1,55 @@
+// Numbers of two and of four octets, high octet first, read and written in a slice: what the port record, the frame memory and
+// capture files are made of.
+ghost use mathlib.Core.Path.{_≡_};
+ghost use Prim.Native.Nat.{_+_, _*_, _≤_};
+ghost use lib.ListN.{length};
+ghost use Rattle.lists.specs.Window.{put, get};
+ghost use Rattle.octets.specs.Numbers.{twoOf, twoOctets, fourOf, fourOctets};
+
+// The number of two octets.
+fn two(high: u8, low: u8) -> u16
+    ensures { λ r. ⌜ r ≡ high * 256 + low ⌝ }
+{
+    high as u16 * 256 + low as u16
+}
+
+// The number in the two octets from `at` on.
+pub fn two_at(octets: &[u8], at: usize) -> u16
+    requires { ⌜ at + 2 ≤ length (now octets) ⌝ }
+    ensures { λ r. ⌜ r ≡ twoOf (get (now (octets .entry)) at 2) ⌝ }
+{
+    two(octets[at], octets[at + 1])
+}
+
+// Writes the number into the two octets from `at` on.
+pub fn put_two(octets: &mut [u8], at: usize, number: u16)
+    requires { ⌜ at + 2 ≤ length (now octets) ⌝ }
+    ensures { λ _. ⌜ now (octets .exit) ≡ put (now (octets .entry)) at (twoOctets number) ⌝ }
+{
+    octets[at] = (number / 256) as u8;
+    octets[at + 1] = (number % 256) as u8;
+}
+
+// The number of four octets, of which each argument has two.
+fn four(high: u16, low: u16) -> u32
+    ensures { λ r. ⌜ r ≡ high * 65536 + low ⌝ }
+{
+    high as u32 * 65536 + low as u32
+}
+
+// The number in the four octets from `at` on.
+pub fn four_at(octets: &[u8], at: usize) -> u32
+    requires { ⌜ at + 4 ≤ length (now octets) ⌝ }
+    ensures { λ r. ⌜ r ≡ fourOf (get (now (octets .entry)) at 4) ⌝ }
+{
+    four(two_at(octets, at), two_at(octets, at + 2))
+}
+
+// Writes the number into the four octets from `at` on.
+pub fn put_four(octets: &mut [u8], at: usize, number: u32)
+    requires { ⌜ at + 4 ≤ length (now octets) ⌝ }
+    ensures { λ _. ⌜ now (octets .exit) ≡ put (now (octets .entry)) at (fourOctets number) ⌝ }
+{
+    put_two(octets, at, (number / 65536) as u16);
+    put_two(octets, at + 2, (number % 65536) as u16);
+}

@@ -1,0 +1,52 @@
+-- A queue is first in first out: a frame that joins is the last that waits, the frame that is sent is the first, and the other queues'
+-- frames stay as they are. Over a ring that wraps. Assumes nothing.
+use Prim.Native.Nat.{ℕ, zero, suc, _+_, _-_, _*_, _%_, _≤_, _<_}
+use mathlib.Core.Path.{_≡_, refl, sym, ap, ap₂, _∙_}
+use mathlib.Core.List.{List, [], _∷_, _++_}
+use native.Mathlib.Omega.{arith}
+use native.Mathlib.Numerals.{add-one}
+use lib.ListN.{length}
+use Rattle.lists.specs.Turns.{listTo}
+use Rattle.lists.proofs.TurnLaws.{listTo-same, listTo-first, length-listTo}
+use Rattle.queue.specs.declared.Frame.{Frame}
+use Rattle.queue.specs.declared.Queue.{Queue}
+use Rattle.queue.specs.Place.{placeLength, frameAt, withFrame}
+use Rattle.queue.specs.Ring.{placeCount, partLength, octetOf, memoryOctet, joinedMemory, frontOf, joinedQueue, sentQueue, emptyQueue}
+use Rattle.queue.specs.Waiting.{waiting, chargesOf}
+use Rattle.queue.proofs.PlaceLaws.{frame-same, frame-apart}
+
+-- an empty queue has no frame waiting
+pub empty-waits : (m : List ℕ) (number : ℕ) → waiting m number emptyQueue ≡ []
+unfolding waiting listTo
+empty-waits m number = refl
+
+-- as many wait as count says
+pub length-waiting : (m : List ℕ) (number : ℕ) (q : Queue) → length (waiting m number q) ≡ q .count
+unfolding waiting
+length-waiting m number q = length-listTo (λ i. frameAt m (memoryOctet number q i)) (q .count)
+
+-- joining appends
+pub joins : (m : List ℕ) (number : ℕ) (q : Queue) (f : Frame) → q .count < placeCount → number * partLength + partLength ≤ length m
+    → waiting (joinedMemory m number q f) number (joinedQueue q) ≡ waiting m number q ++ (f ∷ [])
+unfolding waiting joinedMemory listTo
+joins m number q f h room =
+    rw (add-one (q .count))
+    (ap₂ (λ (fs : List Frame) (g : Frame). fs ++ (g ∷ []))
+    (listTo-same _ _ (q .count) (λ i b. frame-apart m (memoryOctet number q (q .count)) f (memoryOctet number q i) (λ k a c d e. omega arith)))
+    (frame-same m (memoryOctet number q (q .count)) f (omega arith)))
+
+-- sending takes the head, and start moves on, 255 to 0
+pub sends : (m : List ℕ) (number : ℕ) (q : Queue) → 0 < q .count → waiting m number q ≡ frontOf m number q ∷ waiting m number (sentQueue q)
+unfolding waiting frontOf
+sends m number q h =
+    let one-more : q .count ≡ suc (q .count - 1) = omega arith in
+    ap (listTo (λ i. frameAt m (memoryOctet number q i))) one-more
+    ∙ listTo-first (λ i. frameAt m (memoryOctet number q i)) (q .count - 1)
+    ∙ ap (λ (fs : List Frame). frameAt m (memoryOctet number q 0) ∷ fs) (listTo-same _ _ (q .count - 1) (λ i b. ap (frameAt m) (omega arith)))
+
+-- a frame that joins another queue changes nothing in this one
+pub joins-elsewhere : (m : List ℕ) (number other : ℕ) (q r : Queue) (f : Frame) → (other ≡ number → ⊥)
+    → waiting (joinedMemory m number q f) other r ≡ waiting m other r
+unfolding waiting joinedMemory
+joins-elsewhere m number other q r f apart =
+    listTo-same _ _ (r .count) (λ i b. frame-apart m (memoryOctet number q (q .count)) f (memoryOctet other r i) (λ k a c d e. apart (omega arith)))

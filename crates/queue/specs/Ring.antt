@@ -1,0 +1,41 @@
+-- One queue in its part of the lent memory: document 01, "each queue has 256 of them, starting at 256 times the queue's number".
+use Prim.Native.Nat.{ℕ, _+_, _-_, _*_, _%_}
+use mathlib.Core.List.{List}
+use Rattle.queue.specs.declared.Frame.{Frame}
+use Rattle.queue.specs.declared.Queue.{Queue}
+use Rattle.queue.specs.Place.{placeLength, frameAt, withFrame}
+
+-- the places of a queue, and the octets of its part
+abbrev pub placeCount : ℕ
+placeCount = 256
+
+abbrev pub partLength : ℕ
+partLength = 2048
+
+-- where, in the queue's part, the place of its frame number i begins, counted from its oldest: place (start + i) modulo 256
+abbrev pub octetOf : Queue → ℕ → ℕ
+octetOf q i = (q .start + i) % placeCount * placeLength
+
+-- the same in the whole memory, for the queue of this number
+abbrev pub memoryOctet : ℕ → Queue → ℕ → ℕ
+memoryOctet number q i = number * partLength + octetOf q i
+
+-- "A frame joins at place (start + count) modulo 256 of its queue": the whole memory afterwards
+unfoldable pub joinedMemory : List ℕ → ℕ → Queue → Frame → List ℕ
+joinedMemory m number q f = withFrame m (memoryOctet number q (q .count)) f
+
+-- the oldest frame of the queue
+unfoldable pub frontOf : List ℕ → ℕ → Queue → Frame
+frontOf m number q = frameAt m (memoryOctet number q 0)
+
+-- a frame has joined
+abbrev pub joinedQueue : Queue → Queue
+joinedQueue q = record { start = q .start; count = q .count + 1 }
+
+-- "sending lowers the count and moves start on by one, 255 to 0"
+abbrev pub sentQueue : Queue → Queue
+sentQueue q = record { start = (q .start + 1) % placeCount; count = q .count - 1 }
+
+-- "opening and purging set both to 0"
+abbrev pub emptyQueue : Queue
+emptyQueue = record { start = 0; count = 0 }
