@@ -5,12 +5,14 @@ use mathlib.Core.Path.{_≡_, refl, sym, ap, ap₂, _∙_}
 use mathlib.Core.List.{List, [], _∷_, _++_}
 use native.Mathlib.Omega.{arith}
 use native.Mathlib.Numerals.{add-one}
-use lib.ListN.{length}
+use lib.ListN.{length, getD}
+use Rattle.lists.specs.Window.{Apart}
 use Rattle.lists.specs.Turns.{listTo}
+use Rattle.lists.proofs.WindowLaws.{getD-put}
 use Rattle.lists.proofs.TurnLaws.{listTo-same, listTo-first, length-listTo}
 use Rattle.queue.specs.declared.Frame.{Frame}
 use Rattle.queue.specs.declared.Queue.{Queue}
-use Rattle.queue.specs.Place.{placeLength, frameAt, withFrame}
+use Rattle.queue.specs.Place.{placeLength, octetsOf, frameAt, withFrame}
 use Rattle.queue.specs.Ring.{placeCount, partLength, octetOf, memoryOctet, joinedMemory, frontOf, joinedQueue, sentQueue, emptyQueue}
 use Rattle.queue.specs.Waiting.{waiting, chargesOf}
 use Rattle.queue.proofs.PlaceLaws.{frame-same, frame-apart}
@@ -43,6 +45,12 @@ sends m number q h =
     ap (listTo (λ i. frameAt m (memoryOctet number q i))) one-more
     ∙ listTo-first (λ i. frameAt m (memoryOctet number q i)) (q .count - 1)
     ∙ ap (λ (fs : List Frame). frameAt m (memoryOctet number q 0) ∷ fs) (listTo-same _ _ (q .count - 1) (λ i b. ap (frameAt m) (omega arith)))
+
+-- no octet changes but the eight of the place that the frame joins
+pub joins-only : (m : List ℕ) (number : ℕ) (q : Queue) (f : Frame) (k : ℕ) → Apart k 1 (memoryOctet number q (q .count)) placeLength
+    → getD (joinedMemory m number q f) k 0 ≡ getD m k 0
+unfolding joinedMemory withFrame
+joins-only m number q f k h = getD-put m (memoryOctet number q (q .count)) (octetsOf f) k h
 
 -- a frame that joins another queue changes nothing in this one
 pub joins-elsewhere : (m : List ℕ) (number other : ℕ) (q r : Queue) (f : Frame) → (other ≡ number → ⊥)

@@ -65,12 +65,29 @@ impl Queue {
     }
 }
 
+// Where the part of the queue of this number begins in the whole memory.
+fn part_start(number: u8) -> usize
+    ensures { λ r. ⌜ r ≡ number * partLength ⌝ }
+{
+    number as usize * PART_LENGTH
+}
+
 // The frame joins the queue whose part this is: it is written after the last that waits.
 pub fn join(part: &mut [u8], queue: Queue, frame: Frame)
     requires { ⌜ partLength ≤ length (now part) ⌝ }
     ensures { λ _. ⌜ now (part .exit) ≡ withFrame (now (part .entry)) (octetOf queue (queue .count)) frame ⌝ }
 {
     place::write(part, queue.octet(queue.count), frame);
+}
+
+// The frame joins the queue of this number in the whole memory, whose part of it is handed on: no octet of another place changes.
+pub fn join_at(memory: &mut [u8], number: u8, queue: Queue, frame: Frame)
+    requires { ⌜ number * partLength + partLength ≤ length (now memory) ⌝ }
+    ensures { λ _. ⌜ now (memory .exit) ≡ joinedMemory (now (memory .entry)) number queue frame ⌝ }
+{
+    let from = part_start(number);
+    let to = from + PART_LENGTH;
+    join(&mut memory[from..to], queue, frame);
 }
 
 // The oldest frame of the queue whose part this is.
@@ -81,32 +98,22 @@ pub fn front(part: &[u8], queue: Queue) -> Frame
     place::read(part, queue.octet(0))
 }
 
-// The frame joins the queue of this number in the whole memory: no octet outside that place changes.
-pub fn join_at(memory: &mut [u8], number: u8, queue: Queue, frame: Frame)
-    requires { ⌜ number * partLength + partLength ≤ length (now memory) ⌝ }
-    ensures { λ _. ⌜ now (memory .exit) ≡ joinedMemory (now (memory .entry)) number queue frame ⌝ }
-{
-    let from = number as usize * PART_LENGTH;
-    let to = from + PART_LENGTH;
-    join(&mut memory[from..to], queue, frame);
-}
-
 // The oldest frame of the queue of this number in the whole memory.
 pub fn front_at(memory: &[u8], number: u8, queue: Queue) -> Frame
     requires { ⌜ number * partLength + partLength ≤ length (now memory) ⌝ }
     ensures { λ r. ⌜ r ≡ frontOf (now (memory .entry)) number queue ⌝ }
 {
-    let from = number as usize * PART_LENGTH;
+    let from = part_start(number);
     let to = from + PART_LENGTH;
     front(&memory[from..to], queue)
 }
 
-// The charge of the queue's frame number i, counted from its oldest, in the whole memory.
+// The charge of the frame number i, counted from the oldest, of the queue of this number in the whole memory.
 fn charge_at(memory: &[u8], number: u8, queue: Queue, i: u16) -> u16
     requires { ⌜ number * partLength + partLength ≤ length (now memory) ⌝ }
     ensures { λ r. ⌜ r ≡ frameAt (now (memory .entry)) (memoryOctet number queue i) .charge ⌝ }
 {
-    place::charge(memory, number as usize * PART_LENGTH + queue.octet(i))
+    place::charge(memory, part_start(number) + queue.octet(i))
 }
 
 // The sum of the charges that wait in the queue of this number in the whole memory.

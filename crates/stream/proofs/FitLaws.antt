@@ -2,6 +2,7 @@
 use Prim.Native.Nat.{ℕ, _+_, _-_, _≤_, _<_}
 use mathlib.Core.Path.{_≡_, refl}
 use native.Mathlib.Omega.{arith}
+use Rattle.lists.proofs.TurnLaws.{iterate-keeps}
 use Rattle.stream.specs.declared.Stream.{Stream}
 use Rattle.stream.specs.declared.Arrival.{Arrival}
 use Rattle.stream.specs.declared.Arrival.the-variants.{Joined, Discarded}
@@ -9,7 +10,7 @@ use Rattle.stream.specs.State.{currentPlace, reserveOf, Fit}
 use Rattle.stream.specs.Steps.{advanced, joined, arriveOf, tickOf}
 use Rattle.stream.specs.Replies.{streamOf}
 use Rattle.stream.proofs.ArriveLaws.{arrive-cases, joined-cases}
-use Rattle.stream.proofs.TickLaws.{tick-cases}
+use Rattle.stream.proofs.TickLaws.{tick-cases, ticked}
 
 -- a stream is fit as its reservation leaves it
 pub fit-reserve : (last permitted : ℕ) → currentPlace ≤ last → Fit last (reserveOf permitted)
@@ -36,6 +37,10 @@ fit-tick last s f =
     tick-cases s (λ t. Fit last t)
     (λ h. record { first-place = omega arith; last-place = omega arith; left-within = omega arith })
     (λ h. record { first-place = omega arith; last-place = omega arith; left-within = f .left-within })
+
+-- and so do ticks with no frame between them
+pub fit-ticked : (last n : ℕ) (s : Stream) → Fit last s → Fit last (ticked n s)
+fit-ticked last n s f = iterate-keeps (Fit last) (λ _. tickOf) n s (λ _ t. fit-tick last t) f
 
 -- no step changes P
 permitted-joined : (last : ℕ) (s : Stream) (a : ℕ) → a ≤ s .left → streamOf (joined last s a) .permitted ≡ s .permitted

@@ -4,3 +4,4 @@ pub mod TickLaws
 pub mod FitLaws
 pub mod Used
 pub mod AloneLaws
+pub mod CasesHold

@@ -7,12 +7,12 @@ use borrow.Author.Tests.{le-leb, lt-leb}
 use Rattle.lists.proofs.Order.{le-or-lt}
 use Rattle.lists.specs.Turns.{iterate}
 use Rattle.stream.specs.declared.Stream.{Stream}
-use Rattle.stream.specs.State.{currentPlace, atPlace}
+use Rattle.stream.specs.State.{currentPlace, atPlace, fullAt}
 use Rattle.stream.specs.Steps.{tickOf}
 
 module _ (s : Stream) where
   -- a stream at current stays there, with all of P
-  pub stays-current : s .place ≤ currentPlace → tickOf s ≡ atPlace s currentPlace (s .permitted)
+  pub stays-current : s .place ≤ currentPlace → tickOf s ≡ fullAt s currentPlace
   unfolding tickOf
   stays-current h = rw (le-leb (s .place) currentPlace h)
 
@@ -23,7 +23,7 @@ module _ (s : Stream) where
 
   -- whatever holds of both ways holds of the tick
   pub tick-cases : (G : Stream → Type 0)
-      → (s .place ≤ currentPlace → G (atPlace s currentPlace (s .permitted)))
+      → (s .place ≤ currentPlace → G (fullAt s currentPlace))
       → (currentPlace < s .place → G (atPlace s (s .place - 1) (s .left)))
       → G (tickOf s)
   tick-cases G stays nearer =

@@ -11,7 +11,7 @@ use borrow.Author.Tests.{lt-ltb, le-ltb, eq-eqb, ne-eqb}
 use Rattle.lists.proofs.Order.{le-or-lt}
 use Rattle.stream.specs.declared.Stream.{Stream}
 use Rattle.stream.specs.declared.Arrival.{Arrival}
-use Rattle.stream.specs.State.{currentPlace, atPlace, Fit}
+use Rattle.stream.specs.State.{currentPlace, atPlace, fullAt, Fit}
 use Rattle.stream.specs.Steps.{advanced, joined, discarded, arriveOf, tickOf}
 use Rattle.stream.specs.Replies.{streamOf}
 use Rattle.stream.specs.Alone.{octetsAt}
@@ -97,8 +97,8 @@ used-tick last k s f =
     tick-cases s (λ t. used k s ≤ used (k - 1) t)
     (λ h.
     where-from k s
-    (λ b. omega (arith, used-most k s, used-behind (k - 1) (atPlace s currentPlace (s .permitted)) (omega arith)))
-    (λ b. omega (arith, used-most k s, used-behind (k - 1) (atPlace s currentPlace (s .permitted)) (omega arith)))
+    (λ b. omega (arith, used-most k s, used-behind (k - 1) (fullAt s currentPlace) (omega arith)))
+    (λ b. omega (arith, used-most k s, used-behind (k - 1) (fullAt s currentPlace) (omega arith)))
     (λ b. omega (arith, used-ahead k s b)))
     (λ h.
     where-from k s

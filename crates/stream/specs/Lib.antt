@@ -3,3 +3,4 @@ pub mod State
 pub mod Steps
 pub mod Replies
 pub mod Alone
+pub mod Cases

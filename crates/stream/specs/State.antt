@@ -11,16 +11,19 @@ currentPlace = 1
 abbrev pub lastPlace : ℕ
 lastPlace = 3
 
--- the stream at a place with so much left there; P (permitted octets per epoch) and whether it is reserved stay as they are
+-- the stream at a place with so much left (octets still free there); P (permitted octets per epoch) and whether it is reserved stay
 abbrev pub atPlace : Stream → ℕ → ℕ → Stream
 atPlace s place left = record { reserved = s .reserved; permitted = s .permitted; place = place; left = left }
+
+-- the stream at a place where "left becomes P"
+abbrev pub fullAt : Stream → ℕ → Stream
+fullAt s place = atPlace s place (s .permitted)
 
 -- "Reserve(s, P) sets place current, left P"
 abbrev pub reserveOf : ℕ → Stream
 reserveOf permitted = record { reserved = true; permitted = permitted; place = currentPlace; left = permitted }
 
--- what refusal 19 asks of a reserved stream's place and left: one of the places up to the last, and left (octets still free at that place)
--- at most P
+-- what refusal 19 asks of a reserved stream's place and left: one of the places up to the last, and left at most P
 pub record Fit (last : ℕ) (s : Stream) : Type 0 where
   pub first-place : currentPlace ≤ s .place
   pub last-place : s .place ≤ last

@@ -6,11 +6,11 @@ use lib.Dec.{leb, ltb, eqb}
 use Rattle.stream.specs.declared.Stream.{Stream}
 use Rattle.stream.specs.declared.Arrival.{Arrival}
 use Rattle.stream.specs.declared.Arrival.the-variants.{Joined, Discarded}
-use Rattle.stream.specs.State.{currentPlace, atPlace}
+use Rattle.stream.specs.State.{currentPlace, atPlace, fullAt}
 
 -- "the place advances by one and left becomes P"
 abbrev pub advanced : Stream → Stream
-advanced s = atPlace s (s .place + 1) (s .permitted)
+advanced s = fullAt s (s .place + 1)
 
 -- "if left is then 0 and the place is not last", the stream advances
 abbrev pub settled : ℕ → Stream → Stream
@@ -37,4 +37,4 @@ arriveOf last s a = attempt last (last - s .place) s a
 -- Tick for the stream: "A stream at current stays at current with left P. A stream at next goes to current, one at last goes to next, and
 -- both keep their left."
 unfoldable pub tickOf : Stream → Stream
-tickOf s = cond (leb (s .place) currentPlace) (atPlace s currentPlace (s .permitted)) (atPlace s (s .place - 1) (s .left))
+tickOf s = cond (leb (s .place) currentPlace) (fullAt s currentPlace) (atPlace s (s .place - 1) (s .left))

@@ -2,7 +2,7 @@
 // back, with the answer. The definitions are in specs/, in document 01's order.
 ghost use mathlib.Core.Path.{_≡_};
 ghost use Prim.Native.Nat.{_≤_, _<_};
-ghost use Rattle.stream.specs.State.{lastPlace, atPlace, reserveOf};
+ghost use Rattle.stream.specs.State.{lastPlace, atPlace, fullAt, reserveOf};
 ghost use Rattle.stream.specs.Steps.{advanced, settled, joined, discarded, arriveOf, tickOf};
 ghost use Rattle.stream.specs.Replies.{replyOf};
 
@@ -48,7 +48,7 @@ impl Stream {
         }
     }
 
-    // The same stream at another place.
+    // The same stream at a place, with so much left there.
     fn at(self, place: u8, left: u16) -> Stream
         ensures { λ r. ⌜ r ≡ atPlace self place left ⌝ }
     {
@@ -60,25 +60,32 @@ impl Stream {
         }
     }
 
-    // One place further, with all of P left.
+    // The same stream at a place, with all of P left there.
+    fn full_at(self, place: u8) -> Stream
+        ensures { λ r. ⌜ r ≡ fullAt self place ⌝ }
+    {
+        self.at(place, self.permitted)
+    }
+
+    // One place further.
     fn advanced(self) -> Stream
         requires { ⌜ self .place < lastPlace ⌝ }
         ensures { λ r. ⌜ r ≡ advanced self ⌝ }
     {
-        self.at(self.place + 1, self.permitted)
+        self.full_at(self.place + 1)
     }
 
     // One place further if nothing is left, unless the place is the last.
     fn settled(self) -> Stream
         ensures { λ r. ⌜ r ≡ settled lastPlace self ⌝ }
     {
-        if self.left == 0 {
-            if self.place < LAST {
-                return self.advanced();
-            }
+        if self.left != 0 {
             return self;
         }
-        self
+        if LAST <= self.place {
+            return self;
+        }
+        self.advanced()
     }
 
     // A frame that fits joins the queue at the place.
@@ -87,10 +94,11 @@ impl Stream {
         ensures { λ r. ⌜ r ≡ joined lastPlace self charge ⌝ }
     {
         let place = self.place;
-        Arrival::Joined(place, self.at(place, self.left - charge).settled())
+        let spent = self.at(place, self.left - charge);
+        Arrival::Joined(place, spent.settled())
     }
 
-    // A frame that does not fit at the place joins the queue at the one after it, and the stream stays there.
+    // A frame that does not fit at the place joins the queue at the one after it.
     fn joined_next(self, charge: u16) -> Arrival
         requires { ⌜ (self .place < lastPlace) × (charge ≤ self .permitted) ⌝ }
         ensures { λ r. ⌜ r ≡ joined lastPlace (advanced self) charge ⌝ }
@@ -105,19 +113,19 @@ impl Stream {
         Arrival::Discarded(self.at(LAST, 0))
     }
 
-    // The frame joins at the place, or, where more than left is asked, at the next, or is discarded: after one advance left is P, so that a
-    // frame which does not fit there fits nowhere.
+    // The frame joins at the place, or at the one after it, or is discarded. After one advance left is P, so a frame that fits neither
+    // at the place nor in P fits nowhere, and no further place has to be tried.
     pub fn arrive(self, charge: u16) -> Arrival
         ensures { λ r. ⌜ r ≡ arriveOf lastPlace self charge ⌝ }
     {
         if charge <= self.left {
             return self.joined(charge);
         }
-        if self.place < LAST {
-            if charge <= self.permitted {
-                return self.joined_next(charge);
-            }
+        if self.permitted < charge {
             return self.discarded();
+        }
+        if self.place < LAST {
+            return self.joined_next(charge);
         }
         self.discarded()
     }
@@ -127,7 +135,7 @@ impl Stream {
         ensures { λ r. ⌜ r ≡ tickOf self ⌝ }
     {
         if self.place <= CURRENT {
-            return self.at(CURRENT, self.permitted);
+            return self.full_at(CURRENT);
         }
         self.at(self.place - 1, self.left)
     }

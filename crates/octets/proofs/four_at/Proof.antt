@@ -1,34 +1,25 @@
-use native.Mathlib.Omega.{arith}
-use Prim.Native.Nat.{_+_, _*_}
+-- `octets::four_at` meets its contract. The lower two octets are read from the four (`get-get`). Assumes nothing.
+use Prim.Native.Nat.{_+_, _*_, ℕ}
 use mathlib.Core.Path.{_∙_, ap, ap₂, sym}
-use Prim.Native.Nat.{ℕ}
+use native.Mathlib.Omega.{arith}
+use borrow.Author.Needs.{needs}
 use Rattle.lists.proofs.WindowLaws.{get-get}
 use Rattle.octets.specs.Numbers.{twoOf, fourOf}
-use borrow.Author.Needs.{needs}
 use Rattle.octets.proofs.four_at.Statement.{statement}
 use Rattle.octets.proofs.four_at.Tie as tie
-use Rattle.octets.proofs.four_at.Reads as reads
-use Rattle.octets.proofs.four_at.Lts as lts
-use Rattle.octets.proofs.four.Reads as four-reads
-use Rattle.octets.proofs.two_at.Reads as two-at-reads
 
--- src/lib.rt:45:10
 two-at-requires : tie.Need-two-at-requires
 two-at-requires c κs = search needs
 
--- src/lib.rt:45:45
 add-two-at : tie.Need-add-two-at
 add-two-at c = search needs
 
--- src/lib.rt:45:30
 two-at-requires-2 : tie.Need-two-at-requires-2
 two-at-requires-2 c κs = search needs
 
--- src/lib.rt:45:5
 four-requires : tie.Need-four-requires
 four-requires c κs = search needs
 
--- src/lib.rt:41:1
 returns : tie.Need-returns
 unfolding fourOf
 returns c =

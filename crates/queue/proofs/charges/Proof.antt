@@ -1,19 +1,16 @@
-use mathlib.Core.Path.{ap₂, _∙_}
+-- `queue::charges` meets its contract. The loop's invariant: the sum is that of the frames passed, each at most 65,535. The measure is what is left of the count. Assumes nothing.
+use Prim.Native.Nat.{_+_, _-_, _*_, _≤_}
+use mathlib.Core.Path.{ap₂, _∙_, _≡_}
 use native.Mathlib.Numerals.{add-one}
 use native.Mathlib.Omega.{arith}
-use Rattle.lists.proofs.TurnLaws.{sumTo-list}
-use Rattle.queue.specs.Waiting.{waiting}
 use borrow.Author.Needs.{needs}
-use Prim.Native.Nat.{_+_, _-_, _*_, _≤_}
-use mathlib.Core.Path.{_≡_}
+use Rattle.lists.proofs.TurnLaws.{sumTo-list}
 use Rattle.lists.specs.Turns.{sumTo}
 use Rattle.queue.specs.Place.{frameAt}
 use Rattle.queue.specs.Ring.{memoryOctet}
+use Rattle.queue.specs.Waiting.{waiting}
 use Rattle.queue.proofs.charges.Statement.{statement}
 use Rattle.queue.proofs.charges.Tie as tie
-use Rattle.queue.proofs.charges.Reads as reads
-use Rattle.queue.proofs.charges.Lts as lts
-use Rattle.queue.proofs.charge_at.Reads as charge-at-reads
 
 abbrev Inv-loop : tie.InvT-loop
 Inv-loop memory number queue count sum₀ i₀ sum i = (i ≤ queue .count) × ((sum ≤ 65535 * i) × (sum ≡ sumTo (λ k. frameAt memory (memoryOctet number queue k) .charge) i))
@@ -21,39 +18,31 @@ Inv-loop memory number queue count sum₀ i₀ sum i = (i ≤ queue .count) × (
 abbrev μ-loop : tie.MeasureT-loop
 μ-loop memory number queue count sum₀ i₀ sum i = queue .count - i
 
--- src/lib.rt:119:5
 loop-holds : tie.Need-loop-holds Inv-loop μ-loop
 unfolding sumTo
 loop-holds c = search needs
 
--- src/lib.rt:120:16
 charge-at-requires : tie.Need-charge-at-requires Inv-loop μ-loop
 charge-at-requires c κs = search needs
 
--- src/lib.rt:120:16
 cast-sum : tie.Need-cast-sum Inv-loop μ-loop
 cast-sum c = search needs
 
--- src/lib.rt:120:9
 add-sum : tie.Need-add-sum Inv-loop μ-loop
 add-sum c = search needs
 
--- src/lib.rt:121:9
 add-i : tie.Need-add-i Inv-loop μ-loop
 add-i c = search needs
 
--- src/lib.rt:119:5
 loop-less : tie.Need-loop-less Inv-loop μ-loop
 loop-less c = search needs
 
--- src/lib.rt:119:5
 loop-again : tie.Need-loop-again Inv-loop μ-loop
 unfolding sumTo
 loop-again c =
     let l = c .before .before .loop in
     (omega arith, (omega (arith, l .inv), rw (add-one (l .i)) (ap₂ _+_ (l .inv .1 .1) (c .charge-at .ensures))))
 
--- src/lib.rt:112:1
 returns : tie.Need-returns Inv-loop μ-loop
 unfolding waiting
 returns c =

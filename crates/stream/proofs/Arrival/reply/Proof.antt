@@ -1,32 +1,25 @@
+-- `stream::Arrival::reply` meets its contract. Each arm computes the definition at its case. Assumes nothing.
 use mathlib.Core.Path.{ap, sym}
-use Rattle.stream.specs.Replies.{replyOf}
 use borrow.Author.Needs.{needs}
+use Rattle.stream.specs.Replies.{replyOf}
 use Rattle.stream.proofs.Arrival.reply.Statement.{statement}
 use Rattle.stream.proofs.Arrival.reply.Tie as tie
-use Rattle.stream.proofs.Arrival.reply.Reads as reads
-use Rattle.stream.proofs.Arrival.reply.Lts as lts
 
--- src/lib.rt:141:29
 enum-known-self : tie.Need-enum-known-self
 enum-known-self c = search needs
 
--- src/lib.rt:143:24
 cast-t5 : tie.Need-cast-t5
 cast-t5 c = search needs
 
--- src/lib.rt:144:25
 cast-t6 : tie.Need-cast-t6
 cast-t6 c = search needs
 
--- src/lib.rt:146:38
 enum-told : tie.Need-enum-told
 enum-told c = search needs
 
--- src/lib.rt:137:5
 returns : tie.Need-returns
 returns c = sym (ap replyOf (c .before .before .self .given .1))
 
--- src/lib.rt:137:5
 returns-2 : tie.Need-returns-2
 returns-2 c = sym (ap replyOf (c .enum-told .given .1))
 
