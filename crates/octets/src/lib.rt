@@ -18,7 +18,8 @@ pub fn two_at(octets: &[u8], at: usize) -> u16
     requires { ⌜ at + 2 ≤ length (now octets) ⌝ }
     ensures { λ r. ⌜ r ≡ twoOf (get (now (octets .entry)) at 2) ⌝ }
 {
-    two(octets[at], octets[at + 1])
+    let low_at = at + 1;
+    two(octets[at], octets[low_at])
 }
 
 // Writes the number into the two octets from `at` on.
@@ -42,7 +43,8 @@ pub fn four_at(octets: &[u8], at: usize) -> u32
     requires { ⌜ at + 4 ≤ length (now octets) ⌝ }
     ensures { λ r. ⌜ r ≡ fourOf (get (now (octets .entry)) at 4) ⌝ }
 {
-    four(two_at(octets, at), two_at(octets, at + 2))
+    let low_at = at + 2;
+    four(two_at(octets, at), two_at(octets, low_at))
 }
 
 // Writes the number into the four octets from `at` on.

@@ -8,11 +8,11 @@ use Rattle.octets.specs.Numbers.{twoOf, fourOf}
 use Rattle.octets.proofs.four_at.Statement.{statement}
 use Rattle.octets.proofs.four_at.Tie as tie
 
+add-low-at : tie.Need-add-low-at
+add-low-at c = search needs
+
 two-at-requires : tie.Need-two-at-requires
 two-at-requires c κs = search needs
-
-add-two-at : tie.Need-add-two-at
-add-two-at c = search needs
 
 two-at-requires-2 : tie.Need-two-at-requires-2
 two-at-requires-2 c κs = search needs
@@ -31,4 +31,4 @@ returns c =
 
 pub four-at-spec : {M : Type 1} → statement M
 four-at-spec =
-    tie.close (tie.spec two-at-requires add-two-at two-at-requires-2 four-requires returns)
+    tie.close (tie.spec add-low-at two-at-requires two-at-requires-2 four-requires returns)

@@ -4,11 +4,11 @@ use Rattle.octets.specs.Numbers.{twoOf}
 use Rattle.octets.proofs.two_at.Statement.{statement}
 use Rattle.octets.proofs.two_at.Tie as tie
 
+add-low-at : tie.Need-add-low-at
+add-low-at c = search needs
+
 shared-slice-read-two : tie.Need-shared-slice-read-two
 shared-slice-read-two c = search needs
-
-add-two : tie.Need-add-two
-add-two c = search needs
 
 shared-slice-read-two-2 : tie.Need-shared-slice-read-two-2
 shared-slice-read-two-2 c = search needs
@@ -22,4 +22,5 @@ returns c = c .two .ensures
 
 pub two-at-spec : {M : Type 1} → statement M
 two-at-spec =
-    tie.close (tie.spec shared-slice-read-two add-two shared-slice-read-two-2 two-requires returns)
+    tie.close
+    (tie.spec add-low-at shared-slice-read-two shared-slice-read-two-2 two-requires returns)
