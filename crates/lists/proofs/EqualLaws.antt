@@ -1,13 +1,12 @@
 -- Laws of `octetsEqual`: it is true of a list and itself, and of no two other lists. Assumes nothing.
-use Prim.Native.Nat.{ℕ, _<_}
-use mathlib.Core.Path.{_≡_, ap₂}
-use mathlib.Core.Bool.{Bool, true, _&&_}
+use Prim.Native.Nat.{ℕ}
+use mathlib.Core.Path.{_≡_, refl, ap₂}
+use mathlib.Core.Bool.{true, _&&_}
 use mathlib.Core.List.{List}
 use lib.ListN.{length, getD}
 use lib.Seq.{ext-getD}
 use lib.Dec.{eqb}
 use borrow.Author.Tests.{eqb-true, eq-eqb}
-use mathlib.Core.Path.{refl}
 use Rattle.lists.specs.Turns.{allTo}
 use Rattle.lists.specs.Equal.{octetsEqual}
 use Rattle.lists.proofs.TurnLaws.{both, allTo-at, allTo-all}

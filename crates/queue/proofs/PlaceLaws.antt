@@ -6,7 +6,7 @@ use native.Mathlib.Omega.{arith}
 use lib.ListN.{length}
 use borrow.Rule.Slice.PartMut.{midOf, putMid}
 use Rattle.lists.specs.Window.{put, get, Apart}
-use Rattle.lists.proofs.WindowLaws.{length-put, get-apart, get-put, get-get, put-append, put-mid, get-mid}
+use Rattle.lists.proofs.WindowLaws.{get-apart, get-put, get-get, put-append, put-mid, get-mid}
 use Rattle.octets.specs.Numbers.{twoOf, fourOf, twoOctets, fourOctets}
 use Rattle.octets.proofs.NumberLaws.{two-octets, four-octets}
 use Rattle.queue.specs.declared.Frame.{Frame}
@@ -54,11 +54,6 @@ frame-same l at f h = ap frameOf (get-put l at (octetsOf f) h) ∙ frame-octets 
 pub frame-apart : (l : List ℕ) (at : ℕ) (f : Frame) (to : ℕ) → Apart to placeLength at placeLength → frameAt (withFrame l at f) to ≡ frameAt l to
 unfolding frameAt withFrame
 frame-apart l at f to h = ap frameOf (get-apart l at (octetsOf f) to placeLength h)
-
--- writing keeps the length
-pub length-frame : (l : List ℕ) (at : ℕ) (f : Frame) → length (withFrame l at f) ≡ length l
-unfolding withFrame
-length-frame l at f = length-put l at (octetsOf f)
 
 module _ (from k : ℕ) (l : List ℕ) (at : ℕ) (within : at + placeLength ≤ k) where
   -- a frame in the part of k octets that starts at `from`, read and written, is one in the whole

@@ -1,20 +1,20 @@
 -- A queue is first in first out: a frame that joins is the last that waits, the frame that is sent is the first, and the other queues'
 -- frames stay as they are. Over a ring that wraps. Assumes nothing.
-use Prim.Native.Nat.{ℕ, zero, suc, _+_, _-_, _*_, _%_, _≤_, _<_}
-use mathlib.Core.Path.{_≡_, refl, sym, ap, ap₂, _∙_}
+use Prim.Native.Nat.{ℕ, suc, _+_, _-_, _*_, _≤_, _<_}
+use mathlib.Core.Path.{_≡_, refl, ap, ap₂, _∙_}
 use mathlib.Core.List.{List, [], _∷_, _++_}
 use native.Mathlib.Omega.{arith}
 use native.Mathlib.Numerals.{add-one}
 use lib.ListN.{length, getD}
 use Rattle.lists.specs.Window.{Apart}
 use Rattle.lists.specs.Turns.{listTo}
-use Rattle.lists.proofs.WindowLaws.{getD-put}
+use Rattle.lists.proofs.WindowLaws.{getD-put, length-put}
 use Rattle.lists.proofs.TurnLaws.{listTo-same, listTo-first, length-listTo}
 use Rattle.queue.specs.declared.Frame.{Frame}
 use Rattle.queue.specs.declared.Queue.{Queue}
 use Rattle.queue.specs.Place.{placeLength, octetsOf, frameAt, withFrame}
-use Rattle.queue.specs.Ring.{placeCount, partLength, octetOf, memoryOctet, joinedMemory, frontOf, joinedQueue, sentQueue, emptyQueue}
-use Rattle.queue.specs.Waiting.{waiting, chargesOf}
+use Rattle.queue.specs.Ring.{placeCount, partLength, memoryOctet, joinedMemory, frontOf, joinedQueue, sentQueue, emptyQueue}
+use Rattle.queue.specs.Waiting.{waiting}
 use Rattle.queue.proofs.PlaceLaws.{frame-same, frame-apart}
 
 -- an empty queue has no frame waiting
@@ -51,6 +51,11 @@ pub joins-only : (m : List ℕ) (number : ℕ) (q : Queue) (f : Frame) (k : ℕ)
     → getD (joinedMemory m number q f) k 0 ≡ getD m k 0
 unfolding joinedMemory withFrame
 joins-only m number q f k h = getD-put m (memoryOctet number q (q .count)) (octetsOf f) k h
+
+-- and the memory stays as long as it was
+pub joins-length : (m : List ℕ) (number : ℕ) (q : Queue) (f : Frame) → length (joinedMemory m number q f) ≡ length m
+unfolding joinedMemory withFrame
+joins-length m number q f = length-put m (memoryOctet number q (q .count)) (octetsOf f)
 
 -- a frame that joins another queue changes nothing in this one
 pub joins-elsewhere : (m : List ℕ) (number other : ℕ) (q r : Queue) (f : Frame) → (other ≡ number → ⊥)

@@ -10,7 +10,7 @@ abbrev pub placeCount : ℕ
 placeCount = 256
 
 abbrev pub partLength : ℕ
-partLength = 2048
+partLength = placeCount * placeLength
 
 -- where, in the queue's part, the place of its frame number i begins, counted from its oldest: place (start + i) modulo 256
 abbrev pub octetOf : Queue → ℕ → ℕ

@@ -1,6 +1,5 @@
 -- Document 01's cases of one stream, P = 200: C5 to C10, each as its events and their replies.
-use Prim.Native.Nat.{ℕ}
-use mathlib.Core.List.{List, [], _∷_, map}
+use mathlib.Core.List.{List, [], _∷_, _++_}
 use Rattle.stream.specs.declared.Reply.{Reply}
 use Rattle.stream.specs.State.{lastPlace, reserveOf}
 use Rattle.stream.specs.Replies.{granted, refusedBy}
@@ -11,6 +10,10 @@ pub record Case : Type 0 where
   pub events : List Event
   pub expected : List Reply
 
+-- the case that goes on where another ends
+abbrev pub goingOn : Case → List Event → List Reply → Case
+goingOn c es rs = record { events = c .events ++ es; expected = c .expected ++ rs }
+
 abbrev pub c5 : Case
 c5 = record { events = arrival 200 ∷ []; expected = granted 1 200 ∷ [] }
 
@@ -18,11 +21,7 @@ abbrev pub c6 : Case
 c6 = record { events = arrival 120 ∷ arrival 100 ∷ []; expected = granted 1 80 ∷ granted 2 100 ∷ [] }
 
 abbrev pub c7 : Case
-c7 =
-    record {
-      events = arrival 120 ∷ arrival 100 ∷ arrival 90 ∷ arrival 84 ∷ [];
-      expected = granted 1 80 ∷ granted 2 100 ∷ granted 2 10 ∷ granted 3 116 ∷ [];
-    }
+c7 = goingOn c6 (arrival 90 ∷ arrival 84 ∷ []) (granted 2 10 ∷ granted 3 116 ∷ [])
 
 abbrev pub c8 : Case
 c8 =
@@ -32,11 +31,7 @@ c8 =
     }
 
 abbrev pub c9 : Case
-c9 =
-    record {
-      events = arrival 200 ∷ arrival 200 ∷ arrival 200 ∷ arrival 84 ∷ tick ∷ arrival 84 ∷ [];
-      expected = granted 1 200 ∷ granted 2 200 ∷ granted 3 0 ∷ refusedBy 14 ∷ granted 3 116 ∷ [];
-    }
+c9 = goingOn c8 (tick ∷ arrival 84 ∷ []) (granted 3 116 ∷ [])
 
 abbrev pub c10 : Case
 c10 = record { events = arrival 201 ∷ arrival 84 ∷ []; expected = refusedBy 14 ∷ refusedBy 14 ∷ [] }

@@ -3,11 +3,11 @@ use Prim.Native.Nat.{ℕ, _≤_}
 use mathlib.Core.Bool.{true}
 use Rattle.stream.specs.declared.Stream.{Stream}
 
--- "a place (current, next or last)", by the numbers that the replies give them: 1 current, 2 next, 3 last. The rules below take the last
--- place as a parameter; this is the number that the code has.
+-- "a place (current, next or last)": each is the number that the replies give it, 1 current, 2 next, 3 last
 abbrev pub currentPlace : ℕ
 currentPlace = 1
 
+-- the last place of a port with four queues; the rules and their laws take the last place as a parameter
 abbrev pub lastPlace : ℕ
 lastPlace = 3
 

@@ -6,15 +6,17 @@ ghost use Rattle.stream.specs.State.{lastPlace, atPlace, fullAt, reserve
 ghost use Rattle.stream.specs.Steps.{advanced, settled, joined, discarded, arriveOf, tickOf};
 ghost use Rattle.stream.specs.Replies.{replyOf};
 
-// The places that have a name in the code: current is the first, and the last is that of a port with four queues.
+// The first place, current.
 const CURRENT: u8 = 1;
 
+// The last place of a port with four queues.
 const LAST: u8 = 3;
 
 // The refusal of a discarded frame.
 const DISCARD: u8 = 14;
 
-// One stream: whether it is reserved, its permitted octets per epoch (P), its place, and the octets still free there (left).
+// One stream: whether it is reserved, its permitted octets per epoch (P), its place, and the octets still free there (left). The methods
+// below neither read nor change whether it is reserved: that is for the port to ask.
 pub struct Stream {
     pub reserved: bool,
     pub permitted: u16,
