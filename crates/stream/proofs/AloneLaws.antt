@@ -1,6 +1,6 @@
 -- The stream by itself: lists of events one after the other, fitness along them, and the bound on what joins one queue. Assumes nothing.
 use Prim.Native.Nat.{ℕ, _+_, _-_, _≤_}
-use mathlib.Core.Path.{_≡_, refl, ap, _∙_}
+use mathlib.Core.Path.{_≡_, refl, ap}
 use mathlib.Core.List.{List, [], _∷_, _++_}
 use native.Mathlib.Omega.{arith}
 use Rattle.stream.specs.declared.Stream.{Stream}

@@ -1,19 +1,17 @@
 -- Where an arriving frame joins, and what is left: the rule without its recursion. After one advance left is P, so a frame joins at the
 -- place, or at the one after it, or nowhere. Assumes nothing.
 use Prim.Native.Nat.{ℕ, zero, suc, _+_, _-_, _≤_, _<_}
-use mathlib.Core.Path.{_≡_, refl, _∙_, ap, sym, subst}
-use mathlib.Core.Bool.{cond}
+use mathlib.Core.Path.{_≡_, _∙_, ap, sym, subst}
 use mathlib.Core.Logic.{⊎-elim}
 use native.Mathlib.Omega.{arith}
 use native.Mathlib.Nat.{eq-or-lt-of-le}
-use lib.Dec.{leb, ltb, eqb}
 use borrow.Author.Tests.{le-leb, lt-leb, lt-ltb, le-ltb, eq-eqb, ne-eqb}
 use Rattle.stream.specs.declared.Stream.{Stream}
 use Rattle.stream.specs.declared.Arrival.{Arrival}
-use Rattle.stream.specs.declared.Arrival.the-variants.{Joined, Discarded}
+use Rattle.stream.specs.declared.Arrival.the-variants.{Joined}
 use Rattle.lists.proofs.Order.{le-or-lt}
 use Rattle.stream.specs.State.{atPlace}
-use Rattle.stream.specs.Steps.{advanced, settled, joined, discarded, attempt, arriveOf}
+use Rattle.stream.specs.Steps.{advanced, joined, discarded, attempt, arriveOf}
 
 module _ (last : ℕ) (s : Stream) (a : ℕ) where
   -- a frame that fits joins at the place

@@ -2,7 +2,7 @@
 use mathlib.Core.Path.{_≡_, refl}
 use mathlib.Core.List.{map}
 use Rattle.stream.specs.Steps.{attempt, arriveOf, tickOf}
-use Rattle.stream.specs.Cases.{Case, cases, told}
+use Rattle.stream.specs.Cases.{cases, told}
 
 pub cases-hold : map told cases ≡ map (λ c. c .expected) cases
 unfolding attempt arriveOf tickOf

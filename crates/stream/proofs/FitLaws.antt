@@ -1,5 +1,5 @@
 -- A fit stream stays fit, its P stays, and its place falls at a tick only. Assumes nothing.
-use Prim.Native.Nat.{ℕ, _+_, _-_, _≤_, _<_}
+use Prim.Native.Nat.{ℕ, _≤_}
 use mathlib.Core.Path.{_≡_, refl}
 use native.Mathlib.Omega.{arith}
 use Rattle.lists.proofs.TurnLaws.{iterate-keeps}
@@ -14,29 +14,29 @@ use Rattle.stream.proofs.TickLaws.{tick-cases, ticked}
 
 -- a stream is fit as its reservation leaves it
 pub fit-reserve : (last permitted : ℕ) → currentPlace ≤ last → Fit last (reserveOf permitted)
-fit-reserve last permitted h = record { first-place = omega arith; last-place = h; left-within = omega arith }
+fit-reserve last permitted h = omega arith
 
 fit-joined : (last : ℕ) (s : Stream) (a : ℕ) → Fit last s → a ≤ s .left → Fit last (streamOf (joined last s a))
 fit-joined last s a f h =
     joined-cases last s a (λ r. Fit last (streamOf r)) h
-    (λ l. record { first-place = f .first-place; last-place = f .last-place; left-within = omega arith })
-    (λ e p. record { first-place = omega arith; last-place = omega arith; left-within = omega arith })
-    (λ e p. record { first-place = f .first-place; last-place = f .last-place; left-within = omega arith })
+    (λ l. omega arith)
+    (λ e p. omega arith)
+    (λ e p. omega arith)
 
 -- an arrival keeps a stream fit
 pub fit-arrive : (last : ℕ) (s : Stream) (a : ℕ) → Fit last s → Fit last (streamOf (arriveOf last s a))
 fit-arrive last s a f =
     arrive-cases last s a (λ r. Fit last (streamOf r))
     (λ h. fit-joined last s a f h)
-    (λ h p q. fit-joined last (advanced s) a (record { first-place = omega arith; last-place = omega arith; left-within = omega arith }) q)
-    (λ h. record { first-place = omega arith; last-place = omega arith; left-within = omega arith })
+    (λ h p q. fit-joined last (advanced s) a (omega arith) q)
+    (λ h. omega arith)
 
 -- and so does a tick
 pub fit-tick : (last : ℕ) (s : Stream) → Fit last s → Fit last (tickOf s)
 fit-tick last s f =
     tick-cases s (λ t. Fit last t)
-    (λ h. record { first-place = omega arith; last-place = omega arith; left-within = omega arith })
-    (λ h. record { first-place = omega arith; last-place = omega arith; left-within = f .left-within })
+    (λ h. omega arith)
+    (λ h. omega arith)
 
 -- and so do ticks with no frame between them
 pub fit-ticked : (last n : ℕ) (s : Stream) → Fit last s → Fit last (ticked n s)
@@ -69,13 +69,13 @@ pub record Onward (last place : ℕ) (r : Arrival) : Type 0 where
 onward-joined : (last place : ℕ) (s : Stream) (a : ℕ) → place ≤ s .place → a ≤ s .left → Onward last place (joined last s a)
 onward-joined last place s a p h =
     joined-cases last s a (λ r. Onward last place r) h
-    (λ l. record { joins-onward = p; stays-onward = omega arith })
-    (λ e q. record { joins-onward = p; stays-onward = omega arith })
-    (λ e q. record { joins-onward = p; stays-onward = omega arith })
+    (λ l. omega arith)
+    (λ e q. omega arith)
+    (λ e q. omega arith)
 
 pub place-arrive : (last : ℕ) (s : Stream) (a : ℕ) → s .place ≤ last → Onward last (s .place) (arriveOf last s a)
 place-arrive last s a f =
     arrive-cases last s a (λ r. Onward last (s .place) r)
     (λ h. onward-joined last (s .place) s a (omega arith) h)
     (λ h p q. onward-joined last (s .place) (advanced s) a (omega arith) q)
-    (λ h. record { joins-onward = f; stays-onward = omega arith })
+    (λ h. omega arith)

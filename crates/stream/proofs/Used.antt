@@ -1,6 +1,6 @@
 -- How much a stream can have brought so far into the queue at a place, as its record shows it: the bound behind "what joins one queue is
 -- at most P". Assumes nothing.
-use Prim.Native.Nat.{ℕ, zero, _+_, _-_, _≤_, _<_}
+use Prim.Native.Nat.{ℕ, _+_, _-_, _≤_, _<_}
 use mathlib.Core.Path.{_≡_, refl}
 use mathlib.Core.Bool.{cond}
 use mathlib.Core.Logic.{⊎-elim}
@@ -10,9 +10,8 @@ use lib.Dec.{ltb, eqb}
 use borrow.Author.Tests.{lt-ltb, le-ltb, eq-eqb, ne-eqb}
 use Rattle.lists.proofs.Order.{le-or-lt}
 use Rattle.stream.specs.declared.Stream.{Stream}
-use Rattle.stream.specs.declared.Arrival.{Arrival}
 use Rattle.stream.specs.State.{currentPlace, atPlace, fullAt, Fit}
-use Rattle.stream.specs.Steps.{advanced, joined, discarded, arriveOf, tickOf}
+use Rattle.stream.specs.Steps.{advanced, joined, arriveOf, tickOf}
 use Rattle.stream.specs.Replies.{streamOf}
 use Rattle.stream.specs.Alone.{octetsAt}
 use Rattle.stream.proofs.ArriveLaws.{arrive-cases, joined-cases}
