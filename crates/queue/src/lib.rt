@@ -103,9 +103,9 @@ pub fn front_at(memory: &[u8], number: u8, queue: Queue) -> Frame
     requires { ⌜ number * partLength + partLength ≤ length (now memory) ⌝ }
     ensures { λ r. ⌜ r ≡ frontOf (now (memory .entry)) number queue ⌝ }
 {
-    let from = part_start(number);
-    let to = from + PART_LENGTH;
-    front(&memory[from..to], queue)
+    let begin = part_start(number);
+    let end = begin + PART_LENGTH;
+    front(&memory[begin..end], queue)
 }
 
 // The charge of the frame number i, counted from the oldest, of the queue of this number in the whole memory.

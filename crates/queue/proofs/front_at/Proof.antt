@@ -12,8 +12,8 @@ use Rattle.queue.proofs.front_at.Tie as tie
 part-start-requires : tie.Need-part-start-requires
 part-start-requires c κs = search needs
 
-add-to : tie.Need-add-to
-add-to c = search needs
+add-end : tie.Need-add-end
+add-end c = search needs
 
 sub-front : tie.Need-sub-front
 sub-front c = search needs
@@ -41,7 +41,7 @@ front-at-spec =
     tie.close
     (tie.spec
     part-start-requires
-    add-to
+    add-end
     sub-front
     part-front-start
     part-front-end
