@@ -27,8 +27,9 @@ pub fn put_two(octets: &mut [u8], at: usize, number: u16)
     requires { ⌜ at + 2 ≤ length (now octets) ⌝ }
     ensures { λ _. ⌜ now (octets .exit) ≡ put (now (octets .entry)) at (twoOctets number) ⌝ }
 {
+    let low_at = at + 1;
     octets[at] = (number / 256) as u8;
-    octets[at + 1] = (number % 256) as u8;
+    octets[low_at] = (number % 256) as u8;
 }
 
 // The number of four octets, of which each argument has two.
@@ -52,6 +53,7 @@ pub fn put_four(octets: &mut [u8], at: usize, number: u32)
     requires { ⌜ at + 4 ≤ length (now octets) ⌝ }
     ensures { λ _. ⌜ now (octets .exit) ≡ put (now (octets .entry)) at (fourOctets number) ⌝ }
 {
+    let low_at = at + 2;
     put_two(octets, at, (number / 65536) as u16);
-    put_two(octets, at + 2, (number % 65536) as u16);
+    put_two(octets, low_at, (number % 65536) as u16);
 }

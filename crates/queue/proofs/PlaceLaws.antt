@@ -34,10 +34,12 @@ same-fields f g a b c =
 
 -- field after field written is the frame written
 pub fields-written : (l : List ℕ) (at : ℕ) (f : Frame)
-    → put (put (put l at (twoOctets (f .stream))) (at + 2) (twoOctets (f .charge))) (at + 2 + 2) (fourOctets (f .tag)) ≡ withFrame l at f
+    → put (put (put l at (twoOctets (f .stream))) (at + 2) (twoOctets (f .charge))) (at + 4) (fourOctets (f .tag)) ≡ withFrame l at f
 unfolding withFrame
 fields-written l at f =
-    sym
+    let both = put (put l at (twoOctets (f .stream))) (at + 2) (twoOctets (f .charge)) in
+    ap (λ (i : ℕ). put both i (fourOctets (f .tag))) (omega arith)
+    ∙ sym
     (put-append l at (twoOctets (f .stream)) (twoOctets (f .charge) ++ fourOctets (f .tag))
     ∙ put-append (put l at (twoOctets (f .stream))) (at + 2) (twoOctets (f .charge)) (fourOctets (f .tag)))
 

@@ -8,36 +8,38 @@ ghost use Rattle.queue.specs.Place.{placeLength, frameAt, withFrame};
 // The octets of a place.
 pub(crate) const LENGTH: usize = 8;
 
-// The frame whose place begins at `at`.
-pub(crate) fn read(octets: &[u8], at: usize) -> Frame
-    requires { ⌜ at + placeLength ≤ length (now octets) ⌝ }
-    ensures { λ r. ⌜ r ≡ frameAt (now (octets .entry)) at ⌝ }
+// Where, in a place, the charge begins; the stream stands before it.
+const CHARGE: usize = 2;
+
+// Where, in a place, the tag begins.
+const TAG: usize = 4;
+
+// The charge of the frame whose place begins at `at`.
+pub(crate) fn charge(memory: &[u8], at: usize) -> u16
+    requires { ⌜ at + placeLength ≤ length (now memory) ⌝ }
+    ensures { λ r. ⌜ r ≡ frameAt (now (memory .entry)) at .charge ⌝ }
 {
-    let charge_at = at + 2;
-    let tag_at = at + 4;
+    octets::two_at(memory, at + CHARGE)
+}
+
+// The frame whose place begins at `at`.
+pub(crate) fn read(memory: &[u8], at: usize) -> Frame
+    requires { ⌜ at + placeLength ≤ length (now memory) ⌝ }
+    ensures { λ r. ⌜ r ≡ frameAt (now (memory .entry)) at ⌝ }
+{
     Frame {
-        stream: octets::two_at(octets, at),
-        charge: octets::two_at(octets, charge_at),
-        tag: octets::four_at(octets, tag_at),
+        stream: octets::two_at(memory, at),
+        charge: charge(memory, at),
+        tag: octets::four_at(memory, at + TAG),
     }
 }
 
-// The charge of the frame whose place begins at `at`.
-pub(crate) fn charge(octets: &[u8], at: usize) -> u16
-    requires { ⌜ at + placeLength ≤ length (now octets) ⌝ }
-    ensures { λ r. ⌜ r ≡ frameAt (now (octets .entry)) at .charge ⌝ }
-{
-    octets::two_at(octets, at + 2)
-}
-
 // Writes the frame into the place that begins at `at`.
-pub(crate) fn write(octets: &mut [u8], at: usize, frame: Frame)
-    requires { ⌜ at + placeLength ≤ length (now octets) ⌝ }
-    ensures { λ _. ⌜ now (octets .exit) ≡ withFrame (now (octets .entry)) at frame ⌝ }
+pub(crate) fn write(memory: &mut [u8], at: usize, frame: Frame)
+    requires { ⌜ at + placeLength ≤ length (now memory) ⌝ }
+    ensures { λ _. ⌜ now (memory .exit) ≡ withFrame (now (memory .entry)) at frame ⌝ }
 {
-    octets::put_two(octets, at, frame.stream);
-    let charge_at = at + 2;
-    octets::put_two(octets, charge_at, frame.charge);
-    let tag_at = charge_at + 2;
-    octets::put_four(octets, tag_at, frame.tag);
+    octets::put_two(memory, at, frame.stream);
+    octets::put_two(memory, at + CHARGE, frame.charge);
+    octets::put_four(memory, at + TAG, frame.tag);
 }

@@ -9,14 +9,14 @@ use Rattle.octets.specs.Numbers.{twoOctets}
 use Rattle.octets.proofs.put_four.Statement.{statement}
 use Rattle.octets.proofs.put_four.Tie as tie
 
+add-low-at : tie.Need-add-low-at
+add-low-at c = search needs
+
 cast-put-two : tie.Need-cast-put-two
 cast-put-two c = search needs
 
 put-two-requires : tie.Need-put-two-requires
 put-two-requires c κs = search needs
-
-add-put-two : tie.Need-add-put-two
-add-put-two c = search needs
 
 cast-put-two-2 : tie.Need-cast-put-two-2
 cast-put-two-2 c = search needs
@@ -38,9 +38,9 @@ pub put-four-spec : {M : Type 1} → statement M
 put-four-spec =
     tie.close
     (tie.spec
+    add-low-at
     cast-put-two
     put-two-requires
-    add-put-two
     cast-put-two-2
     put-two-requires-2
     same-length

@@ -12,7 +12,7 @@ two-at-requires : tie.Need-two-at-requires
 two-at-requires c κs = search needs
 
 returns : tie.Need-returns
-returns c = c .two-at .ensures ∙ sym (charge-at (c .before .before .args .octets .now) (c .before .before .args .at))
+returns c = c .two-at .ensures ∙ sym (charge-at (c .before .before .args .memory .now) (c .before .before .args .at))
 
 pub charge-spec : {M : Type 1} → statement M
 charge-spec = tie.close (tie.spec add-two-at two-at-requires returns)

@@ -12,14 +12,14 @@ use Rattle.queue.proofs.place.write.Tie as tie
 put-two-requires : tie.Need-put-two-requires
 put-two-requires c κs = search needs
 
-add-charge-at : tie.Need-add-charge-at
-add-charge-at c = search needs
+add-put-two : tie.Need-add-put-two
+add-put-two c = search needs
 
 put-two-requires-2 : tie.Need-put-two-requires-2
 put-two-requires-2 c κs = search needs
 
-add-tag-at : tie.Need-add-tag-at
-add-tag-at c = search needs
+add-put-four : tie.Need-add-put-four
+add-put-four c = search needs
 
 put-four-requires : tie.Need-put-four-requires
 put-four-requires c κs = search needs
@@ -31,18 +31,18 @@ returns : tie.Need-returns
 returns c =
     let a = c .before .before .before .before .before .before .before .before .before .before .before .before .before .args in
     c .before .before .put-four .ensures
-    ∙ ap (λ (l : List ℕ). put l (a .at + 2 + 2) (fourOctets (a .frame .tag)))
+    ∙ ap (λ (l : List ℕ). put l (a .at + 4) (fourOctets (a .frame .tag)))
     (c .before .before .before .before .before .before .put-two2 .ensures ∙ ap (λ (l : List ℕ). put l (a .at + 2) (twoOctets (a .frame .charge))) (c .before .before .before .before .before .before .before .before .before .before .put-two .ensures))
-    ∙ fields-written (a .octets .now) (a .at) (a .frame)
+    ∙ fields-written (a .memory .now) (a .at) (a .frame)
 
 pub write-spec : {M : Type 1} → statement M
 write-spec =
     tie.close
     (tie.spec
     put-two-requires
-    add-charge-at
+    add-put-two
     put-two-requires-2
-    add-tag-at
+    add-put-four
     put-four-requires
     same-length
     returns)
