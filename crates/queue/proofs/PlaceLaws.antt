@@ -10,7 +10,7 @@ use Rattle.lists.proofs.WindowLaws.{get-apart, get-put, get-get, put-append, pu
 use Rattle.octets.specs.Numbers.{twoOf, fourOf, twoOctets, fourOctets}
 use Rattle.octets.proofs.NumberLaws.{two-octets, four-octets}
 use Rattle.queue.specs.declared.Frame.{Frame}
-use Rattle.queue.specs.Place.{placeLength, octetsOf, frameOf, frameAt, withFrame}
+use Rattle.queue.specs.Place.{placeLength, frameOctets, frameOf, frameAt, withFrame}
 
 module _ (l : List ℕ) (at : ℕ) where
   -- the fields of the frame at an octet
@@ -44,18 +44,18 @@ fields-written l at f =
     ∙ put-append (put l at (twoOctets (f .stream))) (at + 2) (twoOctets (f .charge)) (fourOctets (f .tag)))
 
 -- a frame's octets give the frame again
-frame-octets : (f : Frame) → frameOf (octetsOf f) ≡ f
+frame-octets : (f : Frame) → frameOf (frameOctets f) ≡ f
 frame-octets f = rw (two-octets (f .stream), two-octets (f .charge), four-octets (f .tag))
 
 -- a frame is read where it was written
 pub frame-same : (l : List ℕ) (at : ℕ) (f : Frame) → at + placeLength ≤ length l → frameAt (withFrame l at f) at ≡ f
 unfolding frameAt withFrame
-frame-same l at f h = ap frameOf (get-put l at (octetsOf f) h) ∙ frame-octets f
+frame-same l at f h = ap frameOf (get-put l at (frameOctets f) h) ∙ frame-octets f
 
 -- and a place apart from it has the frame that it had
 pub frame-apart : (l : List ℕ) (at : ℕ) (f : Frame) (to : ℕ) → Apart to placeLength at placeLength → frameAt (withFrame l at f) to ≡ frameAt l to
 unfolding frameAt withFrame
-frame-apart l at f to h = ap frameOf (get-apart l at (octetsOf f) to placeLength h)
+frame-apart l at f to h = ap frameOf (get-apart l at (frameOctets f) to placeLength h)
 
 module _ (from k : ℕ) (l : List ℕ) (at : ℕ) (within : at + placeLength ≤ k) where
   -- a frame in the part of k octets that starts at `from`, read and written, is one in the whole
@@ -65,4 +65,4 @@ module _ (from k : ℕ) (l : List ℕ) (at : ℕ) (within : at + placeLength ≤
 
   pub frame-put-mid : (f : Frame) → putMid from k l (withFrame (midOf from k l) at f) ≡ withFrame l (from + at) f
   unfolding withFrame
-  frame-put-mid f = put-mid from k (octetsOf f) l at within
+  frame-put-mid f = put-mid from k (frameOctets f) l at within

@@ -9,12 +9,12 @@ use lib.ListN.{length, getD}
 use Rattle.lists.specs.Window.{Apart}
 use Rattle.lists.specs.Turns.{listTo}
 use Rattle.lists.proofs.WindowLaws.{getD-put, length-put}
-use Rattle.lists.proofs.TurnLaws.{listTo-same, listTo-first, length-listTo}
+use Rattle.lists.proofs.TurnLaws.{listTo-same, listTo-first, length-listTo, sumOf-snoc}
 use Rattle.queue.specs.declared.Frame.{Frame}
 use Rattle.queue.specs.declared.Queue.{Queue}
-use Rattle.queue.specs.Place.{placeLength, octetsOf, frameAt, withFrame}
+use Rattle.queue.specs.Place.{placeLength, frameOctets, frameAt, withFrame}
 use Rattle.queue.specs.Ring.{placeCount, partLength, memoryOctet, joinedMemory, frontOf, joinedQueue, sentQueue, emptyQueue}
-use Rattle.queue.specs.Waiting.{waiting}
+use Rattle.queue.specs.Waiting.{waiting, chargesOf}
 use Rattle.queue.proofs.PlaceLaws.{frame-same, frame-apart}
 
 -- an empty queue has no frame waiting
@@ -46,16 +46,25 @@ sends m number q h =
     ∙ listTo-first (λ i. frameAt m (memoryOctet number q i)) (q .count - 1)
     ∙ ap (λ (fs : List Frame). frameAt m (memoryOctet number q 0) ∷ fs) (listTo-same _ _ (q .count - 1) (λ i b. ap (frameAt m) (omega arith)))
 
+-- so the sum of the waiting charges rises by the charge of a frame that joins, and falls by that of the frame that is sent
+pub joins-charges : (m : List ℕ) (number : ℕ) (q : Queue) (f : Frame) → q .count < placeCount → number * partLength + partLength ≤ length m
+    → chargesOf (waiting (joinedMemory m number q f) number (joinedQueue q)) ≡ chargesOf (waiting m number q) + f .charge
+joins-charges m number q f h room = ap chargesOf (joins m number q f h room) ∙ sumOf-snoc (λ g. g .charge) (waiting m number q) f
+
+pub sends-charges : (m : List ℕ) (number : ℕ) (q : Queue) → 0 < q .count
+    → chargesOf (waiting m number q) ≡ frontOf m number q .charge + chargesOf (waiting m number (sentQueue q))
+sends-charges m number q h = ap chargesOf (sends m number q h)
+
 -- no octet changes but the eight of the place that the frame joins
 pub joins-only : (m : List ℕ) (number : ℕ) (q : Queue) (f : Frame) (k : ℕ) → Apart k 1 (memoryOctet number q (q .count)) placeLength
     → getD (joinedMemory m number q f) k 0 ≡ getD m k 0
 unfolding joinedMemory withFrame
-joins-only m number q f k h = getD-put m (memoryOctet number q (q .count)) (octetsOf f) k h
+joins-only m number q f k h = getD-put m (memoryOctet number q (q .count)) (frameOctets f) k h
 
 -- and the memory stays as long as it was
 pub joins-length : (m : List ℕ) (number : ℕ) (q : Queue) (f : Frame) → length (joinedMemory m number q f) ≡ length m
 unfolding joinedMemory withFrame
-joins-length m number q f = length-put m (memoryOctet number q (q .count)) (octetsOf f)
+joins-length m number q f = length-put m (memoryOctet number q (q .count)) (frameOctets f)
 
 -- a frame that joins another queue changes nothing in this one
 pub joins-elsewhere : (m : List ℕ) (number other : ℕ) (q r : Queue) (f : Frame) → (other ≡ number → ⊥)

@@ -11,8 +11,8 @@ abbrev pub placeLength : ℕ
 placeLength = 8
 
 -- the octets of a frame, and the frame of so many octets
-abbrev pub octetsOf : Frame → List ℕ
-octetsOf f = twoOctets (f .stream) ++ (twoOctets (f .charge) ++ fourOctets (f .tag))
+abbrev pub frameOctets : Frame → List ℕ
+frameOctets f = twoOctets (f .stream) ++ (twoOctets (f .charge) ++ fourOctets (f .tag))
 
 abbrev pub frameOf : List ℕ → Frame
 frameOf o = record { stream = twoOf (get o 0 2); charge = twoOf (get o 2 2); tag = fourOf (get o 4 4) }
@@ -22,4 +22,4 @@ unfoldable pub frameAt : List ℕ → ℕ → Frame
 frameAt l at = frameOf (get l at placeLength)
 
 unfoldable pub withFrame : List ℕ → ℕ → Frame → List ℕ
-withFrame l at f = put l at (octetsOf f)
+withFrame l at f = put l at (frameOctets f)

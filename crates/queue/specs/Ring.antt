@@ -13,12 +13,12 @@ abbrev pub partLength : ℕ
 partLength = placeCount * placeLength
 
 -- where, in the queue's part, the place of its frame number i begins, counted from its oldest: place (start + i) modulo 256
-abbrev pub octetOf : Queue → ℕ → ℕ
-octetOf q i = (q .start + i) % placeCount * placeLength
+abbrev pub placeOctet : Queue → ℕ → ℕ
+placeOctet q i = (q .start + i) % placeCount * placeLength
 
 -- the same in the whole memory, for the queue of this number
 abbrev pub memoryOctet : ℕ → Queue → ℕ → ℕ
-memoryOctet number q i = number * partLength + octetOf q i
+memoryOctet number q i = number * partLength + placeOctet q i
 
 -- "A frame joins at place (start + count) modulo 256 of its queue": the whole memory afterwards
 unfoldable pub joinedMemory : List ℕ → ℕ → Queue → Frame → List ℕ

@@ -6,7 +6,7 @@ ghost use mathlib.Core.Path.{_≡_};
 ghost use Prim.Native.Nat.{_+_, _*_, _≤_, _<_};
 ghost use lib.ListN.{length};
 ghost use Rattle.queue.specs.Place.{frameAt, withFrame};
-ghost use Rattle.queue.specs.Ring.{placeCount, partLength, octetOf, memoryOctet, joinedMemory, frontOf, joinedQueue, sentQueue, emptyQueue};
+ghost use Rattle.queue.specs.Ring.{placeCount, partLength, placeOctet, memoryOctet, joinedMemory, frontOf, joinedQueue, sentQueue, emptyQueue};
 ghost use Rattle.queue.specs.Waiting.{waiting, chargesOf};
 
 // The places of a queue, and the octets of its part of the memory.
@@ -59,7 +59,7 @@ impl Queue {
 
     // Where, in the queue's part, the place of its frame number i begins, counted from its oldest.
     fn octet(self, i: u16) -> usize
-        ensures { λ r. ⌜ r ≡ octetOf self i ⌝ }
+        ensures { λ r. ⌜ r ≡ placeOctet self i ⌝ }
     {
         (self.start as usize + i as usize) % PLACE_COUNT * place::LENGTH
     }
@@ -75,7 +75,7 @@ fn part_start(number: u8) -> usize
 // The frame joins the queue whose part this is: it is written after the last that waits.
 pub fn join(part: &mut [u8], queue: Queue, frame: Frame)
     requires { ⌜ partLength ≤ length (now part) ⌝ }
-    ensures { λ _. ⌜ now (part .exit) ≡ withFrame (now (part .entry)) (octetOf queue (queue .count)) frame ⌝ }
+    ensures { λ _. ⌜ now (part .exit) ≡ withFrame (now (part .entry)) (placeOctet queue (queue .count)) frame ⌝ }
 {
     place::write(part, queue.octet(queue.count), frame);
 }
@@ -93,7 +93,7 @@ pub fn join_at(memory: &mut [u8], number: u8, queue: Queue, frame: Frame)
 // The oldest frame of the queue whose part this is.
 pub fn front(part: &[u8], queue: Queue) -> Frame
     requires { ⌜ partLength ≤ length (now part) ⌝ }
-    ensures { λ r. ⌜ r ≡ frameAt (now (part .entry)) (octetOf queue 0) ⌝ }
+    ensures { λ r. ⌜ r ≡ frameAt (now (part .entry)) (placeOctet queue 0) ⌝ }
 {
     place::read(part, queue.octet(0))
 }
