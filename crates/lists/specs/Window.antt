@@ -1,5 +1,4 @@
--- Octets read and written at an index of a longer list, as the port record and the frame memory are. Both step by `i + 1`, as code does
--- that writes one octet after the other.
+-- Octets read and written at an index of a longer list. Both step by `i + 1`, as code does that writes one octet after the other.
 use Prim.Native.Nat.{ℕ, zero, suc, _+_, _≤_, _<_}
 use mathlib.Core.List.{List, [], _∷_}
 use lib.ListN.{getD, set}
@@ -14,6 +13,6 @@ abbrev pub get : List ℕ → ℕ → ℕ → List ℕ
 get l i zero = []
 get l i (suc n) = getD l i 0 ∷ get l (i + 1) n
 
--- the n places from i on and the m places from j on have no place in common
+-- the n indices from i on and the m indices from j on have none in common
 abbrev pub Apart : ℕ → ℕ → ℕ → ℕ → Type 0
 Apart i n j m = (k : ℕ) → i ≤ k → k < i + n → j ≤ k → k < j + m → ⊥

@@ -10,21 +10,21 @@ use Rattle.lists.proofs.WindowLaws.{get-apart, get-put, get-get, put-append, pu
 use Rattle.octets.specs.Numbers.{twoOf, fourOf, twoOctets, fourOctets}
 use Rattle.octets.proofs.NumberLaws.{two-octets, four-octets}
 use Rattle.queue.specs.declared.Frame.{Frame}
-use Rattle.queue.specs.Place.{placeLength, frameOctets, frameOf, frameAt, withFrame}
+use Rattle.queue.specs.Place.{placeLength, chargeOffset, tagOffset, frameOctets, frameOf, frameAt, withFrame}
 
 module _ (l : List ℕ) (at : ℕ) where
-  -- the fields of the frame at an octet
+  -- the fields of the frame at an index
   pub stream-at : frameAt l at .stream ≡ twoOf (get l at 2)
   unfolding frameAt
   stream-at = refl
 
-  pub charge-at : frameAt l at .charge ≡ twoOf (get l (at + 2) 2)
+  pub charge-at : frameAt l at .charge ≡ twoOf (get l (at + chargeOffset) 2)
   unfolding frameAt
-  charge-at = ap twoOf (get-get l at placeLength 2 2 (omega arith))
+  charge-at = ap twoOf (get-get l at placeLength chargeOffset 2 (omega arith))
 
-  pub tag-at : frameAt l at .tag ≡ fourOf (get l (at + 4) 4)
+  pub tag-at : frameAt l at .tag ≡ fourOf (get l (at + tagOffset) 4)
   unfolding frameAt
-  tag-at = ap fourOf (get-get l at placeLength 4 4 (omega arith))
+  tag-at = ap fourOf (get-get l at placeLength tagOffset 4 (omega arith))
 
 -- frames with the same fields are the same
 pub same-fields : (f g : Frame) → f .stream ≡ g .stream → f .charge ≡ g .charge → f .tag ≡ g .tag → f ≡ g
@@ -34,14 +34,14 @@ same-fields f g a b c =
 
 -- field after field written is the frame written
 pub fields-written : (l : List ℕ) (at : ℕ) (f : Frame)
-    → put (put (put l at (twoOctets (f .stream))) (at + 2) (twoOctets (f .charge))) (at + 4) (fourOctets (f .tag)) ≡ withFrame l at f
+    → put (put (put l at (twoOctets (f .stream))) (at + chargeOffset) (twoOctets (f .charge))) (at + tagOffset) (fourOctets (f .tag)) ≡ withFrame l at f
 unfolding withFrame
 fields-written l at f =
-    let both = put (put l at (twoOctets (f .stream))) (at + 2) (twoOctets (f .charge)) in
+    let both = put (put l at (twoOctets (f .stream))) (at + chargeOffset) (twoOctets (f .charge)) in
     ap (λ (i : ℕ). put both i (fourOctets (f .tag))) (omega arith)
     ∙ sym
     (put-append l at (twoOctets (f .stream)) (twoOctets (f .charge) ++ fourOctets (f .tag))
-    ∙ put-append (put l at (twoOctets (f .stream))) (at + 2) (twoOctets (f .charge)) (fourOctets (f .tag)))
+    ∙ put-append (put l at (twoOctets (f .stream))) (at + chargeOffset) (twoOctets (f .charge)) (fourOctets (f .tag)))
 
 -- a frame's octets give the frame again
 frame-octets : (f : Frame) → frameOf (frameOctets f) ≡ f

@@ -6,7 +6,7 @@ ghost use mathlib.Core.Path.{_≡_};
 ghost use Prim.Native.Nat.{_+_, _*_, _≤_, _<_};
 ghost use lib.ListN.{length};
 ghost use Rattle.queue.specs.Place.{frameAt, withFrame};
-ghost use Rattle.queue.specs.Ring.{placeCount, partLength, placeOctet, memoryOctet, joinedMemory, frontOf, joinedQueue, sentQueue, emptyQueue};
+ghost use Rattle.queue.specs.Ring.{placeCount, partLength, HasPart, placeOffset, memoryOffset, joinedMemory, frontOf, joinedQueue, sentQueue, emptyQueue};
 ghost use Rattle.queue.specs.Waiting.{waiting, chargesOf};
 
 // The places of a queue, and the octets of its part of the memory.
@@ -58,8 +58,8 @@ impl Queue {
     }
 
     // Where, in the queue's part, the place of its frame number i begins, counted from its oldest.
-    fn octet(self, i: u16) -> usize
-        ensures { λ r. ⌜ r ≡ placeOctet self i ⌝ }
+    fn offset(self, i: u16) -> usize
+        ensures { λ r. ⌜ r ≡ placeOffset self i ⌝ }
     {
         (self.start as usize + i as usize) % PLACE_COUNT * place::LENGTH
     }
@@ -73,16 +73,16 @@ fn part_start(number: u8) -> usize
 }
 
 // The frame joins the queue whose part this is: it is written after the last that waits.
-pub fn join(part: &mut [u8], queue: Queue, frame: Frame)
+fn join(part: &mut [u8], queue: Queue, frame: Frame)
     requires { ⌜ partLength ≤ length (now part) ⌝ }
-    ensures { λ _. ⌜ now (part .exit) ≡ withFrame (now (part .entry)) (placeOctet queue (queue .count)) frame ⌝ }
+    ensures { λ _. ⌜ now (part .exit) ≡ withFrame (now (part .entry)) (placeOffset queue (queue .count)) frame ⌝ }
 {
-    place::write(part, queue.octet(queue.count), frame);
+    place::write(part, queue.offset(queue.count), frame);
 }
 
 // The frame joins the queue of this number in the whole memory, whose part of it is handed on: no octet of another place changes.
 pub fn join_at(memory: &mut [u8], number: u8, queue: Queue, frame: Frame)
-    requires { ⌜ number * partLength + partLength ≤ length (now memory) ⌝ }
+    requires { ⌜ HasPart (now memory) number ⌝ }
     ensures { λ _. ⌜ now (memory .exit) ≡ joinedMemory (now (memory .entry)) number queue frame ⌝ }
 {
     let from = part_start(number);
@@ -91,16 +91,16 @@ pub fn join_at(memory: &mut [u8], number: u8, queue: Queue, frame: Frame)
 }
 
 // The oldest frame of the queue whose part this is.
-pub fn front(part: &[u8], queue: Queue) -> Frame
+fn front(part: &[u8], queue: Queue) -> Frame
     requires { ⌜ partLength ≤ length (now part) ⌝ }
-    ensures { λ r. ⌜ r ≡ frameAt (now (part .entry)) (placeOctet queue 0) ⌝ }
+    ensures { λ r. ⌜ r ≡ frameAt (now (part .entry)) (placeOffset queue 0) ⌝ }
 {
-    place::read(part, queue.octet(0))
+    place::read(part, queue.offset(0))
 }
 
 // The oldest frame of the queue of this number in the whole memory.
 pub fn front_at(memory: &[u8], number: u8, queue: Queue) -> Frame
-    requires { ⌜ number * partLength + partLength ≤ length (now memory) ⌝ }
+    requires { ⌜ HasPart (now memory) number ⌝ }
     ensures { λ r. ⌜ r ≡ frontOf (now (memory .entry)) number queue ⌝ }
 {
     let begin = part_start(number);
@@ -110,15 +110,15 @@ pub fn front_at(memory: &[u8], number: u8, queue: Queue) -> Frame
 
 // The charge of the frame number i, counted from the oldest, of the queue of this number in the whole memory.
 fn charge_at(memory: &[u8], number: u8, queue: Queue, i: u16) -> u16
-    requires { ⌜ number * partLength + partLength ≤ length (now memory) ⌝ }
-    ensures { λ r. ⌜ r ≡ frameAt (now (memory .entry)) (memoryOctet number queue i) .charge ⌝ }
+    requires { ⌜ HasPart (now memory) number ⌝ }
+    ensures { λ r. ⌜ r ≡ frameAt (now (memory .entry)) (memoryOffset number queue i) .charge ⌝ }
 {
-    place::charge(memory, part_start(number) + queue.octet(i))
+    place::charge(memory, part_start(number) + queue.offset(i))
 }
 
 // The sum of the charges that wait in the queue of this number in the whole memory.
 pub fn charges(memory: &[u8], number: u8, queue: Queue) -> u32
-    requires { ⌜ number * partLength + partLength ≤ length (now memory) ⌝ }
+    requires { ⌜ HasPart (now memory) number ⌝ }
     ensures { λ r. ⌜ r ≡ chargesOf (waiting (now (memory .entry)) number queue) ⌝ }
 {
     let count = queue.count;

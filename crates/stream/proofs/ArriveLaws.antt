@@ -81,7 +81,7 @@ arrive-cases last s a G here next nowhere =
     (le-or-lt last (s .place)))
     (le-or-lt a (s .left))
 
--- whatever holds of each way in which a frame that fits can leave its stream holds of the stream after it
+-- whatever holds of each way in which a frame that fits can end holds of it: some is left, or it is an exact fit before last or at last
 pub joined-cases : (last : ℕ) (s : Stream) (a : ℕ) (G : Arrival → Type 0)
     → a ≤ s .left
     → (a < s .left → G (Joined (s .place) (atPlace s (s .place) (s .left - a))))

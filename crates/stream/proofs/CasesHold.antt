@@ -2,8 +2,8 @@
 use mathlib.Core.Path.{_≡_, refl}
 use mathlib.Core.List.{map}
 use Rattle.stream.specs.Steps.{attempt, arriveOf, tickOf}
-use Rattle.stream.specs.Cases.{cases, told}
+use Rattle.stream.specs.Cases.{cases, repliesTo}
 
-pub cases-hold : map told cases ≡ map (λ c. c .expected) cases
+pub cases-hold : map repliesTo cases ≡ map (λ c. c .expected) cases
 unfolding attempt arriveOf tickOf
 cases-hold = refl

@@ -1,8 +1,7 @@
 -- A fit stream stays fit, its P stays, and its place falls at a tick only. Assumes nothing.
 use Prim.Native.Nat.{ℕ, _≤_}
-use mathlib.Core.Path.{_≡_, refl}
+use mathlib.Core.Path.{_≡_, refl, subst}
 use native.Mathlib.Omega.{arith}
-use Rattle.lists.proofs.TurnLaws.{iterate-keeps}
 use Rattle.stream.specs.declared.Stream.{Stream}
 use Rattle.stream.specs.declared.Arrival.{Arrival}
 use Rattle.stream.specs.declared.Arrival.the-variants.{Joined, Discarded}
@@ -10,7 +9,7 @@ use Rattle.stream.specs.State.{currentPlace, reserveOf, Fit}
 use Rattle.stream.specs.Steps.{advanced, joined, arriveOf, tickOf}
 use Rattle.stream.specs.Replies.{streamOf}
 use Rattle.stream.proofs.ArriveLaws.{arrive-cases, joined-cases}
-use Rattle.stream.proofs.TickLaws.{tick-cases, ticked}
+use Rattle.stream.proofs.TickLaws.{tick-cases}
 
 -- a stream is fit as its reservation leaves it
 pub fit-reserve : (last permitted : ℕ) → currentPlace ≤ last → Fit last (reserveOf permitted)
@@ -38,10 +37,6 @@ fit-tick last s f =
     (λ h. omega arith)
     (λ h. omega arith)
 
--- and so do ticks with no frame between them
-pub fit-ticked : (last n : ℕ) (s : Stream) → Fit last s → Fit last (ticked n s)
-fit-ticked last n s f = iterate-keeps (Fit last) (λ _. tickOf) n s (λ _ t. fit-tick last t) f
-
 -- no step changes P
 permitted-joined : (last : ℕ) (s : Stream) (a : ℕ) → a ≤ s .left → streamOf (joined last s a) .permitted ≡ s .permitted
 permitted-joined last s a h = joined-cases last s a (λ r. streamOf r .permitted ≡ s .permitted) h (λ _. refl) (λ _ _. refl) (λ _ _. refl)
@@ -56,26 +51,24 @@ permitted-arrive last s a =
 pub permitted-tick : (s : Stream) → tickOf s .permitted ≡ s .permitted
 permitted-tick s = tick-cases s (λ t. t .permitted ≡ s .permitted) (λ _. refl) (λ _. refl)
 
--- the place at which an arrival joins, or last where it is discarded
-abbrev pub joinedAt : ℕ → Arrival → ℕ
-joinedAt last (Joined place s) = place
-joinedAt last (Discarded s) = last
+-- an arrival never lowers the place
+place-joined : (last : ℕ) (s : Stream) (a : ℕ) → a ≤ s .left → s .place ≤ streamOf (joined last s a) .place
+place-joined last s a h = joined-cases last s a (λ r. s .place ≤ streamOf r .place) h (λ l. omega arith) (λ e p. omega arith) (λ e p. omega arith)
 
--- an arrival joins at the place or after it, and leaves the place there or after it: nothing later joins an earlier queue before a tick
-pub record Onward (last place : ℕ) (r : Arrival) : Type 0 where
-  pub joins-onward : place ≤ joinedAt last r
-  pub stays-onward : joinedAt last r ≤ streamOf r .place
-
-onward-joined : (last place : ℕ) (s : Stream) (a : ℕ) → place ≤ s .place → a ≤ s .left → Onward last place (joined last s a)
-onward-joined last place s a p h =
-    joined-cases last s a (λ r. Onward last place r) h
-    (λ l. omega arith)
-    (λ e q. omega arith)
-    (λ e q. omega arith)
-
-pub place-arrive : (last : ℕ) (s : Stream) (a : ℕ) → s .place ≤ last → Onward last (s .place) (arriveOf last s a)
+pub place-arrive : (last : ℕ) (s : Stream) (a : ℕ) → s .place ≤ last → s .place ≤ streamOf (arriveOf last s a) .place
 place-arrive last s a f =
-    arrive-cases last s a (λ r. Onward last (s .place) r)
-    (λ h. onward-joined last (s .place) s a (omega arith) h)
-    (λ h p q. onward-joined last (s .place) (advanced s) a (omega arith) q)
-    (λ h. omega arith)
+    arrive-cases last s a (λ r. s .place ≤ streamOf r .place)
+    (λ h. place-joined last s a h)
+    (λ h p q. omega (arith, place-joined last (advanced s) a q))
+    (λ h. f)
+
+-- and a frame that joins does so at the place or after it, never at one that the stream has left behind
+abbrev JoinsFrom : ℕ → Arrival → Type 0
+JoinsFrom from (Joined place t) = from ≤ place
+JoinsFrom from (Discarded t) = Unit {0}
+
+joins-from : (last : ℕ) (s : Stream) (a : ℕ) → JoinsFrom (s .place) (arriveOf last s a)
+joins-from last s a = arrive-cases last s a (JoinsFrom (s .place)) (λ h. omega arith) (λ h p q. omega arith) (λ h. tt)
+
+pub joins-onward : (last : ℕ) (s : Stream) (a place : ℕ) (t : Stream) → arriveOf last s a ≡ Joined place t → s .place ≤ place
+joins-onward last s a place t e = subst (JoinsFrom (s .place)) e (joins-from last s a)

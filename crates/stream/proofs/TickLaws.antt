@@ -1,11 +1,10 @@
--- What a tick does to a stream's place. Assumes nothing.
-use Prim.Native.Nat.{ℕ, zero, suc, _+_, _-_, _≤_, _<_}
+-- What a tick does to a stream: the two ways of the rule, and what they have in common. Assumes nothing.
+use Prim.Native.Nat.{_+_, _-_, _≤_, _<_}
 use mathlib.Core.Path.{_≡_, sym, subst}
 use mathlib.Core.Logic.{⊎-elim}
 use native.Mathlib.Omega.{arith}
 use borrow.Author.Tests.{le-leb, lt-leb}
 use Rattle.lists.proofs.Order.{le-or-lt}
-use Rattle.lists.specs.Turns.{iterate}
 use Rattle.stream.specs.declared.Stream.{Stream}
 use Rattle.stream.specs.State.{currentPlace, atPlace, fullAt}
 use Rattle.stream.specs.Steps.{tickOf}
@@ -36,24 +35,5 @@ module _ (s : Stream) where
   pub tick-place : s .place ≤ tickOf s .place + 1
   tick-place = tick-cases (λ t. s .place ≤ t .place + 1) (λ h. omega arith) (λ h. omega arith)
 
-  tick-below : tickOf s .place ≤ suc (s .place - 2)
-  tick-below = tick-cases (λ t. t .place ≤ suc (s .place - 2)) (λ h. omega arith) (λ h. omega arith)
-
   pub tick-current : currentPlace ≤ tickOf s .place
   tick-current = tick-cases (λ t. currentPlace ≤ t .place) (λ h. omega arith) (λ h. omega arith)
-
--- the stream after n ticks with no frame between them
-abbrev pub ticked : ℕ → Stream → Stream
-ticked = iterate (λ _. tickOf)
-
--- n ticks bring it n places nearer, or to current
-ticked-below : (n : ℕ) (s : Stream) → ticked n s .place ≤ suc (s .place - suc n)
-unfolding iterate
-ticked-below zero s = omega arith
-ticked-below (suc n) s = omega (arith, ticked-below n s, tick-below (ticked n s))
-
--- so a stream that is at most n places after current is at current when n ticks have passed, if there was one
-pub ticked-current : (n : ℕ) (s : Stream) → s .place ≤ suc n → currentPlace ≤ s .place → ticked n s .place ≡ currentPlace
-unfolding iterate
-ticked-current zero s h p = omega arith
-ticked-current (suc n) s h p = omega (arith, ticked-below (suc n) s, tick-current (ticked n s))

@@ -32,8 +32,8 @@ abbrev pub octetsAt : ℕ → ℕ → Arrival → ℕ
 octetsAt k a (Joined place s) = cond (eqb place k) a 0
 octetsAt k a (Discarded s) = 0
 
--- the octets that the events bring into one queue, the one at place k when they begin: each tick brings it a place nearer, from current to
--- prior (place 0), where it stays till it is purged
+-- the octets that the events bring into one queue, the one at place k when they begin: each tick brings it a place nearer, and after current
+-- it is prior, place 0, where no frame of a fit stream joins
 abbrev pub octetsInto : ℕ → ℕ → Stream → List Event → ℕ
 octetsInto last k s [] = 0
 octetsInto last k s (arrival a ∷ es) = octetsAt k a (arriveOf last s a) + octetsInto last k (streamOf (arriveOf last s a)) es

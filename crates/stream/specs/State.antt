@@ -1,4 +1,4 @@
--- The state of one stream: document 01, "State of a port", last paragraph.
+-- The state of one stream: document 01, "State of a port", its last point.
 use Prim.Native.Nat.{ℕ, _≤_}
 use mathlib.Core.Bool.{true}
 use Rattle.stream.specs.declared.Stream.{Stream}

@@ -1,5 +1,6 @@
--- The steps of one stream: document 01, "Steps", Arrive and Tick. They are total: a place above the last counts as the last, and place 0
--- as one before current.
+-- The steps of one stream: document 01, "Steps", Arrive and Tick. They are total, and go by the same sentences for places that no fit
+-- record has: a frame that fits joins at that very number; from 0 one that does not fit goes on to 1, and a tick sets current; above the
+-- last place nothing advances, a frame that does not fit is discarded, and a tick comes one place nearer.
 use Prim.Native.Nat.{ℕ, zero, suc, _+_, _-_}
 use mathlib.Core.Bool.{cond}
 use lib.Dec.{leb, ltb, eqb}
@@ -13,19 +14,19 @@ abbrev pub advanced : Stream → Stream
 advanced s = fullAt s (s .place + 1)
 
 -- "if left is then 0 and the place is not last", the stream advances
-abbrev pub settled : ℕ → Stream → Stream
-settled last s = cond (eqb (s .left) 0) (cond (ltb (s .place) last) (advanced s) s) s
+abbrev pub advancedIfSpent : ℕ → Stream → Stream
+advancedIfSpent last s = cond (eqb (s .left) 0) (cond (ltb (s .place) last) (advanced s) s) s
 
 -- "the frame joins the queue at the place and left falls by a"
 abbrev pub joined : ℕ → Stream → ℕ → Arrival
-joined last s a = Joined (s .place) (settled last (atPlace s (s .place) (s .left - a)))
+joined last s a = Joined (s .place) (advancedIfSpent last (atPlace s (s .place) (s .left - a)))
 
--- "the frame is discarded (14) and left becomes 0": place last, left 0
+-- "Number 14 alone changes its stream: place last, left 0"
 abbrev pub discarded : ℕ → Stream → Arrival
 discarded last s = Discarded (atPlace s last 0)
 
--- The rule tried at the place, with n places after it: "If a ≤ left, the frame joins. If a > left and the place is not last, the place
--- advances, left becomes P, and the rule is tried again. If a > left at last, the frame is discarded."
+-- the rule tried at the place, with n places after it: "If a ≤ left, the frame joins [..]. If a > left and the place is not last, the place
+-- advances, left becomes P, and the rule is tried again. If a > left at last, the frame is discarded (14) and left becomes 0."
 unfoldable pub attempt : ℕ → ℕ → Stream → ℕ → Arrival
 attempt last zero s a = cond (leb a (s .left)) (joined last s a) (discarded last s)
 attempt last (suc n) s a = cond (leb a (s .left)) (joined last s a) (attempt last n (advanced s) a)

@@ -3,7 +3,7 @@
 ghost use mathlib.Core.Path.{_≡_};
 ghost use Prim.Native.Nat.{_≤_, _<_};
 ghost use Rattle.stream.specs.State.{lastPlace, atPlace, fullAt, reserveOf};
-ghost use Rattle.stream.specs.Steps.{advanced, settled, joined, discarded, arriveOf, tickOf};
+ghost use Rattle.stream.specs.Steps.{advanced, advancedIfSpent, joined, discarded, arriveOf, tickOf};
 ghost use Rattle.stream.specs.Replies.{replyOf};
 
 // The first place, current.
@@ -78,8 +78,8 @@ impl Stream {
     }
 
     // One place further if nothing is left, unless the place is the last.
-    fn settled(self) -> Stream
-        ensures { λ r. ⌜ r ≡ settled lastPlace self ⌝ }
+    fn advanced_if_spent(self) -> Stream
+        ensures { λ r. ⌜ r ≡ advancedIfSpent lastPlace self ⌝ }
     {
         if self.left != 0 {
             return self;
@@ -97,7 +97,7 @@ impl Stream {
     {
         let place = self.place;
         let spent = self.at(place, self.left - charge);
-        Arrival::Joined(place, spent.settled())
+        Arrival::Joined(place, spent.advanced_if_spent())
     }
 
     // A frame that does not fit at the place joins the queue at the one after it.

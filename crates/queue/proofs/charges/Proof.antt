@@ -7,13 +7,13 @@ use borrow.Author.Needs.{needs}
 use Rattle.lists.proofs.TurnLaws.{sumTo-list}
 use Rattle.lists.specs.Turns.{sumTo}
 use Rattle.queue.specs.Place.{frameAt}
-use Rattle.queue.specs.Ring.{memoryOctet}
+use Rattle.queue.specs.Ring.{memoryOffset}
 use Rattle.queue.specs.Waiting.{waiting}
 use Rattle.queue.proofs.charges.Statement.{statement}
 use Rattle.queue.proofs.charges.Tie as tie
 
 abbrev Inv-loop : tie.InvT-loop
-Inv-loop memory number queue count sum₀ i₀ sum i = (i ≤ queue .count) × ((sum ≤ 65535 * i) × (sum ≡ sumTo (λ k. frameAt memory (memoryOctet number queue k) .charge) i))
+Inv-loop memory number queue count sum₀ i₀ sum i = (i ≤ queue .count) × ((sum ≤ 65535 * i) × (sum ≡ sumTo (λ k. frameAt memory (memoryOffset number queue k) .charge) i))
 
 abbrev μ-loop : tie.MeasureT-loop
 μ-loop memory number queue count sum₀ i₀ sum i = queue .count - i
@@ -49,7 +49,7 @@ returns c =
     let a = c .before .before .before .args in
     let l = c .before .loop in
     let all : l .i ≡ a .queue .count = omega arith in
-    rw all at (l .inv .1 .1) ∙ sumTo-list (λ f. f .charge) (λ k. frameAt (a .memory .now) (memoryOctet (a .number) (a .queue) k)) (a .queue .count)
+    rw all at (l .inv .1 .1) ∙ sumTo-list (λ f. f .charge) (λ k. frameAt (a .memory .now) (memoryOffset (a .number) (a .queue) k)) (a .queue .count)
 
 pub charges-spec : {M : Type 1} → statement M
 charges-spec =

@@ -4,7 +4,7 @@ use mathlib.Core.Path.{_∙_, ap}
 use native.Mathlib.Omega.{arith}
 use borrow.Author.Needs.{needs}
 use Rattle.queue.specs.Place.{frameAt}
-use Rattle.queue.specs.Ring.{partLength, placeOctet, frontOf}
+use Rattle.queue.specs.Ring.{partLength, placeOffset, frontOf}
 use Rattle.queue.proofs.PlaceLaws.{frame-mid}
 use Rattle.queue.proofs.front_at.Statement.{statement}
 use Rattle.queue.proofs.front_at.Tie as tie
@@ -33,8 +33,8 @@ returns c =
     let a = c .before .before .before .before .args in
     let from = c .before .before .part-start .result in
     c .front .ensures
-    ∙ frame-mid from (from + partLength - from) (a .memory .now) (placeOctet (a .queue) 0) (omega arith)
-    ∙ ap (λ (start : ℕ). frameAt (a .memory .now) (start + placeOctet (a .queue) 0)) (c .before .before .part-start .ensures)
+    ∙ frame-mid from (from + partLength - from) (a .memory .now) (placeOffset (a .queue) 0) (omega arith)
+    ∙ ap (λ (start : ℕ). frameAt (a .memory .now) (start + placeOffset (a .queue) 0)) (c .before .before .part-start .ensures)
 
 pub front-at-spec : {M : Type 1} → statement M
 front-at-spec =

@@ -5,6 +5,7 @@ use mathlib.Core.Path.{_∙_, ap}
 use borrow.Author.Needs.{needs}
 use Rattle.lists.specs.Window.{put}
 use Rattle.octets.specs.Numbers.{twoOctets, fourOctets}
+use Rattle.queue.specs.Place.{chargeOffset, tagOffset}
 use Rattle.queue.proofs.PlaceLaws.{fields-written}
 use Rattle.queue.proofs.place.write.Statement.{statement}
 use Rattle.queue.proofs.place.write.Tie as tie
@@ -31,8 +32,8 @@ returns : tie.Need-returns
 returns c =
     let a = c .before .before .before .before .before .before .before .before .before .before .before .before .before .args in
     c .before .before .put-four .ensures
-    ∙ ap (λ (l : List ℕ). put l (a .at + 4) (fourOctets (a .frame .tag)))
-    (c .before .before .before .before .before .before .put-two2 .ensures ∙ ap (λ (l : List ℕ). put l (a .at + 2) (twoOctets (a .frame .charge))) (c .before .before .before .before .before .before .before .before .before .before .put-two .ensures))
+    ∙ ap (λ (l : List ℕ). put l (a .at + tagOffset) (fourOctets (a .frame .tag)))
+    (c .before .before .before .before .before .before .put-two2 .ensures ∙ ap (λ (l : List ℕ). put l (a .at + chargeOffset) (twoOctets (a .frame .charge))) (c .before .before .before .before .before .before .before .before .before .before .put-two .ensures))
     ∙ fields-written (a .memory .now) (a .at) (a .frame)
 
 pub write-spec : {M : Type 1} → statement M

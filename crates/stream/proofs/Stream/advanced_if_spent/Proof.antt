@@ -1,8 +1,8 @@
--- `stream::Stream::settled` meets its contract. Each return computes the definition by the tests that led to it. Assumes nothing.
+-- `stream::Stream::advanced_if_spent` meets its contract. Each return computes the definition by the tests that led to it. Assumes nothing.
 use borrow.Author.Needs.{needs}
 use borrow.Author.Tests.{lt-ltb, le-ltb, eq-eqb, ne-eqb}
-use Rattle.stream.proofs.Stream.settled.Statement.{statement}
-use Rattle.stream.proofs.Stream.settled.Tie as tie
+use Rattle.stream.proofs.Stream.advanced_if_spent.Statement.{statement}
+use Rattle.stream.proofs.Stream.advanced_if_spent.Tie as tie
 
 returns : tie.Need-returns
 returns c = simp (ne-eqb _ _ (c .if1 .taken))
@@ -16,5 +16,5 @@ advanced-requires c κs = search needs
 returns-3 : tie.Need-returns-3
 returns-3 c = simp (eq-eqb _ _ (c .before .before .before .if1 .left), lt-ltb _ _ (c .before .if2 .left)) (c .advanced .ensures)
 
-pub settled-spec : {M : Type 1} → statement M
-settled-spec = tie.close (tie.spec returns returns-2 advanced-requires returns-3)
+pub advanced-if-spent-spec : {M : Type 1} → statement M
+advanced-if-spent-spec = tie.close (tie.spec returns returns-2 advanced-requires returns-3)
