@@ -13,10 +13,10 @@ use Rattle.queue.proofs.charges.Statement.{statement}
 use Rattle.queue.proofs.charges.Tie as tie
 
 abbrev Inv-loop : tie.InvT-loop
-Inv-loop memory number queue count sum₀ i₀ sum i = (i ≤ queue .count) × ((sum ≤ 65535 * i) × (sum ≡ sumTo (λ k. frameAt memory (memoryOffset number queue k) .charge) i))
+Inv-loop memory number queue count sum₀ i₀ sum i = (i ≤ count) × ((sum ≤ 65535 * i) × (sum ≡ sumTo (λ k. frameAt memory (memoryOffset number queue k) .charge) i))
 
 abbrev μ-loop : tie.MeasureT-loop
-μ-loop memory number queue count sum₀ i₀ sum i = queue .count - i
+μ-loop memory number queue count sum₀ i₀ sum i = count - i
 
 loop-holds : tie.Need-loop-holds Inv-loop μ-loop
 unfolding sumTo

@@ -1,6 +1,8 @@
 -- `stream::Stream::advanced_if_spent` meets its contract. Each return computes the definition by the tests that led to it. Assumes nothing.
+use native.Mathlib.Omega.{arith}
 use borrow.Author.Needs.{needs}
 use borrow.Author.Tests.{lt-ltb, le-ltb, eq-eqb, ne-eqb}
+use Rattle.stream.specs.State.{lastPlace}
 use Rattle.stream.proofs.Stream.advanced_if_spent.Statement.{statement}
 use Rattle.stream.proofs.Stream.advanced_if_spent.Tie as tie
 
@@ -8,7 +10,9 @@ returns : tie.Need-returns
 returns c = simp (ne-eqb _ _ (c .if1 .taken))
 
 returns-2 : tie.Need-returns-2
-returns-2 c = simp (eq-eqb _ _ (c .before .before .if1 .left), le-ltb _ _ (c .if2 .taken))
+returns-2 c =
+    let s = c .before .before .before .before .args .self in
+    simp (eq-eqb _ _ (c .before .before .if1 .left), le-ltb (s .place) lastPlace (omega arith))
 
 advanced-requires : tie.Need-advanced-requires
 advanced-requires c κs = search needs
