@@ -1,4 +1,4 @@
--- Numbers of two and of four octets, high octet first.
+-- Numbers of two, four and eight octets, high octet first.
 use Prim.Native.Nat.{ℕ, _+_, _*_, _/_, _%_}
 use mathlib.Core.List.{List, [], _∷_, _++_}
 use lib.ListN.{getD}
@@ -17,3 +17,7 @@ fourOf o = twoOf (get o 0 2) * 65536 + twoOf (get o 2 2)
 
 abbrev pub fourOctets : ℕ → List ℕ
 fourOctets n = twoOctets (n / 65536) ++ twoOctets (n % 65536)
+
+-- the number of eight octets
+unfoldable pub eightOf : List ℕ → ℕ
+eightOf o = fourOf (get o 0 4) * 4294967296 + fourOf (get o 4 4)

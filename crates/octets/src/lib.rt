@@ -1,10 +1,10 @@
-// Numbers of two and of four octets, high octet first, read and written in a slice: what the port record, the frame memory and
+// Numbers of two, four and eight octets, high octet first, read and written in a slice: what the port record, the frame memory and
 // capture files are made of.
 ghost use mathlib.Core.Path.{_≡_};
 ghost use Prim.Native.Nat.{_+_, _*_, _≤_};
 ghost use lib.ListN.{length};
 ghost use Rattle.lists.specs.Window.{put, get};
-ghost use Rattle.octets.specs.Numbers.{twoOf, twoOctets, fourOf, fourOctets};
+ghost use Rattle.octets.specs.Numbers.{twoOf, twoOctets, fourOf, fourOctets, eightOf};
 
 // The number of two octets.
 fn two(high: u8, low: u8) -> u16
@@ -56,4 +56,20 @@ pub fn put_four(octets: &mut [u8], at: usize, number: u32)
     let low_at = at + 2;
     put_two(octets, at, (number / 65536) as u16);
     put_two(octets, low_at, (number % 65536) as u16);
+}
+
+// The number of eight octets, of which each argument has four.
+fn eight(high: u32, low: u32) -> u64
+    ensures { λ r. ⌜ r ≡ high * 4294967296 + low ⌝ }
+{
+    high as u64 * 4294967296 + low as u64
+}
+
+// The number in the eight octets from `at` on.
+pub fn eight_at(octets: &[u8], at: usize) -> u64
+    requires { ⌜ at + 8 ≤ length (now octets) ⌝ }
+    ensures { λ r. ⌜ r ≡ eightOf (get (now (octets .entry)) at 8) ⌝ }
+{
+    let low_at = at + 4;
+    eight(four_at(octets, at), four_at(octets, low_at))
 }

@@ -1,0 +1,3 @@
+-- The laws of the record's fields, cited by the crates above.
+pub mod HeadLaws
+pub mod EntryLaws

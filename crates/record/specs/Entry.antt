@@ -1,0 +1,44 @@
+-- The fields of a stream's entry in the record, each read and written: the stream's reservation, and its binding.
+use Prim.Native.Nat.{ℕ, _+_}
+use mathlib.Core.Bool.{Bool, cond}
+use mathlib.Core.List.{List, [], _∷_, _++_}
+use lib.ListN.{getD}
+use Rattle.lists.specs.Window.{put, get}
+use Rattle.octets.specs.Numbers.{twoOf, twoOctets, eightOf}
+use Rattle.stream.specs.declared.Stream.{Stream}
+use Rattle.record.specs.Layout.{entryOffset, placeOffset, leftOffset, permittedOffset, streamLength, boundOffset, pairOffset}
+use Rattle.record.specs.Head.{flagOf}
+
+-- the reservation of stream s: whether it is reserved, its place, left and P
+abbrev pub streamOf : List ℕ → Stream
+streamOf o = record { reserved = flagOf o; permitted = twoOf (get o permittedOffset 2); place = getD o placeOffset 0; left = twoOf (get o leftOffset 2) }
+
+abbrev pub placeOctets : ℕ → ℕ → List ℕ
+placeOctets place left = place ∷ twoOctets left
+
+abbrev pub streamOctets : Stream → List ℕ
+streamOctets x = cond (x .reserved) 1 0 ∷ (placeOctets (x .place) (x .left) ++ twoOctets (x .permitted))
+
+unfoldable pub streamAt : List ℕ → ℕ → Stream
+streamAt l s = streamOf (get l (entryOffset s) streamLength)
+
+unfoldable pub withStream : List ℕ → ℕ → Stream → List ℕ
+withStream l s x = put l (entryOffset s) (streamOctets x)
+
+-- the record with stream s at a place, with so much left there; nothing else of the stream is written
+unfoldable pub withPlace : List ℕ → ℕ → ℕ → ℕ → List ℕ
+withPlace l s place left = put l (entryOffset s + placeOffset) (placeOctets place left)
+
+-- whether stream s is bound, the VID of its binding, and the pair of VID and address as one number of eight octets
+unfoldable pub boundAt : List ℕ → ℕ → Bool
+boundAt l s = flagOf (get l (entryOffset s + boundOffset) 1)
+
+unfoldable pub vidAt : List ℕ → ℕ → ℕ
+vidAt l s = twoOf (get l (entryOffset s + pairOffset) 2)
+
+unfoldable pub pairAt : List ℕ → ℕ → ℕ
+pairAt l s = eightOf (get l (entryOffset s + pairOffset) 8)
+
+-- the record with the reservation and the binding of stream s dropped: it is no longer marked reserved, nor bound
+unfoldable pub dropped : List ℕ → ℕ → List ℕ
+dropped l s = put (put l (entryOffset s) (0 ∷ [])) (entryOffset s + boundOffset) (0 ∷ [])

@@ -1,0 +1,4 @@
+-- The port record in lent octets: document 01, "State of a port", field by field.
+pub mod Layout
+pub mod Head
+pub mod Entry

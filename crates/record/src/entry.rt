@@ -1,0 +1,109 @@
+// The fields of a stream's entry: its reservation and its binding.
+use stream::Stream;
+ghost use mathlib.Core.Path.{_≡_};
+ghost use mathlib.Core.Bool.{cond};
+ghost use Prim.Native.Nat.{_≤_, _<_};
+ghost use Rattle.record.specs.Layout.{Whole, streamCount, entryOffset};
+ghost use Rattle.record.specs.Entry.{streamAt, withStream, withPlace, boundAt, vidAt, pairAt, dropped};
+
+// Where the entries begin, and the octets of one.
+const ENTRIES: usize = 64;
+
+const LENGTH: usize = 16;
+
+// Where the fields of an entry begin; whether the stream is reserved stands first.
+const PLACE: usize = 1;
+
+const LEFT: usize = 2;
+
+const PERMITTED: usize = 4;
+
+const BOUND: usize = 7;
+
+const PAIR: usize = 8;
+
+// Where the stream's entry begins.
+fn start(stream: u8) -> usize
+    ensures { λ r. ⌜ r ≡ entryOffset stream ⌝ }
+{
+    ENTRIES + stream as usize * LENGTH
+}
+
+// The stream's reservation.
+pub fn stream_at(port: &[u8], stream: u8) -> Stream
+    requires { ⌜ Whole (now port) × (stream < streamCount) ⌝ }
+    ensures { λ r. ⌜ r ≡ streamAt (now (port .entry)) stream ⌝ }
+{
+    let at = start(stream);
+    Stream {
+        reserved: port[at] == crate::YES,
+        permitted: octets::two_at(port, at + PERMITTED),
+        place: port[at + PLACE],
+        left: octets::two_at(port, at + LEFT),
+    }
+}
+
+// The octet of a flag.
+fn flag(yes: bool) -> u8
+    ensures { λ r. ⌜ r ≡ cond yes 1 0 ⌝ }
+{
+    if yes {
+        return crate::YES;
+    }
+    crate::NO
+}
+
+// Writes the stream's reservation.
+pub fn put_stream(port: &mut [u8], stream: u8, reservation: Stream)
+    requires { ⌜ Whole (now port) × (stream < streamCount) ⌝ }
+    ensures { λ _. ⌜ now (port .exit) ≡ withStream (now (port .entry)) stream reservation ⌝ }
+{
+    let at = start(stream);
+    crate::put_octet(port, at, flag(reservation.reserved));
+    put_place(port, stream, reservation.place, reservation.left);
+    octets::put_two(port, at + PERMITTED, reservation.permitted);
+}
+
+// Writes the stream's place and what is left there.
+pub fn put_place(port: &mut [u8], stream: u8, place: u8, left: u16)
+    requires { ⌜ Whole (now port) × (stream < streamCount) ⌝ }
+    ensures { λ _. ⌜ now (port .exit) ≡ withPlace (now (port .entry)) stream place left ⌝ }
+{
+    let at = start(stream);
+    crate::put_octet(port, at + PLACE, place);
+    octets::put_two(port, at + LEFT, left);
+}
+
+// Whether the stream is bound.
+pub fn is_bound(port: &[u8], stream: u8) -> bool
+    requires { ⌜ Whole (now port) × (stream < streamCount) ⌝ }
+    ensures { λ r. ⌜ r ≡ boundAt (now (port .entry)) stream ⌝ }
+{
+    port[start(stream) + BOUND] == crate::YES
+}
+
+// The VID of the stream's binding.
+pub fn vid(port: &[u8], stream: u8) -> u16
+    requires { ⌜ Whole (now port) × (stream < streamCount) ⌝ }
+    ensures { λ r. ⌜ r ≡ vidAt (now (port .entry)) stream ⌝ }
+{
+    octets::two_at(port, start(stream) + PAIR)
+}
+
+// The pair of VID and address of the stream's binding, as one number.
+pub fn pair(port: &[u8], stream: u8) -> u64
+    requires { ⌜ Whole (now port) × (stream < streamCount) ⌝ }
+    ensures { λ r. ⌜ r ≡ pairAt (now (port .entry)) stream ⌝ }
+{
+    octets::eight_at(port, start(stream) + PAIR)
+}
+
+// Drops the stream's reservation and its binding.
+pub fn drop_stream(port: &mut [u8], stream: u8)
+    requires { ⌜ Whole (now port) × (stream < streamCount) ⌝ }
+    ensures { λ _. ⌜ now (port .exit) ≡ dropped (now (port .entry)) stream ⌝ }
+{
+    let at = start(stream);
+    crate::put_octet(port, at, crate::NO);
+    crate::put_octet(port, at + BOUND, crate::NO);
+}
