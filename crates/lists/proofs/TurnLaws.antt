@@ -1,13 +1,13 @@
--- Laws of `allTo`, `sumTo`, `listTo`, `sumOf` and `iterate`. Assumes nothing.
+-- Laws of `allTo`, `sumTo`, `listTo`, `allOf`, `sumOf` and `iterate`. Assumes nothing.
 use Prim.Native.Nat.{ℕ, zero, suc, _+_, _<_}
-use mathlib.Core.Path.{_≡_, refl, ap, ap₂, _∙_}
+use mathlib.Core.Path.{_≡_, refl, sym, ap, ap₂, _∙_}
 use mathlib.Core.Bool.{Bool, true, false, _&&_}
 use mathlib.Core.Logic.{⊎-elim}
 use native.Mathlib.Nat.{eq-or-lt-of-le}
 use mathlib.Core.List.{List, [], _∷_, _++_}
 use native.Mathlib.Omega.{arith}
 use lib.ListN.{length, length-append}
-use Rattle.lists.specs.Turns.{allTo, sumTo, listTo, sumOf, iterate}
+use Rattle.lists.specs.Turns.{allTo, sumTo, listTo, allOf, sumOf, iterate}
 
 -- both halves of a test that is true
 pub both : (a b : Bool) → (a && b) ≡ true → (a ≡ true) × (b ≡ true)
@@ -30,7 +30,49 @@ unfolding allTo
 allTo-all f zero h = refl
 allTo-all f (suc n) h = ap₂ _&&_ (h n (omega arith)) (allTo-all f n (λ k b. h k (omega arith)))
 
+-- equal tests, equal answers
+pub allTo-same : (f g : ℕ → Bool) (n : ℕ) → ((k : ℕ) → k < n → f k ≡ g k) → allTo f n ≡ allTo g n
+unfolding allTo
+allTo-same f g zero h = refl
+allTo-same f g (suc n) h = ap₂ _&&_ (h n (omega arith)) (allTo-same f g n (λ k b. h k (omega arith)))
+
+-- equal values, equal sums
+pub sumTo-same : (f g : ℕ → ℕ) (n : ℕ) → ((k : ℕ) → k < n → f k ≡ g k) → sumTo f n ≡ sumTo g n
+unfolding sumTo
+sumTo-same f g zero h = refl
+sumTo-same f g (suc n) h = ap₂ _+_ (sumTo-same f g n (λ k b. h k (omega arith))) (h n (omega arith))
+
+-- sums whose values differ at one number differ by what they have there
+pub sumTo-change : (f g : ℕ → ℕ) (n k : ℕ) → k < n → ((i : ℕ) → (i ≡ k → ⊥) → f i ≡ g i) → sumTo f n + g k ≡ sumTo g n + f k
+unfolding sumTo
+sumTo-change f g zero k h same = absurd (omega arith)
+sumTo-change f g (suc n) k h same =
+    ⊎-elim
+    (λ (q : k ≡ n). rw q
+    (let below : sumTo f n ≡ sumTo g n = sumTo-same f g n (λ i b. same i (λ (e : i ≡ k). absurd (omega (arith, q)))) in omega (arith, below)))
+    (λ (l : k < n).
+    (let below : sumTo f n + g k ≡ sumTo g n + f k = sumTo-change f g n k l same in
+    let there : f n ≡ g n = same n (λ (e : n ≡ k). absurd (omega arith)) in
+    omega (arith, below, there)))
+    (eq-or-lt-of-le (omega arith))
+
 module _ {A : Type 0} where
+  -- the test of a list with one more at its end
+  pub allOf-snoc : (g : A → Bool) (l : List A) (a : A) → allOf g (l ++ (a ∷ [])) ≡ (g a && allOf g l)
+  allOf-snoc g [] a = refl
+  allOf-snoc g (x ∷ l) a = ap (λ (b : Bool). g x && b) (allOf-snoc g l a) ∙ swapped (g x) (g a) (allOf g l)
+    where
+      swapped : (b c d : Bool) → (b && (c && d)) ≡ (c && (b && d))
+      swapped true c d = refl
+      swapped false true d = refl
+      swapped false false d = refl
+
+  -- a test by turns is the test of the list of the turns' values
+  pub allTo-list : (g : A → Bool) (f : ℕ → A) (n : ℕ) → allTo (λ i. g (f i)) n ≡ allOf g (listTo f n)
+  unfolding allTo listTo
+  allTo-list g f zero = refl
+  allTo-list g f (suc n) = ap (λ (b : Bool). g (f n) && b) (allTo-list g f n) ∙ sym (allOf-snoc g (listTo f n) (f n))
+
   -- equal values, equal lists
   pub listTo-same : (f g : ℕ → A) (n : ℕ) → ((k : ℕ) → k < n → f k ≡ g k) → listTo f n ≡ listTo g n
   unfolding listTo

@@ -1,11 +1,11 @@
--- Laws of `put` and `get`: what is read where something was put, what is read elsewhere, two writes in either order, and both in a part of
--- a slice said of the whole slice. Assumes nothing.
+-- Laws of `put` and `get`: what is read where something was put, what is read elsewhere, two writes in either order, and a write in a part
+-- of a slice said of the whole slice. Assumes nothing.
 use Prim.Native.Nat.{ℕ, zero, suc, _+_, _≤_, _<_}
 use mathlib.Core.Path.{_≡_, refl, sym, ap, ap₂, _∙_}
 use mathlib.Core.List.{List, [], _∷_, _++_}
 use native.Mathlib.Omega.{arith}
 use lib.ListN.{length, getD, set, take, drop, length-set}
-use lib.Seq.{getD-set-same, getD-set-other, set-comm, take-set-le, drop-set-lt, take-set-lt, drop-set-add, getD-take, getD-drop}
+use lib.Seq.{getD-set-same, getD-set-other, set-comm, take-set-le, drop-set-lt, take-set-lt, drop-set-add}
 use borrow.Rule.Slice.PartMut.{midOf, putMid, put-same}
 use Rattle.lists.specs.Window.{put, get, Apart}
 
@@ -79,11 +79,3 @@ put-mid a k (v ∷ vs) xs j h =
 
     after : drop k (drop a (set xs (a + j) v)) ≡ drop k (drop a xs)
     after = ap (drop k) (drop-set-add a xs j v) ∙ drop-set-lt k (drop a xs) j v (omega arith)
-
--- octets read from the part of k that starts at a are read from the whole from there on
-pub get-mid : (a k : ℕ) (xs : List ℕ) (j n : ℕ) → j + n ≤ k → get (midOf a k xs) j n ≡ get xs (a + j) n
-get-mid a k xs j zero h = refl
-get-mid a k xs j (suc n) h =
-    ap₂ _∷_
-    (getD-take k (drop a xs) j 0 (omega arith) ∙ getD-drop a xs j 0)
-    (get-mid a k xs (j + 1) n (omega arith) ∙ ap (λ (i : ℕ). get xs i n) (omega arith))

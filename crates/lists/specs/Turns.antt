@@ -18,6 +18,11 @@ unfoldable pub listTo : {A : Type 0} → (ℕ → A) → ℕ → List A
 listTo f zero = []
 listTo f (suc n) = listTo f n ++ (f n ∷ [])
 
+-- the test holds of each value of a list
+abbrev pub allOf : {A : Type 0} → (A → Bool) → List A → Bool
+allOf f [] = true
+allOf f (x ∷ xs) = f x && allOf f xs
+
 -- the sum of g over a list
 abbrev pub sumOf : {A : Type 0} → (A → ℕ) → List A → ℕ
 sumOf g [] = 0

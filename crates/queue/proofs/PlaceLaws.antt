@@ -6,7 +6,7 @@ use native.Mathlib.Omega.{arith}
 use lib.ListN.{length}
 use borrow.Rule.Slice.PartMut.{midOf, putMid}
 use Rattle.lists.specs.Window.{put, get, Apart}
-use Rattle.lists.proofs.WindowLaws.{get-apart, get-put, get-get, put-append, put-mid, get-mid}
+use Rattle.lists.proofs.WindowLaws.{get-apart, get-put, get-get, put-append, put-mid}
 use Rattle.octets.specs.Numbers.{twoOf, fourOf, twoOctets, fourOctets}
 use Rattle.octets.proofs.NumberLaws.{two-octets, four-octets}
 use Rattle.queue.specs.declared.Frame.{Frame}
@@ -57,12 +57,8 @@ pub frame-apart : (l : List ℕ) (at : ℕ) (f : Frame) (to : ℕ) → Apart to 
 unfolding frameAt withFrame
 frame-apart l at f to h = ap frameOf (get-apart l at (frameOctets f) to placeLength h)
 
-module _ (from k : ℕ) (l : List ℕ) (at : ℕ) (within : at + placeLength ≤ k) where
-  -- a frame in the part of k octets that starts at `from`, read and written, is one in the whole
-  pub frame-mid : frameAt (midOf from k l) at ≡ frameAt l (from + at)
-  unfolding frameAt
-  frame-mid = ap frameOf (get-mid from k l at placeLength within)
-
-  pub frame-put-mid : (f : Frame) → putMid from k l (withFrame (midOf from k l) at f) ≡ withFrame l (from + at) f
-  unfolding withFrame
-  frame-put-mid f = put-mid from k (frameOctets f) l at within
+-- a frame written in the part of k octets that starts at `from` is one written in the whole
+pub frame-put-mid : (from k : ℕ) (l : List ℕ) (at : ℕ) → at + placeLength ≤ k → (f : Frame)
+    → putMid from k l (withFrame (midOf from k l) at f) ≡ withFrame l (from + at) f
+unfolding withFrame
+frame-put-mid from k l at within f = put-mid from k (frameOctets f) l at within

@@ -90,12 +90,12 @@ pub fn join_at(memory: &mut [u8], number: u8, queue: Queue, frame: Frame)
     join(&mut memory[from..to], queue, frame);
 }
 
-// The oldest frame of the queue whose part this is.
-fn front(part: &[u8], queue: Queue) -> Frame
-    requires { ⌜ partLength ≤ length (now part) ⌝ }
-    ensures { λ r. ⌜ r ≡ frameAt (now (part .entry)) (placeOffset queue 0) ⌝ }
+// The frame number i, counted from the oldest, of the queue of this number in the whole memory.
+pub fn frame_at(memory: &[u8], number: u8, queue: Queue, i: u16) -> Frame
+    requires { ⌜ HasPart (now memory) number ⌝ }
+    ensures { λ r. ⌜ r ≡ frameAt (now (memory .entry)) (memoryOffset number queue i) ⌝ }
 {
-    place::read(part, queue.offset(0))
+    place::read(memory, part_start(number) + queue.offset(i))
 }
 
 // The oldest frame of the queue of this number in the whole memory.
@@ -103,9 +103,7 @@ pub fn front_at(memory: &[u8], number: u8, queue: Queue) -> Frame
     requires { ⌜ HasPart (now memory) number ⌝ }
     ensures { λ r. ⌜ r ≡ frontOf (now (memory .entry)) number queue ⌝ }
 {
-    let begin = part_start(number);
-    let end = begin + PART_LENGTH;
-    front(&memory[begin..end], queue)
+    frame_at(memory, number, queue, 0)
 }
 
 // The charge of the frame number i, counted from the oldest, of the queue of this number in the whole memory.

@@ -1,0 +1,2 @@
+-- The laws of fitness, cited by the crates above.
+mod GatherLaws

@@ -1,0 +1,83 @@
+-- The clauses of refusal 19, in document 01's order, each as what a fit record has.
+use Prim.Native.Nat.{ℕ}
+use mathlib.Core.Bool.{Bool, true, not, _&&_, cond}
+use mathlib.Core.List.{List}
+use lib.Dec.{leb, ltb, eqb}
+use Rattle.lists.specs.Turns.{allTo, sumTo, allOf}
+use Rattle.stream.specs.declared.Stream.{Stream}
+use Rattle.stream.specs.State.{currentPlace, lastPlace}
+use Rattle.queue.specs.declared.Frame.{Frame}
+use Rattle.queue.specs.declared.Queue.{Queue}
+use Rattle.queue.specs.Ring.{placeCount}
+use Rattle.queue.specs.Waiting.{waiting, chargesOf}
+use Rattle.record.specs.Layout.{queueCount, bestEffort, allQueues, streamCount}
+use Rattle.record.specs.Head.{openAt, priorAt, delayAt, linkAt, waitsAt, queueAt}
+use Rattle.record.specs.Entry.{streamAt, boundAt, vidAt, pairAt}
+use Rattle.fitness.specs.Ranges.{within, chargeFits, shareOf, linkFits, delayFits, permittedFits, vidFits}
+
+-- "prior above 3"
+abbrev pub priorFits : List ℕ → Bool
+priorFits p = ltb (priorAt p) queueCount
+
+-- "a queue start above 255 or count above 256"
+abbrev pub queueFits : Queue → Bool
+queueFits q = ltb (q .start) placeCount && leb (q .count) placeCount
+
+abbrev pub queuesFit : List ℕ → Bool
+queuesFit p = allTo (λ q. queueFits (queueAt p q)) allQueues
+
+-- "a reserved stream with a place that is none of the three or left above P"
+abbrev pub streamFits : Stream → Bool
+streamFits s = cond (s .reserved) (within currentPlace lastPlace (s .place) && leb (s .left) (s .permitted)) true
+
+abbrev pub streamsFit : List ℕ → Bool
+streamsFit p = allTo (λ s. streamFits (streamAt p s)) streamCount
+
+-- "a binding that repeats, belongs to an unreserved stream or has a VID outside 1 to 4,094"; `unlike` says whether its pair is another than that
+-- of each binding before it
+abbrev pub bindingFits : List ℕ → ℕ → Bool → Bool
+bindingFits p s unlike = cond (boundAt p s) (streamAt p s .reserved && vidFits (vidAt p s) && unlike) true
+
+abbrev pub unlikeEarlier : List ℕ → ℕ → Bool
+unlikeEarlier p s = allTo (λ t. cond (boundAt p t) (not (eqb (pairAt p t) (pairAt p s))) true) s
+
+abbrev pub bindingsFit : List ℕ → Bool
+bindingsFit p = allTo (λ s. bindingFits p s (unlikeEarlier p s)) streamCount
+
+-- "a waiting frame's stream above 63 (best effort: not 255) or charge outside 84 to 1,542"
+abbrev pub bestEffortStream : ℕ
+bestEffortStream = 255
+
+abbrev pub sourceFits : ℕ → ℕ → Bool
+sourceFits number stream = cond (eqb number bestEffort) (eqb stream bestEffortStream) (ltb stream streamCount)
+
+abbrev pub frameFits : ℕ → Frame → Bool
+frameFits number f = sourceFits number (f .stream) && chargeFits (f .charge)
+
+abbrev pub framesFit : List ℕ → List ℕ → Bool
+framesFit p m = allTo (λ q. allOf (frameFits q) (waiting m q (queueAt p q))) allQueues
+
+-- "W not the sum of the charges waiting in best effort"
+abbrev pub waitsFit : List ℕ → List ℕ → Bool
+waitsFit p m = eqb (waitsAt p) (chargesOf (waiting m bestEffort (queueAt p bestEffort)))
+
+-- R, "the sum of the reserved streams' P"
+abbrev pub permittedOf : Stream → ℕ
+permittedOf s = cond (s .reserved) (s .permitted) 0
+
+abbrev pub permittedSum : List ℕ → ℕ
+permittedSum p = sumTo (λ s. permittedOf (streamAt p s)) streamCount
+
+-- "on an open port only, L, K or a P outside its range or a P sum above the share"
+abbrev pub reservationFits : Stream → Bool
+reservationFits s = cond (s .reserved) (permittedFits (s .permitted)) true
+
+abbrev pub planFits : List ℕ → Bool
+planFits p =
+    linkFits (linkAt p)
+    && delayFits (delayAt p)
+    && allTo (λ s. reservationFits (streamAt p s)) streamCount
+    && leb (permittedSum p) (shareOf (linkAt p))
+
+abbrev pub openFits : List ℕ → Bool
+openFits p = cond (openAt p) (planFits p) true

@@ -1,0 +1,41 @@
+-- The ranges of document 01. Each of its numbers stands once.
+use Prim.Native.Nat.{ℕ, _+_, _-_}
+use mathlib.Core.Bool.{Bool, _&&_}
+use lib.Dec.{leb}
+
+-- from the least to the greatest, both included
+abbrev pub within : ℕ → ℕ → ℕ → Bool
+within least greatest n = leb least n && leb n greatest
+
+-- "A charge is 84 to 1,542": the octets that a frame costs on the wire
+abbrev pub leastCharge : ℕ
+leastCharge = 84
+
+abbrev pub greatestCharge : ℕ
+greatestCharge = 1542
+
+abbrev pub chargeFits : ℕ → Bool
+chargeFits = within leastCharge greatestCharge
+
+-- "The share is L − 1,542, which leaves one largest best-effort frame per epoch"
+abbrev pub shareOf : ℕ → ℕ
+shareOf link = link - greatestCharge
+
+abbrev pub greatestShare : ℕ
+greatestShare = 21504
+
+-- "L, link octets in an epoch, 1,626 to 23,046": the share is at least the least charge
+abbrev pub linkFits : ℕ → Bool
+linkFits = within (greatestCharge + leastCharge) (greatestCharge + greatestShare)
+
+-- "K, best-effort delay bound in epochs, 1 to 16"
+abbrev pub delayFits : ℕ → Bool
+delayFits = within 1 16
+
+-- "P below 84" is refused; P has no upper end of its own
+abbrev pub permittedFits : ℕ → Bool
+permittedFits = leb leastCharge
+
+-- "VID outside 1 to 4,094"
+abbrev pub vidFits : ℕ → Bool
+vidFits = within 1 4094

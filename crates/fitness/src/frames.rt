@@ -1,0 +1,66 @@
+// The clause of 19 on the waiting frames.
+use queue::Frame;
+use queue::Queue;
+ghost use mathlib.Core.Path.{_≡_};
+ghost use Prim.Native.Nat.{_≤_, _<_};
+ghost use lib.ListN.{length};
+ghost use Rattle.lists.specs.Turns.{allOf};
+ghost use Rattle.queue.specs.Ring.{HasPart};
+ghost use Rattle.queue.specs.Waiting.{waiting};
+ghost use Rattle.record.specs.Layout.{Whole, memoryLength};
+ghost use Rattle.fitness.specs.Clauses.{sourceFits, frameFits, framesFit};
+
+// The stream of a best-effort frame.
+const BEST_EFFORT_STREAM: u16 = 255;
+
+// Whether a frame of this stream may wait in the queue of this number.
+fn source_fits(number: u8, stream: u16) -> bool
+    ensures { λ r. ⌜ r ≡ sourceFits number stream ⌝ }
+{
+    if number == crate::BEST_EFFORT {
+        return stream == BEST_EFFORT_STREAM;
+    }
+    stream < crate::STREAMS as u16
+}
+
+// Whether the frame may wait in the queue of this number.
+fn frame_fits(number: u8, frame: Frame) -> bool
+    ensures { λ r. ⌜ r ≡ frameFits number frame ⌝ }
+{
+    crate::both(
+        source_fits(number, frame.stream),
+        crate::ranges::charge_fits(frame.charge as u32),
+    )
+}
+
+// Whether every frame that waits in the queue of this number may.
+fn queue_fits(memory: &[u8], number: u8, queue: Queue) -> bool
+    requires { ⌜ HasPart (now memory) number ⌝ }
+    ensures { λ r. ⌜ r ≡ allOf (frameFits number) (waiting (now (memory .entry)) number queue) ⌝ }
+{
+    let count = queue.count;
+    let mut ok = true;
+    let mut i: u16 = 0;
+    while i < count {
+        ok = crate::both(
+            frame_fits(number, queue::frame_at(memory, number, queue, i)),
+            ok,
+        );
+        i += 1;
+    }
+    ok
+}
+
+// Whether every waiting frame may wait where it does.
+pub(crate) fn fit(port: &[u8], memory: &[u8]) -> bool
+    requires { ⌜ Whole (now port) × (memoryLength ≤ length (now memory)) ⌝ }
+    ensures { λ r. ⌜ r ≡ framesFit (now (port .entry)) (now (memory .entry)) ⌝ }
+{
+    let mut ok = true;
+    let mut q: u8 = 0;
+    while q < crate::ALL_QUEUES {
+        ok = crate::both(queue_fits(memory, q, record::head::queue_at(port, q)), ok);
+        q += 1;
+    }
+    ok
+}

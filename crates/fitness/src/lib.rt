@@ -1,0 +1,124 @@
+// Whether the host's record and memory will do: refusals 18 and 19, for a record and a memory of any length and content. The definitions
+// are in specs/, clause by clause in document 01's order.
+mod bindings;
+mod frames;
+mod queues;
+pub mod ranges;
+pub mod streams;
+
+ghost use mathlib.Core.Path.{_≡_};
+ghost use mathlib.Core.Bool.{_&&_};
+ghost use Prim.Native.Nat.{_≤_};
+ghost use lib.ListN.{length};
+ghost use Rattle.record.specs.Layout.{Whole, memoryLength};
+ghost use Rattle.fitness.specs.Clauses.{waitsFit, planFits, openFits};
+ghost use Rattle.fitness.specs.Fit.{recordFits, lentRefusal};
+
+// The octets of a record, and those of the memory.
+const RECORD_LENGTH: usize = 1088;
+
+const MEMORY_LENGTH: usize = 10240;
+
+// The queues of a port: four for reserved traffic, then best effort.
+const QUEUES: u8 = 4;
+
+const BEST_EFFORT: u8 = QUEUES;
+
+const ALL_QUEUES: u8 = QUEUES + 1;
+
+// The streams of a port.
+const STREAMS: u8 = 64;
+
+// The refusals of a memory that is too short and of a record that is unfit.
+const SHORT_MEMORY: u8 = 18;
+
+const UNFIT_RECORD: u8 = 19;
+
+// Whether both hold.
+fn both(one: bool, other: bool) -> bool
+    ensures { λ r. ⌜ r ≡ (one && other) ⌝ }
+{
+    if one {
+        return other;
+    }
+    false
+}
+
+// Whether W is the sum of the charges waiting in best effort.
+fn waits_fit(port: &[u8], memory: &[u8]) -> bool
+    requires { ⌜ Whole (now port) × (memoryLength ≤ length (now memory)) ⌝ }
+    ensures { λ r. ⌜ r ≡ waitsFit (now (port .entry)) (now (memory .entry)) ⌝ }
+{
+    let queue = record::head::queue_at(port, BEST_EFFORT);
+    record::head::waits(port) == queue::charges(memory, BEST_EFFORT, queue)
+}
+
+// Whether L, K, every P and their sum are in their ranges.
+fn plan_fits(port: &[u8]) -> bool
+    requires { ⌜ Whole (now port) ⌝ }
+    ensures { λ r. ⌜ r ≡ planFits (now (port .entry)) ⌝ }
+{
+    if !ranges::link_fits(record::head::link(port) as u32) {
+        return false;
+    }
+    if !ranges::delay_fits(record::head::delay(port) as u32) {
+        return false;
+    }
+    if !streams::reservations_fit(port) {
+        return false;
+    }
+    streams::permitted_sum(port) <= ranges::share(record::head::link(port))
+}
+
+// The clause on open ports only.
+fn open_fits(port: &[u8]) -> bool
+    requires { ⌜ Whole (now port) ⌝ }
+    ensures { λ r. ⌜ r ≡ openFits (now (port .entry)) ⌝ }
+{
+    if record::head::is_open(port) {
+        return plan_fits(port);
+    }
+    true
+}
+
+// Whether the record is fit, clause by clause.
+fn record_fits(port: &[u8], memory: &[u8]) -> bool
+    requires { ⌜ memoryLength ≤ length (now memory) ⌝ }
+    ensures { λ r. ⌜ r ≡ recordFits (now (port .entry)) (now (memory .entry)) ⌝ }
+{
+    if port.len() < RECORD_LENGTH {
+        return false;
+    }
+    if QUEUES <= record::head::prior(port) {
+        return false;
+    }
+    if !queues::fit(port) {
+        return false;
+    }
+    if !streams::fit(port) {
+        return false;
+    }
+    if !bindings::fit(port) {
+        return false;
+    }
+    if !frames::fit(port, memory) {
+        return false;
+    }
+    if !waits_fit(port, memory) {
+        return false;
+    }
+    open_fits(port)
+}
+
+// The refusal of what the host lends: 18, 19, or 0 where both will do.
+pub fn refusal(port: &[u8], memory: &[u8]) -> u8
+    ensures { λ r. ⌜ r ≡ lentRefusal (now (port .entry)) (now (memory .entry)) ⌝ }
+{
+    if memory.len() < MEMORY_LENGTH {
+        return SHORT_MEMORY;
+    }
+    if record_fits(port, memory) {
+        return 0;
+    }
+    UNFIT_RECORD
+}
