@@ -61,7 +61,7 @@ fn scan(port: &[u8], pairs: &mut [u64]) -> bool
     let mut ok = true;
     let mut count: usize = 0;
     let mut s: u8 = 0;
-    while s < crate::STREAMS {
+    while s < record::STREAMS {
         ok = crate::both(binding_fits(port, s, pairs, count), ok);
         count = gather(port, s, pairs, count);
         s += 1;
@@ -74,6 +74,6 @@ pub(crate) fn fit(port: &[u8]) -> bool
     requires { ⌜ Whole (now port) ⌝ }
     ensures { λ r. ⌜ r ≡ bindingsFit (now (port .entry)) ⌝ }
 {
-    let mut pairs = [0u64; 64];
+    let mut pairs = [0u64; record::STREAMS as usize];
     scan(port, &mut pairs)
 }

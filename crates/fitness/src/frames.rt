@@ -17,10 +17,10 @@ const BEST_EFFORT_STREAM: u16 = 255;
 fn source_fits(number: u8, stream: u16) -> bool
     ensures { λ r. ⌜ r ≡ sourceFits number stream ⌝ }
 {
-    if number == crate::BEST_EFFORT {
+    if number == record::BEST_EFFORT {
         return stream == BEST_EFFORT_STREAM;
     }
-    stream < crate::STREAMS as u16
+    stream < record::STREAMS as u16
 }
 
 // Whether the frame may wait in the queue of this number.
@@ -58,7 +58,7 @@ pub(crate) fn fit(port: &[u8], memory: &[u8]) -> bool
 {
     let mut ok = true;
     let mut q: u8 = 0;
-    while q < crate::ALL_QUEUES {
+    while q < record::ALL_QUEUES {
         ok = crate::both(queue_fits(memory, q, record::head::queue_at(port, q)), ok);
         q += 1;
     }

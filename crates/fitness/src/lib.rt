@@ -14,21 +14,6 @@ ghost use Rattle.record.specs.Layout.{Whole, memoryLength};
 ghost use Rattle.fitness.specs.Clauses.{waitsFit, planFits, openFits};
 ghost use Rattle.fitness.specs.Fit.{recordFits, lentRefusal};
 
-// The octets of a record, and those of the memory.
-const RECORD_LENGTH: usize = 1088;
-
-const MEMORY_LENGTH: usize = 10240;
-
-// The queues of a port: four for reserved traffic, then best effort.
-const QUEUES: u8 = 4;
-
-const BEST_EFFORT: u8 = QUEUES;
-
-const ALL_QUEUES: u8 = QUEUES + 1;
-
-// The streams of a port.
-const STREAMS: u8 = 64;
-
 // The refusals of a memory that is too short and of a record that is unfit.
 const SHORT_MEMORY: u8 = 18;
 
@@ -49,8 +34,8 @@ fn waits_fit(port: &[u8], memory: &[u8]) -> bool
     requires { ⌜ Whole (now port) × (memoryLength ≤ length (now memory)) ⌝ }
     ensures { λ r. ⌜ r ≡ waitsFit (now (port .entry)) (now (memory .entry)) ⌝ }
 {
-    let queue = record::head::queue_at(port, BEST_EFFORT);
-    record::head::waits(port) == queue::charges(memory, BEST_EFFORT, queue)
+    let queue = record::head::queue_at(port, record::BEST_EFFORT);
+    record::head::waits(port) == queue::charges(memory, record::BEST_EFFORT, queue)
 }
 
 // Whether L, K, every P and their sum are in their ranges.
@@ -86,10 +71,10 @@ fn record_fits(port: &[u8], memory: &[u8]) -> bool
     requires { ⌜ memoryLength ≤ length (now memory) ⌝ }
     ensures { λ r. ⌜ r ≡ recordFits (now (port .entry)) (now (memory .entry)) ⌝ }
 {
-    if port.len() < RECORD_LENGTH {
+    if port.len() < record::RECORD_LENGTH {
         return false;
     }
-    if QUEUES <= record::head::prior(port) {
+    if record::QUEUES <= record::head::prior(port) {
         return false;
     }
     if !queues::fit(port) {
@@ -114,7 +99,7 @@ fn record_fits(port: &[u8], memory: &[u8]) -> bool
 pub fn refusal(port: &[u8], memory: &[u8]) -> u8
     ensures { λ r. ⌜ r ≡ lentRefusal (now (port .entry)) (now (memory .entry)) ⌝ }
 {
-    if memory.len() < MEMORY_LENGTH {
+    if memory.len() < record::MEMORY_LENGTH {
         return SHORT_MEMORY;
     }
     if record_fits(port, memory) {

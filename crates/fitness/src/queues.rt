@@ -4,14 +4,11 @@ ghost use mathlib.Core.Path.{_≡_};
 ghost use Rattle.record.specs.Layout.{Whole};
 ghost use Rattle.fitness.specs.Clauses.{queueFits, queuesFit};
 
-// The places of a queue.
-const PLACES: u16 = 256;
-
 // Whether the queue's start and count are in their ranges.
 fn queue_fits(queue: Queue) -> bool
     ensures { λ r. ⌜ r ≡ queueFits queue ⌝ }
 {
-    crate::both(queue.start < PLACES, queue.count <= PLACES)
+    crate::both(queue.start < queue::PLACES, queue.count <= queue::PLACES)
 }
 
 // Whether every queue's are.
@@ -21,7 +18,7 @@ pub(crate) fn fit(port: &[u8]) -> bool
 {
     let mut ok = true;
     let mut q: u8 = 0;
-    while q < crate::ALL_QUEUES {
+    while q < record::ALL_QUEUES {
         ok = crate::both(queue_fits(record::head::queue_at(port, q)), ok);
         q += 1;
     }

@@ -7,10 +7,10 @@ ghost use Rattle.record.specs.Layout.{Whole, streamCount};
 ghost use Rattle.record.specs.Entry.{streamAt};
 ghost use Rattle.fitness.specs.Clauses.{streamFits, streamsFit, permittedOf, permittedSum, reservationFits};
 
-// The first and the last place.
-const CURRENT: u32 = 1;
+// The first and the last place, as the ranges take numbers.
+const CURRENT: u32 = stream::CURRENT as u32;
 
-const LAST: u32 = 3;
+const LAST: u32 = stream::LAST as u32;
 
 // Whether the stream, if it is reserved, has a place and at most P left.
 fn stream_fits(stream: Stream) -> bool
@@ -30,7 +30,7 @@ pub(crate) fn fit(port: &[u8]) -> bool
 {
     let mut ok = true;
     let mut s: u8 = 0;
-    while s < crate::STREAMS {
+    while s < record::STREAMS {
         ok = crate::both(stream_fits(record::entry::stream_at(port, s)), ok);
         s += 1;
     }
@@ -54,7 +54,7 @@ pub(crate) fn reservations_fit(port: &[u8]) -> bool
 {
     let mut ok = true;
     let mut s: u8 = 0;
-    while s < crate::STREAMS {
+    while s < record::STREAMS {
         ok = crate::both(reservation_fits(record::entry::stream_at(port, s)), ok);
         s += 1;
     }
@@ -78,7 +78,7 @@ pub fn permitted_sum(port: &[u8]) -> u32
 {
     let mut sum: u32 = 0;
     let mut s: u8 = 0;
-    while s < crate::STREAMS {
+    while s < record::STREAMS {
         sum += permitted(record::entry::stream_at(port, s)) as u32;
         s += 1;
     }

@@ -10,9 +10,11 @@ ghost use Rattle.queue.specs.Ring.{placeCount, partLength, HasPart, plac
 ghost use Rattle.queue.specs.Waiting.{waiting, chargesOf};
 
 // The places of a queue, and the octets of its part of the memory.
-const PLACE_COUNT: usize = 256;
+pub const PLACES: u16 = 256;
 
-const PART_LENGTH: usize = PLACE_COUNT * place::LENGTH;
+const PLACE_COUNT: usize = PLACES as usize;
+
+pub const PART_LENGTH: usize = PLACE_COUNT * place::LENGTH;
 
 // A frame by its stream, its charge (the octets that it costs on the wire) and its tag (the caller's number for it).
 pub struct Frame {

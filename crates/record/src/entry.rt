@@ -7,9 +7,9 @@ ghost use Rattle.record.specs.Layout.{Whole, streamCount, entryOffset};
 ghost use Rattle.record.specs.Entry.{streamAt, withStream, withPlace, boundAt, vidAt, pairAt, dropped};
 
 // Where the entries begin, and the octets of one.
-const ENTRIES: usize = 64;
+pub(crate) const START: usize = 64;
 
-const LENGTH: usize = 16;
+pub(crate) const LENGTH: usize = 16;
 
 // Where the fields of an entry begin; whether the stream is reserved stands first.
 const PLACE: usize = 1;
@@ -26,7 +26,7 @@ const PAIR: usize = 8;
 fn start(stream: u8) -> usize
     ensures { λ r. ⌜ r ≡ entryOffset stream ⌝ }
 {
-    ENTRIES + stream as usize * LENGTH
+    START + stream as usize * LENGTH
 }
 
 // The stream's reservation.

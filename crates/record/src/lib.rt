@@ -8,6 +8,22 @@ ghost use Prim.Native.Nat.{_<_};
 ghost use lib.ListN.{length};
 ghost use Rattle.lists.specs.Window.{put};
 
+// The queues for reserved traffic; the queue for best effort has the number after theirs.
+pub const QUEUES: u8 = 4;
+
+pub const BEST_EFFORT: u8 = QUEUES;
+
+// The queues of a port: those for reserved traffic and best effort.
+pub const ALL_QUEUES: u8 = QUEUES + 1;
+
+// The streams of a port.
+pub const STREAMS: u8 = 64;
+
+// The octets of a record, and those of the memory.
+pub const RECORD_LENGTH: usize = entry::START + STREAMS as usize * entry::LENGTH;
+
+pub const MEMORY_LENGTH: usize = ALL_QUEUES as usize * queue::PART_LENGTH;
+
 // An octet as a flag: 1 is yes, any other no.
 const YES: u8 = 1;
 

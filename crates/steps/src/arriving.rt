@@ -10,9 +10,6 @@ ghost use Rattle.record.specs.Layout.{Whole, streamCount, queueCount, memoryLen
 ghost use Rattle.steps.specs.Outcome.{outcome};
 ghost use Rattle.steps.specs.Arriving.{moved, joinedInto, arriveStep};
 
-// The places of a queue.
-const PLACES: u16 = 256;
-
 // The refusals of a discarded frame and of a full queue.
 const DISCARD: u8 = 14;
 
@@ -40,7 +37,7 @@ fn join(
     ensures { λ r. ⌜ outcome r (now (port .exit)) (now (memory .exit)) ≡ joinedInto (now (port .entry)) (now (memory .entry)) stream place next number frame ⌝ }
 {
     let queue = record::head::queue_at(port, number);
-    if PLACES <= queue.count {
+    if queue::PLACES <= queue.count {
         return crate::refused(FULL);
     }
     move_to(port, stream, next);

@@ -12,20 +12,10 @@ ghost use Rattle.stream.specs.Replies.{granted, refusedBy};
 ghost use Rattle.record.specs.Layout.{Whole, queueCount};
 ghost use Rattle.steps.specs.Roles.{roleAt};
 
-// The queues for reserved traffic; the queue for best effort has the number after theirs.
-const QUEUES: u8 = 4;
-
-const BEST_EFFORT: u8 = QUEUES;
-
-const ALL_QUEUES: u8 = QUEUES + 1;
-
-// The streams of a port.
-const STREAMS: u8 = 64;
-
 // The roles prior and current; the roles from current on have the numbers of the places.
 const PRIOR: u8 = 0;
 
-const CURRENT: u8 = 1;
+const CURRENT: u8 = stream::CURRENT;
 
 // The reply of a call that is not refused.
 fn granted(first: u32, second: u32) -> Reply
@@ -54,5 +44,5 @@ fn in_role(port: &[u8], role: u8) -> u8
     requires { ⌜ Whole (now port) ⌝ }
     ensures { λ r. ⌜ (r ≡ roleAt (now (port .entry)) role) × (r < queueCount) ⌝ }
 {
-    ((record::head::prior(port) as u16 + role as u16) % QUEUES as u16) as u8
+    ((record::head::prior(port) as u16 + role as u16) % record::QUEUES as u16) as u8
 }

@@ -27,7 +27,7 @@ fn empty_queues(port: &mut [u8])
     ensures { λ _. ⌜ now (port .exit) ≡ allEmptied (now (port .entry)) ⌝ }
 {
     let mut q: u8 = 0;
-    while q < crate::ALL_QUEUES {
+    while q < record::ALL_QUEUES {
         record::head::put_queue(port, q, Queue::empty());
         q += 1;
     }
@@ -39,7 +39,7 @@ fn drop_streams(port: &mut [u8])
     ensures { λ _. ⌜ now (port .exit) ≡ allDropped (now (port .entry)) ⌝ }
 {
     let mut s: u8 = 0;
-    while s < crate::STREAMS {
+    while s < record::STREAMS {
         record::entry::drop_stream(port, s);
         s += 1;
     }

@@ -36,9 +36,9 @@ fn send_best_effort(port: &mut [u8], memory: &[u8], queue: Queue) -> Reply
     requires { ⌜ Whole (now port) × ((memoryLength ≤ length (now memory)) × (0 < queue .count)) ⌝ }
     ensures { λ r. ⌜ outcome r (now (port .exit)) (now (memory .entry)) ≡ sentBestEffort (now (port .entry)) (now (memory .entry)) queue ⌝ }
 {
-    let frame = queue::front_at(memory, crate::BEST_EFFORT, queue);
+    let frame = queue::front_at(memory, record::BEST_EFFORT, queue);
     let waits = less(record::head::waits(port), frame.charge);
-    record::head::put_queue(port, crate::BEST_EFFORT, queue.sent());
+    record::head::put_queue(port, record::BEST_EFFORT, queue.sent());
     record::head::put_waits(port, waits);
     crate::granted(frame.stream as u32, frame.tag)
 }
@@ -58,7 +58,7 @@ pub fn transmit(port: &mut [u8], memory: &[u8]) -> Reply
     if in_current.count != 0 {
         return send(port, memory, current, in_current);
     }
-    let in_best_effort = record::head::queue_at(port, crate::BEST_EFFORT);
+    let in_best_effort = record::head::queue_at(port, record::BEST_EFFORT);
     if in_best_effort.count != 0 {
         return send_best_effort(port, memory, in_best_effort);
     }

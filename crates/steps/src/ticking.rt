@@ -26,7 +26,7 @@ fn tick_streams(port: &mut [u8])
     ensures { λ _. ⌜ now (port .exit) ≡ streamsTicked (now (port .entry)) ⌝ }
 {
     let mut s: u8 = 0;
-    while s < crate::STREAMS {
+    while s < record::STREAMS {
         tick_stream(port, s);
         s += 1;
     }

@@ -7,10 +7,10 @@ ghost use Rattle.stream.specs.Steps.{advanced, advancedIfSpent, joined, 
 ghost use Rattle.stream.specs.Replies.{replyOf};
 
 // The first place, current.
-const CURRENT: u8 = 1;
+pub const CURRENT: u8 = 1;
 
 // The last place of a port with four queues.
-const LAST: u8 = 3;
+pub const LAST: u8 = 3;
 
 // The refusal of a discarded frame.
 const DISCARD: u8 = 14;

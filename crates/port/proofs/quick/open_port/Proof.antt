@@ -1,0 +1,48 @@
+use borrow.Author.Needs.{needs}
+use Rattle.port.proofs.quick.open_port.Statement.{statement}
+use Rattle.port.proofs.quick.open_port.Tie as tie
+use Rattle.port.proofs.quick.open_port.Reads as reads
+use Rattle.port.proofs.quick.open_port.Lts as lts
+use Rattle.port.proofs.allowed.open_port.Reads as open-port-reads
+use Rattle.port.proofs.quick.lengths.Reads as lengths-reads
+use Rattle.steps.proofs.refused.Reads as refused-reads
+
+-- src/quick.rt:29:9
+lengths-requires : tie.Need-lengths-requires
+lengths-requires c κs = search needs
+
+-- src/quick.rt:31:9
+refused-requires : tie.Need-refused-requires
+refused-requires c κs = search needs
+
+-- src/quick.rt:31:9
+same-length : tie.Need-same-length
+same-length c = search needs
+
+-- src/quick.rt:31:9
+returns : tie.Need-returns
+returns c = ?
+
+-- src/quick.rt:33:5
+open-port-requires : tie.Need-open-port-requires
+open-port-requires c κs = ?
+
+-- src/quick.rt:26:1
+same-length-2 : tie.Need-same-length-2
+same-length-2 c = search needs
+
+-- src/quick.rt:26:1
+returns-2 : tie.Need-returns-2
+returns-2 c = ?
+
+pub open-port-spec : {M : Type 1} → statement M
+open-port-spec =
+    tie.close
+    (tie.spec
+    lengths-requires
+    refused-requires
+    same-length
+    returns
+    open-port-requires
+    same-length-2
+    returns-2)

@@ -1,0 +1,29 @@
+-- The quick calls, for a host that alone writes the record: of 18 and 19 they ask only the two lengths, and scan nothing. On a fit record each
+-- equals the call; on any other it is what is said here.
+use Prim.Native.Nat.{ℕ}
+use mathlib.Core.Bool.{cond}
+use mathlib.Core.List.{List}
+use lib.ListN.{length}
+use lib.Dec.{ltb}
+use Rattle.record.specs.Layout.{recordLength, memoryLength}
+use Rattle.steps.specs.Outcome.{Outcome}
+use Rattle.port.specs.Calls.{gated, opens, reserves, arrives, ticks, transmits}
+
+-- 18 where the memory is too short, 19 where the record is
+unfoldable pub lengthRefusal : List ℕ → List ℕ → ℕ
+lengthRefusal p m = cond (ltb (length m) memoryLength) 18 (cond (ltb (length p) recordLength) 19 0)
+
+abbrev pub quickOpen : List ℕ → List ℕ → ℕ → ℕ → Outcome
+quickOpen p m link delay = gated (lengthRefusal p m) p m (opens p m link delay)
+
+abbrev pub quickReserve : List ℕ → List ℕ → ℕ → ℕ → Outcome
+quickReserve p m s permitted = gated (lengthRefusal p m) p m (reserves p m s permitted)
+
+abbrev pub quickArrive : List ℕ → List ℕ → ℕ → ℕ → ℕ → Outcome
+quickArrive p m s charge tag = gated (lengthRefusal p m) p m (arrives p m s charge tag)
+
+abbrev pub quickTick : List ℕ → List ℕ → Outcome
+quickTick p m = gated (lengthRefusal p m) p m (ticks p m)
+
+abbrev pub quickTransmit : List ℕ → List ℕ → Outcome
+quickTransmit p m = gated (lengthRefusal p m) p m (transmits p m)

@@ -1,0 +1,65 @@
+// The calls of a port, over the record and the memory that the host lends: Open, Reserve, Arrive, Tick and Transmit, each with all of document
+// 01's checks. None asks anything of its caller. The definitions are in specs/.
+mod allowed;
+mod gates;
+pub mod quick;
+
+use stream::Reply;
+ghost use mathlib.Core.Path.{_≡_};
+ghost use Rattle.steps.specs.Outcome.{outcome};
+ghost use Rattle.port.specs.Calls.{openCall, reserveCall, arriveCall, tickCall, transmitCall};
+
+// Open(L, K).
+pub fn open_port(port: &mut [u8], memory: &[u8], link: u32, delay: u32) -> Reply
+    ensures { λ r. ⌜ outcome r (now (port .exit)) (now (memory .entry)) ≡ openCall (now (port .entry)) (now (memory .entry)) link delay ⌝ }
+{
+    let refusal = fitness::refusal(port, memory);
+    if refusal != 0 {
+        return steps::refused(refusal);
+    }
+    allowed::open_port(port, memory, link, delay)
+}
+
+// Reserve(s, P).
+pub fn reserve(port: &mut [u8], memory: &[u8], stream: u8, permitted: u32) -> Reply
+    ensures { λ r. ⌜ outcome r (now (port .exit)) (now (memory .entry)) ≡ reserveCall (now (port .entry)) (now (memory .entry)) stream permitted ⌝ }
+{
+    let refusal = fitness::refusal(port, memory);
+    if refusal != 0 {
+        return steps::refused(refusal);
+    }
+    allowed::reserve(port, memory, stream, permitted)
+}
+
+// Arrive(s, a, tag).
+pub fn arrive(port: &mut [u8], memory: &mut [u8], stream: u8, charge: u32, tag: u32) -> Reply
+    ensures { λ r. ⌜ outcome r (now (port .exit)) (now (memory .exit)) ≡ arriveCall (now (port .entry)) (now (memory .entry)) stream charge tag ⌝ }
+{
+    let refusal = fitness::refusal(port, memory);
+    if refusal != 0 {
+        return steps::refused(refusal);
+    }
+    allowed::arrive(port, memory, stream, charge, tag)
+}
+
+// Tick.
+pub fn tick(port: &mut [u8], memory: &[u8]) -> Reply
+    ensures { λ r. ⌜ outcome r (now (port .exit)) (now (memory .entry)) ≡ tickCall (now (port .entry)) (now (memory .entry)) ⌝ }
+{
+    let refusal = fitness::refusal(port, memory);
+    if refusal != 0 {
+        return steps::refused(refusal);
+    }
+    allowed::tick(port, memory)
+}
+
+// Transmit.
+pub fn transmit(port: &mut [u8], memory: &[u8]) -> Reply
+    ensures { λ r. ⌜ outcome r (now (port .exit)) (now (memory .entry)) ≡ transmitCall (now (port .entry)) (now (memory .entry)) ⌝ }
+{
+    let refusal = fitness::refusal(port, memory);
+    if refusal != 0 {
+        return steps::refused(refusal);
+    }
+    allowed::transmit(port, memory)
+}

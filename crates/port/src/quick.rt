@@ -1,0 +1,78 @@
+// The quick calls, for a host that alone writes the record: nothing is scanned. On a fit record each equals the call of the same name.
+use stream::Reply;
+ghost use mathlib.Core.Path.{_≡_};
+ghost use Rattle.steps.specs.Outcome.{outcome};
+ghost use Rattle.port.specs.Quick.{lengthRefusal, quickOpen, quickReserve, quickArrive, quickTick, quickTransmit};
+
+// The refusals of a memory and of a record that are too short.
+const SHORT_MEMORY: u8 = 18;
+
+const SHORT_RECORD: u8 = 19;
+
+// The refusal of a memory or record that is too short, or 0.
+fn lengths(port: &[u8], memory: &[u8]) -> u8
+    ensures { λ r. ⌜ r ≡ lengthRefusal (now (port .entry)) (now (memory .entry)) ⌝ }
+{
+    if memory.len() < record::MEMORY_LENGTH {
+        return SHORT_MEMORY;
+    }
+    if port.len() < record::RECORD_LENGTH {
+        return SHORT_RECORD;
+    }
+    0
+}
+
+// Open(L, K).
+pub fn open_port(port: &mut [u8], memory: &[u8], link: u32, delay: u32) -> Reply
+    ensures { λ r. ⌜ outcome r (now (port .exit)) (now (memory .entry)) ≡ quickOpen (now (port .entry)) (now (memory .entry)) link delay ⌝ }
+{
+    let refusal = lengths(port, memory);
+    if refusal != 0 {
+        return steps::refused(refusal);
+    }
+    crate::allowed::open_port(port, memory, link, delay)
+}
+
+// Reserve(s, P).
+pub fn reserve(port: &mut [u8], memory: &[u8], stream: u8, permitted: u32) -> Reply
+    ensures { λ r. ⌜ outcome r (now (port .exit)) (now (memory .entry)) ≡ quickReserve (now (port .entry)) (now (memory .entry)) stream permitted ⌝ }
+{
+    let refusal = lengths(port, memory);
+    if refusal != 0 {
+        return steps::refused(refusal);
+    }
+    crate::allowed::reserve(port, memory, stream, permitted)
+}
+
+// Arrive(s, a, tag).
+pub fn arrive(port: &mut [u8], memory: &mut [u8], stream: u8, charge: u32, tag: u32) -> Reply
+    ensures { λ r. ⌜ outcome r (now (port .exit)) (now (memory .exit)) ≡ quickArrive (now (port .entry)) (now (memory .entry)) stream charge tag ⌝ }
+{
+    let refusal = lengths(port, memory);
+    if refusal != 0 {
+        return steps::refused(refusal);
+    }
+    crate::allowed::arrive(port, memory, stream, charge, tag)
+}
+
+// Tick.
+pub fn tick(port: &mut [u8], memory: &[u8]) -> Reply
+    ensures { λ r. ⌜ outcome r (now (port .exit)) (now (memory .entry)) ≡ quickTick (now (port .entry)) (now (memory .entry)) ⌝ }
+{
+    let refusal = lengths(port, memory);
+    if refusal != 0 {
+        return steps::refused(refusal);
+    }
+    crate::allowed::tick(port, memory)
+}
+
+// Transmit.
+pub fn transmit(port: &mut [u8], memory: &[u8]) -> Reply
+    ensures { λ r. ⌜ outcome r (now (port .exit)) (now (memory .entry)) ≡ quickTransmit (now (port .entry)) (now (memory .entry)) ⌝ }
+{
+    let refusal = lengths(port, memory);
+    if refusal != 0 {
+        return steps::refused(refusal);
+    }
+    crate::allowed::transmit(port, memory)
+}
