@@ -1,5 +1,6 @@
 // What each call refuses of a record and memory that will do: the number of the first refusal that applies, or 0.
 ghost use mathlib.Core.Path.{_≡_};
+ghost use Prim.Native.Nat.{_<_};
 ghost use Rattle.record.specs.Layout.{Whole};
 ghost use Rattle.port.specs.Gates.{openRefusal, reserveRefusal, arriveRefusal, closedRefusal};
 
@@ -41,10 +42,10 @@ pub(crate) fn open_port(port: &[u8], link: u32, delay: u32) -> u8
     0
 }
 
-// The gate of Reserve.
+// The gate of Reserve. Where it refuses nothing, P is a number of 16 bits, since L is.
 pub(crate) fn reserve(port: &[u8], stream: u8, permitted: u32) -> u8
     requires { ⌜ Whole (now port) ⌝ }
-    ensures { λ r. ⌜ r ≡ reserveRefusal (now (port .entry)) stream permitted ⌝ }
+    ensures { λ r. ⌜ (r ≡ reserveRefusal (now (port .entry)) stream permitted) × (r ≡ 0 → permitted < 65536) ⌝ }
 {
     if !record::head::is_open(port) {
         return CLOSED;

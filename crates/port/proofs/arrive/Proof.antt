@@ -1,47 +1,54 @@
+-- `port::arrive` meets its contract. By 18 and 19; then the rest of the call. Assumes nothing.
+use Prim.Native.Nat.{ℕ}
+use mathlib.Core.Path.{refl, _∙_, ap, sym}
 use borrow.Author.Needs.{needs}
+use Rattle.steps.proofs.OutcomeLaws.{same-outcome}
+use Rattle.port.specs.Calls.{gated, arrives}
+use Rattle.port.proofs.GateLaws.{grants, refuses, lent-enough}
 use Rattle.port.proofs.arrive.Statement.{statement}
 use Rattle.port.proofs.arrive.Tie as tie
-use Rattle.port.proofs.arrive.Reads as reads
-use Rattle.port.proofs.arrive.Lts as lts
-use Rattle.fitness.proofs.refusal.Reads as refusal-reads
-use Rattle.port.proofs.allowed.arrive.Reads as arrive-reads
-use Rattle.steps.proofs.refused.Reads as refused-reads
 
--- src/lib.rt:38:9
 refusal-requires : tie.Need-refusal-requires
 refusal-requires c κs = search needs
 
--- src/lib.rt:40:9
 refused-requires : tie.Need-refused-requires
 refused-requires c κs = search needs
 
--- src/lib.rt:40:9
 same-length : tie.Need-same-length
 same-length c = search needs
 
--- src/lib.rt:40:9
 same-length-2 : tie.Need-same-length-2
 same-length-2 c = search needs
 
--- src/lib.rt:40:9
 returns : tie.Need-returns
-returns c = ?
+returns c = 
+    let a = c .before .before .before .before .before .before .before .args in
+    let p = a .port .now in
+    let m = a .memory .now in
+    same-outcome _ _ _ _ _ _ (c .refused .ensures) refl refl
+    ∙ sym (refuses (c .before .before .refusal .result) p m (arrives p m (a .stream) (a .charge) (a .tag)) (c .before .if1 .taken))
+    ∙ ap (λ (g : ℕ). gated g p m (arrives p m (a .stream) (a .charge) (a .tag))) (c .before .before .refusal .ensures)
 
--- src/lib.rt:42:5
 arrive-requires : tie.Need-arrive-requires
-arrive-requires c κs = ?
+arrive-requires c κs = 
+    let a = c .before .before .before .before .before .before .before .before .args in
+    let long = lent-enough (a .port .now) (a .memory .now) (sym (c .before .before .before .refusal .ensures) ∙ c .before .before .if1 .left) in
+    (long .long-record, long .long-memory)
 
--- src/lib.rt:35:1
 same-length-3 : tie.Need-same-length-3
 same-length-3 c = search needs
 
--- src/lib.rt:35:1
 same-length-4 : tie.Need-same-length-4
 same-length-4 c = search needs
 
--- src/lib.rt:35:1
 returns-2 : tie.Need-returns-2
-returns-2 c = ?
+returns-2 c = 
+    let a = c .before .before .before .before .before .before .before .before .before .before .before .before .before .args in
+    let p = a .port .now in
+    let m = a .memory .now in
+    c .before .before .before .before .arrive .ensures
+    ∙ sym (grants (c .before .before .before .before .before .before .before .before .refusal .result) p m (arrives p m (a .stream) (a .charge) (a .tag)) (c .before .before .before .before .before .before .before .if1 .left))
+    ∙ ap (λ (g : ℕ). gated g p m (arrives p m (a .stream) (a .charge) (a .tag))) (c .before .before .before .before .before .before .before .before .refusal .ensures)
 
 pub arrive-spec : {M : Type 1} → statement M
 arrive-spec =

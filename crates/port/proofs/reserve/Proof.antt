@@ -1,39 +1,47 @@
+-- `port::reserve` meets its contract. By 18 and 19; then the rest of the call. Assumes nothing.
+use Prim.Native.Nat.{ℕ}
+use mathlib.Core.Path.{refl, _∙_, ap, sym}
 use borrow.Author.Needs.{needs}
+use Rattle.steps.proofs.OutcomeLaws.{same-outcome}
+use Rattle.port.specs.Calls.{gated, reserves}
+use Rattle.port.proofs.GateLaws.{grants, refuses, lent-enough}
 use Rattle.port.proofs.reserve.Statement.{statement}
 use Rattle.port.proofs.reserve.Tie as tie
-use Rattle.port.proofs.reserve.Reads as reads
-use Rattle.port.proofs.reserve.Lts as lts
-use Rattle.fitness.proofs.refusal.Reads as refusal-reads
-use Rattle.port.proofs.allowed.reserve.Reads as reserve-reads
-use Rattle.steps.proofs.refused.Reads as refused-reads
 
--- src/lib.rt:27:9
 refusal-requires : tie.Need-refusal-requires
 refusal-requires c κs = search needs
 
--- src/lib.rt:29:9
 refused-requires : tie.Need-refused-requires
 refused-requires c κs = search needs
 
--- src/lib.rt:29:9
 same-length : tie.Need-same-length
 same-length c = search needs
 
--- src/lib.rt:29:9
 returns : tie.Need-returns
-returns c = ?
+returns c = 
+    let a = c .before .before .before .before .before .before .args in
+    let p = a .port .now in
+    let m = a .memory .now in
+    same-outcome _ _ _ _ _ _ (c .refused .ensures) refl refl
+    ∙ sym (refuses (c .before .before .refusal .result) p m (reserves p m (a .stream) (a .permitted)) (c .before .if1 .taken))
+    ∙ ap (λ (g : ℕ). gated g p m (reserves p m (a .stream) (a .permitted))) (c .before .before .refusal .ensures)
 
--- src/lib.rt:31:5
 reserve-requires : tie.Need-reserve-requires
-reserve-requires c κs = ?
+reserve-requires c κs = 
+    let a = c .before .before .before .before .before .before .args in
+    (lent-enough (a .port .now) (a .memory .now) (sym (c .before .before .refusal .ensures) ∙ c .before .if1 .left)) .long-record
 
--- src/lib.rt:24:1
 same-length-2 : tie.Need-same-length-2
 same-length-2 c = search needs
 
--- src/lib.rt:24:1
 returns-2 : tie.Need-returns-2
-returns-2 c = ?
+returns-2 c = 
+    let a = c .before .before .before .before .before .before .before .before .before .args in
+    let p = a .port .now in
+    let m = a .memory .now in
+    c .before .before .reserve .ensures
+    ∙ sym (grants (c .before .before .before .before .before .refusal .result) p m (reserves p m (a .stream) (a .permitted)) (c .before .before .before .before .if1 .left))
+    ∙ ap (λ (g : ℕ). gated g p m (reserves p m (a .stream) (a .permitted))) (c .before .before .before .before .before .refusal .ensures)
 
 pub reserve-spec : {M : Type 1} → statement M
 reserve-spec =

@@ -1,39 +1,48 @@
+-- `port::transmit` meets its contract. By 18 and 19; then the rest of the call. Assumes nothing.
+use Prim.Native.Nat.{ℕ}
+use mathlib.Core.Path.{refl, _∙_, ap, sym}
 use borrow.Author.Needs.{needs}
+use Rattle.steps.proofs.OutcomeLaws.{same-outcome}
+use Rattle.port.specs.Calls.{gated, transmits}
+use Rattle.port.proofs.GateLaws.{grants, refuses, lent-enough}
 use Rattle.port.proofs.transmit.Statement.{statement}
 use Rattle.port.proofs.transmit.Tie as tie
-use Rattle.port.proofs.transmit.Reads as reads
-use Rattle.port.proofs.transmit.Lts as lts
-use Rattle.fitness.proofs.refusal.Reads as refusal-reads
-use Rattle.port.proofs.allowed.transmit.Reads as transmit-reads
-use Rattle.steps.proofs.refused.Reads as refused-reads
 
--- src/lib.rt:60:9
 refusal-requires : tie.Need-refusal-requires
 refusal-requires c κs = search needs
 
--- src/lib.rt:62:9
 refused-requires : tie.Need-refused-requires
 refused-requires c κs = search needs
 
--- src/lib.rt:62:9
 same-length : tie.Need-same-length
 same-length c = search needs
 
--- src/lib.rt:62:9
 returns : tie.Need-returns
-returns c = ?
+returns c = 
+    let a = c .before .before .before .before .before .before .args in
+    let p = a .port .now in
+    let m = a .memory .now in
+    same-outcome _ _ _ _ _ _ (c .refused .ensures) refl refl
+    ∙ sym (refuses (c .before .before .refusal .result) p m (transmits p m) (c .before .if1 .taken))
+    ∙ ap (λ (g : ℕ). gated g p m (transmits p m)) (c .before .before .refusal .ensures)
 
--- src/lib.rt:64:5
 transmit-requires : tie.Need-transmit-requires
-transmit-requires c κs = ?
+transmit-requires c κs = 
+    let a = c .before .before .before .before .before .before .args in
+    let long = lent-enough (a .port .now) (a .memory .now) (sym (c .before .before .refusal .ensures) ∙ c .before .if1 .left) in
+    (long .long-record, long .long-memory)
 
--- src/lib.rt:57:1
 same-length-2 : tie.Need-same-length-2
 same-length-2 c = search needs
 
--- src/lib.rt:57:1
 returns-2 : tie.Need-returns-2
-returns-2 c = ?
+returns-2 c = 
+    let a = c .before .before .before .before .before .before .before .before .before .args in
+    let p = a .port .now in
+    let m = a .memory .now in
+    c .before .before .transmit .ensures
+    ∙ sym (grants (c .before .before .before .before .before .refusal .result) p m (transmits p m) (c .before .before .before .before .if1 .left))
+    ∙ ap (λ (g : ℕ). gated g p m (transmits p m)) (c .before .before .before .before .before .refusal .ensures)
 
 pub transmit-spec : {M : Type 1} → statement M
 transmit-spec =

@@ -1,47 +1,63 @@
+-- `port::allowed::arrive` meets its contract. By the gate; then the step. Assumes nothing.
+use Prim.Native.Nat.{ℕ}
+use mathlib.Core.Path.{refl, _∙_, ap, sym}
+use native.Mathlib.Omega.{arith}
+use lib.Dec.{leb}
 use borrow.Author.Needs.{needs}
+use borrow.Author.Tests.{leb-true}
+use Rattle.lists.proofs.TurnLaws.{both}
+use Rattle.steps.proofs.OutcomeLaws.{same-outcome}
+use Rattle.steps.specs.Arriving.{arriveStep}
+use Rattle.port.specs.Calls.{gated}
+use Rattle.port.proofs.GateLaws.{grants, refuses, arrive-allowed}
 use Rattle.port.proofs.allowed.arrive.Statement.{statement}
 use Rattle.port.proofs.allowed.arrive.Tie as tie
-use Rattle.port.proofs.allowed.arrive.Reads as reads
-use Rattle.port.proofs.allowed.arrive.Lts as lts
-use Rattle.port.proofs.gates.arrive.Reads as gates-arrive-reads
-use Rattle.steps.proofs.arriving.arrive.Reads as arriving-arrive-reads
-use Rattle.steps.proofs.refused.Reads as refused-reads
 
--- src/allowed.rt:39:9
 arrive-requires : tie.Need-arrive-requires
 arrive-requires c κs = search needs
 
--- src/allowed.rt:41:9
 refused-requires : tie.Need-refused-requires
 refused-requires c κs = search needs
 
--- src/allowed.rt:41:9
 same-length : tie.Need-same-length
 same-length c = search needs
 
--- src/allowed.rt:41:9
 returns : tie.Need-returns
-returns c = ?
+returns c = 
+    let a = c .before .before .before .before .before .before .args in
+    let p = a .port .now in
+    let m = a .memory .now in
+    same-outcome _ _ _ _ _ _ (c .refused .ensures) refl refl
+    ∙ sym (refuses (c .before .before .arrive .result) p m (arriveStep p m (a .stream) (a .charge) (a .tag)) (c .before .if1 .taken))
+    ∙ ap (λ (g : ℕ). gated g p m (arriveStep p m (a .stream) (a .charge) (a .tag))) (c .before .before .arrive .ensures)
 
--- src/allowed.rt:43:51
 cast-arrive : tie.Need-cast-arrive
-cast-arrive c = ?
+cast-arrive c = 
+    let a = c .before .before .before .before .before .before .before .args in
+    let allowed = arrive-allowed (a .port .now) (a .stream) (a .charge) (sym (c .before .before .before .arrive .ensures) ∙ c .before .before .if1 .left) in
+    let within = both (leb 84 (a .charge)) (leb (a .charge) 1542) (allowed .charge-fits) in
+    omega (arith, leb-true (a .charge) 1542 (within .1))
 
--- src/allowed.rt:43:5
 arrive-requires-2 : tie.Need-arrive-requires-2
-arrive-requires-2 c κs = ?
+arrive-requires-2 c κs = 
+    let a = c .before .before .before .before .before .before .before .args in
+    let allowed = arrive-allowed (a .port .now) (a .stream) (a .charge) (sym (c .before .before .before .arrive .ensures) ∙ c .before .before .if1 .left) in
+    (search needs, (search needs, allowed .stream))
 
--- src/allowed.rt:35:1
 same-length-2 : tie.Need-same-length-2
 same-length-2 c = search needs
 
--- src/allowed.rt:35:1
 same-length-3 : tie.Need-same-length-3
 same-length-3 c = search needs
 
--- src/allowed.rt:35:1
 returns-2 : tie.Need-returns-2
-returns-2 c = ?
+returns-2 c = 
+    let a = c .before .before .before .before .before .before .before .before .before .before .before .before .args in
+    let p = a .port .now in
+    let m = a .memory .now in
+    c .before .before .before .before .arrive2 .ensures
+    ∙ sym (grants (c .before .before .before .before .before .before .before .before .arrive .result) p m (arriveStep p m (a .stream) (a .charge) (a .tag)) (c .before .before .before .before .before .before .before .if1 .left))
+    ∙ ap (λ (g : ℕ). gated g p m (arriveStep p m (a .stream) (a .charge) (a .tag))) (c .before .before .before .before .before .before .before .before .arrive .ensures)
 
 pub arrive-spec : {M : Type 1} → statement M
 arrive-spec =

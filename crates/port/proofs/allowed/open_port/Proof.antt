@@ -1,47 +1,64 @@
+-- `port::allowed::open_port` meets its contract. By the gate; then the step. Assumes nothing.
+use Prim.Native.Nat.{ℕ}
+use mathlib.Core.Path.{refl, _∙_, ap, sym}
+use native.Mathlib.Omega.{arith}
+use lib.Dec.{leb}
 use borrow.Author.Needs.{needs}
+use borrow.Author.Tests.{leb-true}
+use Rattle.lists.proofs.TurnLaws.{both}
+use Rattle.steps.proofs.OutcomeLaws.{same-outcome}
+use Rattle.steps.specs.Opening.{openStep}
+use Rattle.port.specs.Calls.{gated}
+use Rattle.port.proofs.GateLaws.{grants, refuses, open-allowed}
 use Rattle.port.proofs.allowed.open_port.Statement.{statement}
 use Rattle.port.proofs.allowed.open_port.Tie as tie
-use Rattle.port.proofs.allowed.open_port.Reads as reads
-use Rattle.port.proofs.allowed.open_port.Lts as lts
-use Rattle.port.proofs.gates.open_port.Reads as gates-open-port-reads
-use Rattle.steps.proofs.opening.open_port.Reads as opening-open-port-reads
-use Rattle.steps.proofs.refused.Reads as refused-reads
 
--- src/allowed.rt:15:9
 open-port-requires : tie.Need-open-port-requires
 open-port-requires c κs = search needs
 
--- src/allowed.rt:17:9
 refused-requires : tie.Need-refused-requires
 refused-requires c κs = search needs
 
--- src/allowed.rt:17:9
 same-length : tie.Need-same-length
 same-length c = search needs
 
--- src/allowed.rt:17:9
 returns : tie.Need-returns
-returns c = ?
+returns c = 
+    let a = c .before .before .before .before .before .before .args in
+    let p = a .port .now in
+    let m = a .memory .now in
+    same-outcome _ _ _ _ _ _ (c .refused .ensures) refl refl
+    ∙ sym (refuses (c .before .before .open-port .result) p m (openStep p m (a .link) (a .delay)) (c .before .if1 .taken))
+    ∙ ap (λ (g : ℕ). gated g p m (openStep p m (a .link) (a .delay))) (c .before .before .open-port .ensures)
 
--- src/allowed.rt:19:37
 cast-open-port : tie.Need-cast-open-port
-cast-open-port c = ?
+cast-open-port c = 
+    let a = c .before .before .before .before .before .before .args in
+    let allowed = open-allowed (a .port .now) (a .link) (a .delay) (sym (c .before .before .open-port .ensures) ∙ c .before .if1 .left) in
+    let within = both (leb 1626 (a .link)) (leb (a .link) 23046) (allowed .link-fits) in
+    omega (arith, leb-true (a .link) 23046 (within .1))
 
--- src/allowed.rt:19:50
 cast-open-port-2 : tie.Need-cast-open-port-2
-cast-open-port-2 c = ?
+cast-open-port-2 c = 
+    let a = c .before .before .before .before .before .before .args in
+    let allowed = open-allowed (a .port .now) (a .link) (a .delay) (sym (c .before .before .open-port .ensures) ∙ c .before .if1 .left) in
+    let within = both (leb 1 (a .delay)) (leb (a .delay) 16) (allowed .delay-fits) in
+    omega (arith, leb-true (a .delay) 16 (within .1))
 
--- src/allowed.rt:19:5
 open-port-requires-2 : tie.Need-open-port-requires-2
 open-port-requires-2 c κs = search needs
 
--- src/allowed.rt:11:1
 same-length-2 : tie.Need-same-length-2
 same-length-2 c = search needs
 
--- src/allowed.rt:11:1
 returns-2 : tie.Need-returns-2
-returns-2 c = ?
+returns-2 c = 
+    let a = c .before .before .before .before .before .before .before .before .before .args in
+    let p = a .port .now in
+    let m = a .memory .now in
+    same-outcome _ _ _ _ _ _ (c .before .before .open-port2 .ensures .0) (c .before .before .open-port2 .ensures .1) refl
+    ∙ sym (grants (c .before .before .before .before .before .open-port .result) p m (openStep p m (a .link) (a .delay)) (c .before .before .before .before .if1 .left))
+    ∙ ap (λ (g : ℕ). gated g p m (openStep p m (a .link) (a .delay))) (c .before .before .before .before .before .open-port .ensures)
 
 pub open-port-spec : {M : Type 1} → statement M
 open-port-spec =

@@ -1,39 +1,46 @@
+-- `port::allowed::tick` meets its contract. By the gate; then the step. Assumes nothing.
+use Prim.Native.Nat.{ℕ}
+use mathlib.Core.Path.{refl, _∙_, ap, sym}
 use borrow.Author.Needs.{needs}
+use Rattle.steps.proofs.OutcomeLaws.{same-outcome}
+use Rattle.steps.specs.Ticking.{tickStep}
+use Rattle.port.specs.Calls.{gated}
+use Rattle.port.proofs.GateLaws.{grants, refuses}
 use Rattle.port.proofs.allowed.tick.Statement.{statement}
 use Rattle.port.proofs.allowed.tick.Tie as tie
-use Rattle.port.proofs.allowed.tick.Reads as reads
-use Rattle.port.proofs.allowed.tick.Lts as lts
-use Rattle.port.proofs.gates.closed.Reads as closed-reads
-use Rattle.steps.proofs.refused.Reads as refused-reads
-use Rattle.steps.proofs.ticking.tick.Reads as tick-reads
 
--- src/allowed.rt:51:9
 closed-requires : tie.Need-closed-requires
 closed-requires c κs = search needs
 
--- src/allowed.rt:53:9
 refused-requires : tie.Need-refused-requires
 refused-requires c κs = search needs
 
--- src/allowed.rt:53:9
 same-length : tie.Need-same-length
 same-length c = search needs
 
--- src/allowed.rt:53:9
 returns : tie.Need-returns
-returns c = ?
+returns c = 
+    let a = c .before .before .before .before .before .before .args in
+    let p = a .port .now in
+    let m = a .memory .now in
+    same-outcome _ _ _ _ _ _ (c .refused .ensures) refl refl
+    ∙ sym (refuses (c .before .before .closed .result) p m (tickStep p m) (c .before .if1 .taken))
+    ∙ ap (λ (g : ℕ). gated g p m (tickStep p m)) (c .before .before .closed .ensures)
 
--- src/allowed.rt:55:5
 tick-requires : tie.Need-tick-requires
 tick-requires c κs = search needs
 
--- src/allowed.rt:47:1
 same-length-2 : tie.Need-same-length-2
 same-length-2 c = search needs
 
--- src/allowed.rt:47:1
 returns-2 : tie.Need-returns-2
-returns-2 c = ?
+returns-2 c = 
+    let a = c .before .before .before .before .before .before .before .before .before .args in
+    let p = a .port .now in
+    let m = a .memory .now in
+    c .before .before .tick .ensures
+    ∙ sym (grants (c .before .before .before .before .before .closed .result) p m (tickStep p m) (c .before .before .before .before .if1 .left))
+    ∙ ap (λ (g : ℕ). gated g p m (tickStep p m)) (c .before .before .before .before .before .closed .ensures)
 
 pub tick-spec : {M : Type 1} → statement M
 tick-spec =

@@ -1,39 +1,46 @@
+-- `port::allowed::transmit` meets its contract. By the gate; then the step. Assumes nothing.
+use Prim.Native.Nat.{ℕ}
+use mathlib.Core.Path.{refl, _∙_, ap, sym}
 use borrow.Author.Needs.{needs}
+use Rattle.steps.proofs.OutcomeLaws.{same-outcome}
+use Rattle.steps.specs.Sending.{transmitStep}
+use Rattle.port.specs.Calls.{gated}
+use Rattle.port.proofs.GateLaws.{grants, refuses}
 use Rattle.port.proofs.allowed.transmit.Statement.{statement}
 use Rattle.port.proofs.allowed.transmit.Tie as tie
-use Rattle.port.proofs.allowed.transmit.Reads as reads
-use Rattle.port.proofs.allowed.transmit.Lts as lts
-use Rattle.port.proofs.gates.closed.Reads as closed-reads
-use Rattle.steps.proofs.refused.Reads as refused-reads
-use Rattle.steps.proofs.sending.transmit.Reads as transmit-reads
 
--- src/allowed.rt:63:9
 closed-requires : tie.Need-closed-requires
 closed-requires c κs = search needs
 
--- src/allowed.rt:65:9
 refused-requires : tie.Need-refused-requires
 refused-requires c κs = search needs
 
--- src/allowed.rt:65:9
 same-length : tie.Need-same-length
 same-length c = search needs
 
--- src/allowed.rt:65:9
 returns : tie.Need-returns
-returns c = ?
+returns c = 
+    let a = c .before .before .before .before .before .before .args in
+    let p = a .port .now in
+    let m = a .memory .now in
+    same-outcome _ _ _ _ _ _ (c .refused .ensures) refl refl
+    ∙ sym (refuses (c .before .before .closed .result) p m (transmitStep p m) (c .before .if1 .taken))
+    ∙ ap (λ (g : ℕ). gated g p m (transmitStep p m)) (c .before .before .closed .ensures)
 
--- src/allowed.rt:67:5
 transmit-requires : tie.Need-transmit-requires
 transmit-requires c κs = search needs
 
--- src/allowed.rt:59:1
 same-length-2 : tie.Need-same-length-2
 same-length-2 c = search needs
 
--- src/allowed.rt:59:1
 returns-2 : tie.Need-returns-2
-returns-2 c = ?
+returns-2 c = 
+    let a = c .before .before .before .before .before .before .before .before .before .args in
+    let p = a .port .now in
+    let m = a .memory .now in
+    c .before .before .transmit .ensures
+    ∙ sym (grants (c .before .before .before .before .before .closed .result) p m (transmitStep p m) (c .before .before .before .before .if1 .left))
+    ∙ ap (λ (g : ℕ). gated g p m (transmitStep p m)) (c .before .before .before .before .before .closed .ensures)
 
 pub transmit-spec : {M : Type 1} → statement M
 transmit-spec =

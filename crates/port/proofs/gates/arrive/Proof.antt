@@ -1,43 +1,75 @@
+-- `port::gates::arrive` meets its contract. Test after test. Assumes nothing.
+use mathlib.Core.Bool.{true, false}
+use mathlib.Core.Path.{_≡_, _∙_, ap, sym}
+use lib.Dec.{leb}
 use borrow.Author.Needs.{needs}
+use borrow.Author.Tests.{not-true, not-false, le-leb, lt-leb}
+use Rattle.fitness.specs.Ranges.{chargeFits}
+use Rattle.record.specs.Entry.{streamAt}
+use Rattle.record.specs.Head.{openAt}
+use Rattle.record.specs.Layout.{streamCount}
+use Rattle.stream.specs.declared.Stream.{Stream}
+use Rattle.port.specs.Gates.{arriveRefusal}
 use Rattle.port.proofs.gates.arrive.Statement.{statement}
 use Rattle.port.proofs.gates.arrive.Tie as tie
-use Rattle.port.proofs.gates.arrive.Reads as reads
-use Rattle.port.proofs.gates.arrive.Lts as lts
-use Rattle.fitness.proofs.ranges.charge_fits.Reads as charge-fits-reads
-use Rattle.record.proofs.entry.stream_at.Reads as stream-at-reads
-use Rattle.record.proofs.head.is_open.Reads as is-open-reads
 
--- src/gates.rt:73:9
 is-open-requires : tie.Need-is-open-requires
 is-open-requires c κs = search needs
 
--- src/gates.rt:74:9
 returns : tie.Need-returns
-returns c = ?
+unfolding arriveRefusal
+returns c = 
+    let a = c .before .before .before .args in
+    let p = a .port .now in
+    let opened : openAt p ≡ false = sym (c .before .is-open .ensures) ∙ not-true _ (c .if1 .taken) in
+    simp opened
 
--- src/gates.rt:77:9
 returns-2 : tie.Need-returns-2
-returns-2 c = ?
+unfolding arriveRefusal
+returns-2 c = 
+    let a = c .before .before .before .before .args in
+    let p = a .port .now in
+    let opened : openAt p ≡ true = sym (c .before .before .is-open .ensures) ∙ not-false _ (c .before .if1 .left) in
+    let stream : leb streamCount (a .stream) ≡ true = le-leb streamCount _ (c .if2 .taken) in
+    simp (opened, stream)
 
--- src/gates.rt:79:9
 stream-at-requires : tie.Need-stream-at-requires
 stream-at-requires c κs = search needs
 
--- src/gates.rt:80:9
 returns-3 : tie.Need-returns-3
-returns-3 c = ?
+unfolding arriveRefusal
+returns-3 c = 
+    let a = c .before .before .before .before .before .before .before .args in
+    let p = a .port .now in
+    let opened : openAt p ≡ true = sym (c .before .before .before .before .before .is-open .ensures) ∙ not-false _ (c .before .before .before .before .if1 .left) in
+    let stream : leb streamCount (a .stream) ≡ false = lt-leb streamCount _ (c .before .before .before .if2 .left) in
+    let reserved : streamAt p (a .stream) .reserved ≡ false = ap (λ (s : Stream). s .reserved) (sym (c .before .before .stream-at .ensures)) ∙ not-true _ (c .if3 .taken) in
+    simp (opened, stream, reserved)
 
--- src/gates.rt:82:9
 charge-fits-requires : tie.Need-charge-fits-requires
 charge-fits-requires c κs = search needs
 
--- src/gates.rt:83:9
 returns-4 : tie.Need-returns-4
-returns-4 c = ?
+unfolding arriveRefusal
+returns-4 c = 
+    let a = c .before .before .before .before .before .before .before .before .before .args in
+    let p = a .port .now in
+    let opened : openAt p ≡ true = sym (c .before .before .before .before .before .before .before .is-open .ensures) ∙ not-false _ (c .before .before .before .before .before .before .if1 .left) in
+    let stream : leb streamCount (a .stream) ≡ false = lt-leb streamCount _ (c .before .before .before .before .before .if2 .left) in
+    let reserved : streamAt p (a .stream) .reserved ≡ true = ap (λ (s : Stream). s .reserved) (sym (c .before .before .before .before .stream-at .ensures)) ∙ not-false _ (c .before .before .if3 .left) in
+    let charge : chargeFits (a .charge) ≡ false = sym (c .before .charge-fits .ensures) ∙ not-true _ (c .if4 .taken) in
+    simp (opened, stream, reserved, charge)
 
--- src/gates.rt:69:1
 returns-5 : tie.Need-returns-5
-returns-5 c = ?
+unfolding arriveRefusal
+returns-5 c = 
+    let a = c .before .before .before .before .before .before .before .before .before .args in
+    let p = a .port .now in
+    let opened : openAt p ≡ true = sym (c .before .before .before .before .before .before .before .is-open .ensures) ∙ not-false _ (c .before .before .before .before .before .before .if1 .left) in
+    let stream : leb streamCount (a .stream) ≡ false = lt-leb streamCount _ (c .before .before .before .before .before .if2 .left) in
+    let reserved : streamAt p (a .stream) .reserved ≡ true = ap (λ (s : Stream). s .reserved) (sym (c .before .before .before .before .stream-at .ensures)) ∙ not-false _ (c .before .before .if3 .left) in
+    let charge : chargeFits (a .charge) ≡ true = sym (c .before .charge-fits .ensures) ∙ not-false _ (c .if4 .left) in
+    simp (opened, stream, reserved, charge)
 
 pub arrive-spec : {M : Type 1} → statement M
 arrive-spec =

@@ -1,21 +1,31 @@
+-- `port::gates::closed` meets its contract. The one test. Assumes nothing.
+use mathlib.Core.Bool.{true, false}
+use mathlib.Core.Path.{_≡_, _∙_, sym}
 use borrow.Author.Needs.{needs}
+use borrow.Author.Tests.{not-true, not-false}
+use Rattle.record.specs.Head.{openAt}
+use Rattle.port.specs.Gates.{closedRefusal}
 use Rattle.port.proofs.gates.closed.Statement.{statement}
 use Rattle.port.proofs.gates.closed.Tie as tie
-use Rattle.port.proofs.gates.closed.Reads as reads
-use Rattle.port.proofs.gates.closed.Lts as lts
-use Rattle.record.proofs.head.is_open.Reads as is-open-reads
 
--- src/gates.rt:93:9
 is-open-requires : tie.Need-is-open-requires
 is-open-requires c κs = search needs
 
--- src/gates.rt:94:9
 returns : tie.Need-returns
-returns c = ?
+unfolding closedRefusal
+returns c = 
+    let a = c .before .before .before .args in
+    let p = a .port .now in
+    let opened : openAt p ≡ false = sym (c .before .is-open .ensures) ∙ not-true _ (c .if1 .taken) in
+    simp opened
 
--- src/gates.rt:89:1
 returns-2 : tie.Need-returns-2
-returns-2 c = ?
+unfolding closedRefusal
+returns-2 c = 
+    let a = c .before .before .before .args in
+    let p = a .port .now in
+    let opened : openAt p ≡ true = sym (c .before .is-open .ensures) ∙ not-false _ (c .if1 .left) in
+    simp opened
 
 pub closed-spec : {M : Type 1} → statement M
 closed-spec = tie.close (tie.spec is-open-requires returns returns-2)

@@ -1,39 +1,59 @@
+-- `port::gates::open_port` meets its contract. Test after test. Assumes nothing.
+use mathlib.Core.Bool.{true, false}
+use mathlib.Core.Path.{_≡_, _∙_, sym}
 use borrow.Author.Needs.{needs}
+use borrow.Author.Tests.{not-true, not-false}
+use Rattle.fitness.specs.Ranges.{linkFits, delayFits}
+use Rattle.record.specs.Head.{openAt}
+use Rattle.port.specs.Gates.{openRefusal}
 use Rattle.port.proofs.gates.open_port.Statement.{statement}
 use Rattle.port.proofs.gates.open_port.Tie as tie
-use Rattle.port.proofs.gates.open_port.Reads as reads
-use Rattle.port.proofs.gates.open_port.Lts as lts
-use Rattle.fitness.proofs.ranges.delay_fits.Reads as delay-fits-reads
-use Rattle.fitness.proofs.ranges.link_fits.Reads as link-fits-reads
-use Rattle.record.proofs.head.is_open.Reads as is-open-reads
 
--- src/gates.rt:32:8
 is-open-requires : tie.Need-is-open-requires
 is-open-requires c κs = search needs
 
--- src/gates.rt:33:9
 returns : tie.Need-returns
-returns c = ?
+unfolding openRefusal
+returns c = 
+    let a = c .before .before .before .args in
+    let p = a .port .now in
+    let opened : openAt p ≡ true = sym (c .before .is-open .ensures) ∙ c .if1 .taken in
+    simp opened
 
--- src/gates.rt:35:9
 link-fits-requires : tie.Need-link-fits-requires
 link-fits-requires c κs = search needs
 
--- src/gates.rt:36:9
 returns-2 : tie.Need-returns-2
-returns-2 c = ?
+unfolding openRefusal
+returns-2 c = 
+    let a = c .before .before .before .before .before .args in
+    let p = a .port .now in
+    let opened : openAt p ≡ false = sym (c .before .before .before .is-open .ensures) ∙ c .before .before .if1 .left in
+    let link : linkFits (a .link) ≡ false = sym (c .before .link-fits .ensures) ∙ not-true _ (c .if2 .taken) in
+    simp (opened, link)
 
--- src/gates.rt:38:9
 delay-fits-requires : tie.Need-delay-fits-requires
 delay-fits-requires c κs = search needs
 
--- src/gates.rt:39:9
 returns-3 : tie.Need-returns-3
-returns-3 c = ?
+unfolding openRefusal
+returns-3 c = 
+    let a = c .before .before .before .before .before .before .before .args in
+    let p = a .port .now in
+    let opened : openAt p ≡ false = sym (c .before .before .before .before .before .is-open .ensures) ∙ c .before .before .before .before .if1 .left in
+    let link : linkFits (a .link) ≡ true = sym (c .before .before .before .link-fits .ensures) ∙ not-false _ (c .before .before .if2 .left) in
+    let delay : delayFits (a .delay) ≡ false = sym (c .before .delay-fits .ensures) ∙ not-true _ (c .if3 .taken) in
+    simp (opened, link, delay)
 
--- src/gates.rt:28:1
 returns-4 : tie.Need-returns-4
-returns-4 c = ?
+unfolding openRefusal
+returns-4 c = 
+    let a = c .before .before .before .before .before .before .before .args in
+    let p = a .port .now in
+    let opened : openAt p ≡ false = sym (c .before .before .before .before .before .is-open .ensures) ∙ c .before .before .before .before .if1 .left in
+    let link : linkFits (a .link) ≡ true = sym (c .before .before .before .link-fits .ensures) ∙ not-false _ (c .before .before .if2 .left) in
+    let delay : delayFits (a .delay) ≡ true = sym (c .before .delay-fits .ensures) ∙ not-false _ (c .if3 .left) in
+    simp (opened, link, delay)
 
 pub open-port-spec : {M : Type 1} → statement M
 open-port-spec =

@@ -1,39 +1,47 @@
+-- `port::quick::reserve` meets its contract. By the lengths; then the rest of the call. Assumes nothing.
+use Prim.Native.Nat.{ℕ}
+use mathlib.Core.Path.{refl, _∙_, ap, sym}
 use borrow.Author.Needs.{needs}
+use Rattle.steps.proofs.OutcomeLaws.{same-outcome}
+use Rattle.port.specs.Calls.{gated, reserves}
+use Rattle.port.proofs.GateLaws.{grants, refuses, long-enough}
 use Rattle.port.proofs.quick.reserve.Statement.{statement}
 use Rattle.port.proofs.quick.reserve.Tie as tie
-use Rattle.port.proofs.quick.reserve.Reads as reads
-use Rattle.port.proofs.quick.reserve.Lts as lts
-use Rattle.port.proofs.allowed.reserve.Reads as reserve-reads
-use Rattle.port.proofs.quick.lengths.Reads as lengths-reads
-use Rattle.steps.proofs.refused.Reads as refused-reads
 
--- src/quick.rt:40:9
 lengths-requires : tie.Need-lengths-requires
 lengths-requires c κs = search needs
 
--- src/quick.rt:42:9
 refused-requires : tie.Need-refused-requires
 refused-requires c κs = search needs
 
--- src/quick.rt:42:9
 same-length : tie.Need-same-length
 same-length c = search needs
 
--- src/quick.rt:42:9
 returns : tie.Need-returns
-returns c = ?
+returns c = 
+    let a = c .before .before .before .before .before .before .args in
+    let p = a .port .now in
+    let m = a .memory .now in
+    same-outcome _ _ _ _ _ _ (c .refused .ensures) refl refl
+    ∙ sym (refuses (c .before .before .lengths .result) p m (reserves p m (a .stream) (a .permitted)) (c .before .if1 .taken))
+    ∙ ap (λ (g : ℕ). gated g p m (reserves p m (a .stream) (a .permitted))) (c .before .before .lengths .ensures)
 
--- src/quick.rt:44:5
 reserve-requires : tie.Need-reserve-requires
-reserve-requires c κs = ?
+reserve-requires c κs = 
+    let a = c .before .before .before .before .before .before .args in
+    (long-enough (a .port .now) (a .memory .now) (sym (c .before .before .lengths .ensures) ∙ c .before .if1 .left)) .long-record
 
--- src/quick.rt:37:1
 same-length-2 : tie.Need-same-length-2
 same-length-2 c = search needs
 
--- src/quick.rt:37:1
 returns-2 : tie.Need-returns-2
-returns-2 c = ?
+returns-2 c = 
+    let a = c .before .before .before .before .before .before .before .before .before .args in
+    let p = a .port .now in
+    let m = a .memory .now in
+    c .before .before .reserve .ensures
+    ∙ sym (grants (c .before .before .before .before .before .lengths .result) p m (reserves p m (a .stream) (a .permitted)) (c .before .before .before .before .if1 .left))
+    ∙ ap (λ (g : ℕ). gated g p m (reserves p m (a .stream) (a .permitted))) (c .before .before .before .before .before .lengths .ensures)
 
 pub reserve-spec : {M : Type 1} → statement M
 reserve-spec =

@@ -1,0 +1,2 @@
+-- The laws of the calls, cited by the crates above.
+pub mod GateLaws
