@@ -13,7 +13,7 @@ use Rattle.queue.specs.Waiting.{waiting, chargesOf}
 use Rattle.record.specs.Layout.{queueCount, bestEffort, allQueues, streamCount}
 use Rattle.record.specs.Head.{openAt, priorAt, delayAt, linkAt, waitsAt, queueAt}
 use Rattle.record.specs.Entry.{streamAt, boundAt, vidAt, pairAt}
-use Rattle.fitness.specs.Ranges.{within, chargeFits, shareOf, linkFits, delayFits, permittedFits, vidFits}
+use Rattle.ranges.specs.Ranges.{within, chargeFits, shareOf, linkFits, delayFits, permittedFits, vidFits}
 
 -- "prior above 3"
 abbrev pub priorFits : List ℕ → Bool

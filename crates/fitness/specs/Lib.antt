@@ -1,4 +1,3 @@
 -- Whether the host's record and memory will do: document 01, refusals 18 and 19.
-pub mod Ranges
 pub mod Clauses
 pub mod Fit

@@ -29,7 +29,7 @@ fn frame_fits(number: u8, frame: Frame) -> bool
 {
     crate::both(
         source_fits(number, frame.stream),
-        crate::ranges::charge_fits(frame.charge as u32),
+        ranges::charge_fits(frame.charge as u32),
     )
 }
 

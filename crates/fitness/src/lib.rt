@@ -3,7 +3,6 @@
 mod bindings;
 mod frames;
 mod queues;
-pub mod ranges;
 pub mod streams;
 
 ghost use mathlib.Core.Path.{_≡_};

@@ -19,7 +19,7 @@ fn stream_fits(stream: Stream) -> bool
     if !stream.reserved {
         return true;
     }
-    let placed = crate::ranges::within(stream.place as u32, CURRENT, LAST);
+    let placed = ranges::within(stream.place as u32, CURRENT, LAST);
     crate::both(placed, stream.left <= stream.permitted)
 }
 
@@ -42,7 +42,7 @@ fn reservation_fits(stream: Stream) -> bool
     ensures { λ r. ⌜ r ≡ reservationFits stream ⌝ }
 {
     if stream.reserved {
-        return crate::ranges::permitted_fits(stream.permitted as u32);
+        return ranges::permitted_fits(stream.permitted as u32);
     }
     true
 }

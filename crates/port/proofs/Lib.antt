@@ -1,2 +1,2 @@
 -- The laws of the calls, cited by the crates above.
-pub mod GateLaws
+pub mod LengthLaws

@@ -1,37 +1,10 @@
 -- The calls: 18 and 19, then the call's own refusals, then its step. Each gives reply, record and memory for every record, memory and argument.
 use Prim.Native.Nat.{ℕ}
-use mathlib.Core.Bool.{cond}
 use mathlib.Core.List.{List}
-use lib.Dec.{eqb}
 use Rattle.fitness.specs.Fit.{lentRefusal}
-use Rattle.steps.specs.Outcome.{Outcome, refused}
-use Rattle.steps.specs.Opening.{openStep, reserveStep}
-use Rattle.steps.specs.Arriving.{arriveStep}
-use Rattle.steps.specs.Ticking.{tickStep}
-use Rattle.steps.specs.Sending.{transmitStep}
-use Rattle.port.specs.Gates.{openRefusal, reserveRefusal, arriveRefusal, closedRefusal}
+use Rattle.steps.specs.Outcome.{Outcome}
+use Rattle.gates.specs.Gated.{gated, opens, reserves, arrives, ticks, transmits}
 
--- a refusal, which leaves record and memory as they are, or what is done where there is none
-abbrev pub gated : ℕ → List ℕ → List ℕ → Outcome → Outcome
-gated number p m done = cond (eqb number 0) done (refused number p m)
-
--- what each call does where record and memory will do: its own refusals, then its step
-abbrev pub opens : List ℕ → List ℕ → ℕ → ℕ → Outcome
-opens p m link delay = gated (openRefusal p link delay) p m (openStep p m link delay)
-
-abbrev pub reserves : List ℕ → List ℕ → ℕ → ℕ → Outcome
-reserves p m s permitted = gated (reserveRefusal p s permitted) p m (reserveStep p m s permitted)
-
-abbrev pub arrives : List ℕ → List ℕ → ℕ → ℕ → ℕ → Outcome
-arrives p m s charge tag = gated (arriveRefusal p s charge) p m (arriveStep p m s charge tag)
-
-abbrev pub ticks : List ℕ → List ℕ → Outcome
-ticks p m = gated (closedRefusal p) p m (tickStep p m)
-
-abbrev pub transmits : List ℕ → List ℕ → Outcome
-transmits p m = gated (closedRefusal p) p m (transmitStep p m)
-
--- the calls
 abbrev pub openCall : List ℕ → List ℕ → ℕ → ℕ → Outcome
 openCall p m link delay = gated (lentRefusal p m) p m (opens p m link delay)
 

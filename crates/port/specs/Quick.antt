@@ -7,7 +7,7 @@ use lib.ListN.{length}
 use lib.Dec.{ltb}
 use Rattle.record.specs.Layout.{recordLength, memoryLength}
 use Rattle.steps.specs.Outcome.{Outcome}
-use Rattle.port.specs.Calls.{gated, opens, reserves, arrives, ticks, transmits}
+use Rattle.gates.specs.Gated.{gated, opens, reserves, arrives, ticks, transmits}
 
 -- 18 where the memory is too short, 19 where the record is
 unfoldable pub lengthRefusal : List ℕ → List ℕ → ℕ

@@ -1,7 +1,5 @@
 // The calls of a port, over the record and the memory that the host lends: Open, Reserve, Arrive, Tick and Transmit, each with all of document
 // 01's checks. None asks anything of its caller. The definitions are in specs/.
-mod allowed;
-mod gates;
 pub mod quick;
 
 use stream::Reply;
@@ -17,7 +15,7 @@ pub fn open_port(port: &mut [u8], memory: &[u8], link: u32, delay: u32) -> Reply
     if refusal != 0 {
         return steps::refused(refusal);
     }
-    allowed::open_port(port, memory, link, delay)
+    gates::open_port(port, memory, link, delay)
 }
 
 // Reserve(s, P).
@@ -28,7 +26,7 @@ pub fn reserve(port: &mut [u8], memory: &[u8], stream: u8, permitted: u32) -> Re
     if refusal != 0 {
         return steps::refused(refusal);
     }
-    allowed::reserve(port, memory, stream, permitted)
+    gates::reserve(port, memory, stream, permitted)
 }
 
 // Arrive(s, a, tag).
@@ -39,7 +37,7 @@ pub fn arrive(port: &mut [u8], memory: &mut [u8], stream: u8, charge: u32, tag: 
     if refusal != 0 {
         return steps::refused(refusal);
     }
-    allowed::arrive(port, memory, stream, charge, tag)
+    gates::arrive(port, memory, stream, charge, tag)
 }
 
 // Tick.
@@ -50,7 +48,7 @@ pub fn tick(port: &mut [u8], memory: &[u8]) -> Reply
     if refusal != 0 {
         return steps::refused(refusal);
     }
-    allowed::tick(port, memory)
+    gates::tick(port, memory)
 }
 
 // Transmit.
@@ -61,5 +59,5 @@ pub fn transmit(port: &mut [u8], memory: &[u8]) -> Reply
     if refusal != 0 {
         return steps::refused(refusal);
     }
-    allowed::transmit(port, memory)
+    gates::transmit(port, memory)
 }

@@ -30,7 +30,7 @@ pub fn open_port(port: &mut [u8], memory: &[u8], link: u32, delay: u32) -> Reply
     if refusal != 0 {
         return steps::refused(refusal);
     }
-    crate::allowed::open_port(port, memory, link, delay)
+    gates::open_port(port, memory, link, delay)
 }
 
 // Reserve(s, P).
@@ -41,7 +41,7 @@ pub fn reserve(port: &mut [u8], memory: &[u8], stream: u8, permitted: u32) -> Re
     if refusal != 0 {
         return steps::refused(refusal);
     }
-    crate::allowed::reserve(port, memory, stream, permitted)
+    gates::reserve(port, memory, stream, permitted)
 }
 
 // Arrive(s, a, tag).
@@ -52,7 +52,7 @@ pub fn arrive(port: &mut [u8], memory: &mut [u8], stream: u8, charge: u32, tag: 
     if refusal != 0 {
         return steps::refused(refusal);
     }
-    crate::allowed::arrive(port, memory, stream, charge, tag)
+    gates::arrive(port, memory, stream, charge, tag)
 }
 
 // Tick.
@@ -63,7 +63,7 @@ pub fn tick(port: &mut [u8], memory: &[u8]) -> Reply
     if refusal != 0 {
         return steps::refused(refusal);
     }
-    crate::allowed::tick(port, memory)
+    gates::tick(port, memory)
 }
 
 // Transmit.
@@ -74,5 +74,5 @@ pub fn transmit(port: &mut [u8], memory: &[u8]) -> Reply
     if refusal != 0 {
         return steps::refused(refusal);
     }
-    crate::allowed::transmit(port, memory)
+    gates::transmit(port, memory)
 }

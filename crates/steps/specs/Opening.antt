@@ -8,7 +8,7 @@ use Rattle.queue.specs.Ring.{emptyQueue}
 use Rattle.record.specs.Layout.{allQueues, streamCount}
 use Rattle.record.specs.Head.{linkAt, withOpen, withPrior, withDelay, withLink, withWaits, withQueue}
 use Rattle.record.specs.Entry.{withStream, dropped}
-use Rattle.fitness.specs.Ranges.{shareOf}
+use Rattle.ranges.specs.Ranges.{shareOf}
 use Rattle.fitness.specs.Clauses.{permittedSum}
 use Rattle.steps.specs.Outcome.{Outcome, outcome}
 

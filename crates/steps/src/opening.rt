@@ -6,7 +6,7 @@ ghost use mathlib.Core.Path.{_≡_};
 ghost use Prim.Native.Nat.{_≤_, _<_};
 ghost use Rattle.stream.specs.Replies.{granted};
 ghost use Rattle.record.specs.Layout.{Whole, streamCount};
-ghost use Rattle.fitness.specs.Ranges.{shareOf};
+ghost use Rattle.ranges.specs.Ranges.{shareOf};
 ghost use Rattle.steps.specs.Opening.{openedHead, allEmptied, allDropped, openedRecord, freeShare, reservedRecord};
 
 // Writes the head of an open port.
@@ -53,7 +53,7 @@ pub fn open_port(port: &mut [u8], link: u16, delay: u8) -> Reply
     open_head(port, link, delay);
     empty_queues(port);
     drop_streams(port);
-    crate::granted(fitness::ranges::share(link), 0)
+    crate::granted(ranges::share(link), 0)
 }
 
 // The share still free.
@@ -61,7 +61,7 @@ fn free_share(port: &[u8]) -> u32
     requires { ⌜ Whole (now port) ⌝ }
     ensures { λ r. ⌜ r ≡ freeShare (now (port .entry)) ⌝ }
 {
-    let share = fitness::ranges::share(record::head::link(port));
+    let share = ranges::share(record::head::link(port));
     let taken = fitness::streams::permitted_sum(port);
     if share < taken {
         return 0;

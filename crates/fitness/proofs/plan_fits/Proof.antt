@@ -9,7 +9,7 @@ use Rattle.record.specs.Entry.{streamAt}
 use Rattle.record.specs.Head.{delayAt, linkAt}
 use Rattle.record.specs.Layout.{streamCount}
 use Rattle.fitness.specs.Clauses.{reservationFits}
-use Rattle.fitness.specs.Ranges.{shareOf, linkFits, delayFits}
+use Rattle.ranges.specs.Ranges.{shareOf, linkFits, delayFits}
 use Rattle.fitness.proofs.plan_fits.Statement.{statement}
 use Rattle.fitness.proofs.plan_fits.Tie as tie
 

@@ -3,8 +3,9 @@ use Prim.Native.Nat.{ℕ}
 use mathlib.Core.Path.{refl, _∙_, ap, sym}
 use borrow.Author.Needs.{needs}
 use Rattle.steps.proofs.OutcomeLaws.{same-outcome}
-use Rattle.port.specs.Calls.{gated, arrives}
-use Rattle.port.proofs.GateLaws.{grants, refuses, lent-enough}
+use Rattle.gates.specs.Gated.{gated, arrives}
+use Rattle.gates.proofs.GateLaws.{grants, refuses}
+use Rattle.port.proofs.LengthLaws.{lent-enough}
 use Rattle.port.proofs.arrive.Statement.{statement}
 use Rattle.port.proofs.arrive.Tie as tie
 
@@ -21,7 +22,7 @@ same-length-2 : tie.Need-same-length-2
 same-length-2 c = search needs
 
 returns : tie.Need-returns
-returns c = 
+returns c =
     let a = c .before .before .before .before .before .before .before .args in
     let p = a .port .now in
     let m = a .memory .now in
@@ -30,7 +31,7 @@ returns c =
     ∙ ap (λ (g : ℕ). gated g p m (arrives p m (a .stream) (a .charge) (a .tag))) (c .before .before .refusal .ensures)
 
 arrive-requires : tie.Need-arrive-requires
-arrive-requires c κs = 
+arrive-requires c κs =
     let a = c .before .before .before .before .before .before .before .before .args in
     let long = lent-enough (a .port .now) (a .memory .now) (sym (c .before .before .before .refusal .ensures) ∙ c .before .before .if1 .left) in
     (long .long-record, long .long-memory)
@@ -42,7 +43,7 @@ same-length-4 : tie.Need-same-length-4
 same-length-4 c = search needs
 
 returns-2 : tie.Need-returns-2
-returns-2 c = 
+returns-2 c =
     let a = c .before .before .before .before .before .before .before .before .before .before .before .before .before .args in
     let p = a .port .now in
     let m = a .memory .now in

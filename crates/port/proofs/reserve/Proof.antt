@@ -3,8 +3,9 @@ use Prim.Native.Nat.{ℕ}
 use mathlib.Core.Path.{refl, _∙_, ap, sym}
 use borrow.Author.Needs.{needs}
 use Rattle.steps.proofs.OutcomeLaws.{same-outcome}
-use Rattle.port.specs.Calls.{gated, reserves}
-use Rattle.port.proofs.GateLaws.{grants, refuses, lent-enough}
+use Rattle.gates.specs.Gated.{gated, reserves}
+use Rattle.gates.proofs.GateLaws.{grants, refuses}
+use Rattle.port.proofs.LengthLaws.{lent-enough}
 use Rattle.port.proofs.reserve.Statement.{statement}
 use Rattle.port.proofs.reserve.Tie as tie
 
@@ -18,7 +19,7 @@ same-length : tie.Need-same-length
 same-length c = search needs
 
 returns : tie.Need-returns
-returns c = 
+returns c =
     let a = c .before .before .before .before .before .before .args in
     let p = a .port .now in
     let m = a .memory .now in
@@ -27,7 +28,7 @@ returns c =
     ∙ ap (λ (g : ℕ). gated g p m (reserves p m (a .stream) (a .permitted))) (c .before .before .refusal .ensures)
 
 reserve-requires : tie.Need-reserve-requires
-reserve-requires c κs = 
+reserve-requires c κs =
     let a = c .before .before .before .before .before .before .args in
     (lent-enough (a .port .now) (a .memory .now) (sym (c .before .before .refusal .ensures) ∙ c .before .if1 .left)) .long-record
 
@@ -35,7 +36,7 @@ same-length-2 : tie.Need-same-length-2
 same-length-2 c = search needs
 
 returns-2 : tie.Need-returns-2
-returns-2 c = 
+returns-2 c =
     let a = c .before .before .before .before .before .before .before .before .before .args in
     let p = a .port .now in
     let m = a .memory .now in

@@ -9,7 +9,7 @@ use borrow.Author.Tests.{not-true, not-false}
 use Rattle.lists.specs.Turns.{allTo}
 use Rattle.record.specs.Entry.{streamAt, boundAt, vidAt}
 use Rattle.stream.specs.declared.Stream.{Stream}
-use Rattle.fitness.specs.Ranges.{vidFits}
+use Rattle.ranges.specs.Ranges.{vidFits}
 use Rattle.fitness.proofs.bindings.binding_fits.Statement.{statement}
 use Rattle.fitness.proofs.bindings.binding_fits.Tie as tie
 

@@ -2,7 +2,7 @@
 use mathlib.Core.Bool.{Bool, true, cond}
 use mathlib.Core.Path.{_∙_, ap, sym}
 use borrow.Author.Needs.{needs}
-use Rattle.fitness.specs.Ranges.{permittedFits}
+use Rattle.ranges.specs.Ranges.{permittedFits}
 use Rattle.fitness.proofs.streams.reservation_fits.Statement.{statement}
 use Rattle.fitness.proofs.streams.reservation_fits.Tie as tie
 

@@ -11,14 +11,14 @@ use Rattle.port.proofs.quick.lengths.Tie as tie
 
 returns : tie.Need-returns
 unfolding lengthRefusal
-returns c = 
+returns c =
     let a = c .before .args in
     let short : ltb (length (a .memory .now)) memoryLength ≡ true = lt-ltb _ memoryLength (c .if1 .taken) in
     simp short
 
 returns-2 : tie.Need-returns-2
 unfolding lengthRefusal
-returns-2 c = 
+returns-2 c =
     let a = c .before .before .args in
     let enough : ltb (length (a .memory .now)) memoryLength ≡ false = le-ltb _ memoryLength (c .before .if1 .left) in
     let short : ltb (length (a .port .now)) recordLength ≡ true = lt-ltb _ recordLength (c .if2 .taken) in
@@ -26,7 +26,7 @@ returns-2 c =
 
 returns-3 : tie.Need-returns-3
 unfolding lengthRefusal
-returns-3 c = 
+returns-3 c =
     let a = c .before .before .args in
     let enough : ltb (length (a .memory .now)) memoryLength ≡ false = le-ltb _ memoryLength (c .before .if1 .left) in
     let long : ltb (length (a .port .now)) recordLength ≡ false = le-ltb _ recordLength (c .if2 .left) in

@@ -1,0 +1,92 @@
+-- What a gate that refuses nothing tells, and what a gated call then does. Assumes nothing.
+use Prim.Native.Nat.{ℕ, _+_, _≤_, _<_}
+use mathlib.Core.Path.{_≡_, refl, ap}
+use mathlib.Core.Bool.{Bool, true, false, not, cond}
+use mathlib.Core.List.{List}
+use native.Mathlib.Omega.{arith}
+use lib.Dec.{leb, ltb}
+use borrow.Author.Tests.{eq-eqb, ne-eqb, leb-false, ltb-false, not-false}
+use Rattle.record.specs.Layout.{streamCount}
+use Rattle.record.specs.Head.{openAt, linkAt}
+use Rattle.record.specs.Entry.{streamAt}
+use Rattle.ranges.specs.Ranges.{chargeFits, shareOf, linkFits, delayFits, permittedFits}
+use Rattle.fitness.specs.Clauses.{permittedSum}
+use Rattle.steps.specs.Outcome.{Outcome, refused}
+use Rattle.gates.specs.Refusals.{openRefusal, reserveRefusal, arriveRefusal, closedRefusal}
+use Rattle.gates.specs.Gated.{gated}
+
+module _ (g : ℕ) (p m : List ℕ) (done : Outcome) where
+  -- a gate that answers 0 lets the call through
+  pub grants : g ≡ 0 → gated g p m done ≡ done
+  grants e = ap (λ (b : Bool). cond b done (refused g p m)) (eq-eqb g 0 e)
+
+  -- one that does not refuses it, and nothing changes
+  pub refuses : (g ≡ 0 → ⊥) → gated g p m done ≡ refused g p m
+  refuses h = ap (λ (b : Bool). cond b done (refused g p m)) (ne-eqb g 0 h)
+
+-- a test that a gate is past does not hold, and the rest refuses nothing either
+pub past : (b : Bool) (n rest : ℕ) → 0 < n → cond b n rest ≡ 0 → (b ≡ false) × (rest ≡ 0)
+past true n rest h e = absurd (omega arith)
+past false n rest h e = (refl, e)
+
+-- the facts that a gate's 0 stands for
+pub record OpenAllowed (p : List ℕ) (link delay : ℕ) : Type 0 where
+  pub closed : openAt p ≡ false
+  pub link-fits : linkFits link ≡ true
+  pub delay-fits : delayFits delay ≡ true
+
+pub open-allowed : (p : List ℕ) (link delay : ℕ) → openRefusal p link delay ≡ 0 → OpenAllowed p link delay
+unfolding openRefusal
+open-allowed p link delay e =
+    let a = past (openAt p) 2 (cond (not (linkFits link)) 3 (cond (not (delayFits delay)) 4 0)) (omega arith) e in
+    let b = past (not (linkFits link)) 3 (cond (not (delayFits delay)) 4 0) (omega arith) (a .1) in
+    let c = past (not (delayFits delay)) 4 0 (omega arith) (b .1) in
+    record { closed = a .0; link-fits = not-false (linkFits link) (b .0); delay-fits = not-false (delayFits delay) (c .0) }
+
+pub record ReserveAllowed (p : List ℕ) (s permitted : ℕ) : Type 0 where
+  pub opened : openAt p ≡ true
+  pub stream : s < streamCount
+  pub free : streamAt p s .reserved ≡ false
+  pub permitted-fits : permittedFits permitted ≡ true
+  pub share : permittedSum p + permitted ≤ shareOf (linkAt p)
+
+pub reserve-allowed : (p : List ℕ) (s permitted : ℕ) → reserveRefusal p s permitted ≡ 0 → ReserveAllowed p s permitted
+unfolding reserveRefusal
+reserve-allowed p s permitted e =
+    let above : ℕ = cond (ltb (shareOf (linkAt p)) (permittedSum p + permitted)) 8 0 in
+    let below : ℕ = cond (not (permittedFits permitted)) 7 above in
+    let taken : ℕ = cond (streamAt p s .reserved) 6 below in
+    let a = past (not (openAt p)) 1 (cond (leb streamCount s) 5 taken) (omega arith) e in
+    let b = past (leb streamCount s) 5 taken (omega arith) (a .1) in
+    let c = past (streamAt p s .reserved) 6 below (omega arith) (b .1) in
+    let d = past (not (permittedFits permitted)) 7 above (omega arith) (c .1) in
+    let f = past (ltb (shareOf (linkAt p)) (permittedSum p + permitted)) 8 0 (omega arith) (d .1) in
+    record {
+      opened = not-false (openAt p) (a .0);
+      stream = leb-false streamCount s (b .0);
+      free = c .0;
+      permitted-fits = not-false (permittedFits permitted) (d .0);
+      share = ltb-false (shareOf (linkAt p)) (permittedSum p + permitted) (f .0);
+    }
+
+pub record ArriveAllowed (p : List ℕ) (s charge : ℕ) : Type 0 where
+  pub opened : openAt p ≡ true
+  pub stream : s < streamCount
+  pub reserved : streamAt p s .reserved ≡ true
+  pub charge-fits : chargeFits charge ≡ true
+
+pub arrive-allowed : (p : List ℕ) (s charge : ℕ) → arriveRefusal p s charge ≡ 0 → ArriveAllowed p s charge
+unfolding arriveRefusal
+arrive-allowed p s charge e =
+    let outside : ℕ = cond (not (chargeFits charge)) 13 0 in
+    let unreserved : ℕ = cond (not (streamAt p s .reserved)) 12 outside in
+    let a = past (not (openAt p)) 1 (cond (leb streamCount s) 5 unreserved) (omega arith) e in
+    let b = past (leb streamCount s) 5 unreserved (omega arith) (a .1) in
+    let c = past (not (streamAt p s .reserved)) 12 outside (omega arith) (b .1) in
+    let d = past (not (chargeFits charge)) 13 0 (omega arith) (c .1) in
+    record {
+      opened = not-false (openAt p) (a .0);
+      stream = leb-false streamCount s (b .0);
+      reserved = not-false (streamAt p s .reserved) (c .0);
+      charge-fits = not-false (chargeFits charge) (d .0);
+    }

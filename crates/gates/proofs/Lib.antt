@@ -1,0 +1,2 @@
+-- The laws of the gates, cited by the crates above.
+pub mod GateLaws

@@ -1,0 +1,3 @@
+-- Each call's own refusals, in document 01's order, and then its step.
+pub mod Refusals
+pub mod Gated

@@ -1,0 +1,39 @@
+-- What each call refuses of a record and memory that will do, in document 01's order: "Checks run 18, 19, 1 (for Open: 2), 17, then upward by
+-- number, except that 12 follows 5". A gate is the number of the first refusal that applies, or 0.
+use Prim.Native.Nat.{ℕ, _+_}
+use mathlib.Core.Bool.{not, cond}
+use mathlib.Core.List.{List}
+use lib.Dec.{leb, ltb}
+use Rattle.record.specs.Layout.{streamCount}
+use Rattle.record.specs.Head.{openAt, linkAt}
+use Rattle.record.specs.Entry.{streamAt}
+use Rattle.ranges.specs.Ranges.{chargeFits, shareOf, linkFits, delayFits, permittedFits}
+use Rattle.fitness.specs.Clauses.{permittedSum}
+
+-- Open: "2 open already; 3 L outside its range; 4 K outside its range"
+unfoldable pub openRefusal : List ℕ → ℕ → ℕ → ℕ
+openRefusal p link delay =
+    cond (openAt p) 2
+    (cond (not (linkFits link)) 3
+    (cond (not (delayFits delay)) 4 0))
+
+-- Reserve: "1 port closed; [..] 5 stream above 63; 6 reserved already; 7 P below 84; 8 sum of P above the share"
+unfoldable pub reserveRefusal : List ℕ → ℕ → ℕ → ℕ
+reserveRefusal p s permitted =
+    cond (not (openAt p)) 1
+    (cond (leb streamCount s) 5
+    (cond (streamAt p s .reserved) 6
+    (cond (not (permittedFits permitted)) 7
+    (cond (ltb (shareOf (linkAt p)) (permittedSum p + permitted)) 8 0))))
+
+-- Arrive: "12 stream not reserved [..]; 13 charge outside 84 to 1,542"
+unfoldable pub arriveRefusal : List ℕ → ℕ → ℕ → ℕ
+arriveRefusal p s charge =
+    cond (not (openAt p)) 1
+    (cond (leb streamCount s) 5
+    (cond (not (streamAt p s .reserved)) 12
+    (cond (not (chargeFits charge)) 13 0)))
+
+-- Tick and Transmit
+unfoldable pub closedRefusal : List ℕ → ℕ
+closedRefusal p = cond (not (openAt p)) 1 0

@@ -1,0 +1,98 @@
+// What each call refuses of a record and memory that will do: the number of the first refusal that applies, or 0.
+ghost use mathlib.Core.Path.{_≡_};
+ghost use Prim.Native.Nat.{_<_};
+ghost use Rattle.record.specs.Layout.{Whole};
+ghost use Rattle.gates.specs.Refusals.{openRefusal, reserveRefusal, arriveRefusal, closedRefusal};
+
+// Document 01's numbers.
+const CLOSED: u8 = 1;
+
+const OPEN_ALREADY: u8 = 2;
+
+const LINK_RANGE: u8 = 3;
+
+const DELAY_RANGE: u8 = 4;
+
+const STREAM_RANGE: u8 = 5;
+
+const RESERVED_ALREADY: u8 = 6;
+
+const PERMITTED_RANGE: u8 = 7;
+
+const SHARE_EXCEEDED: u8 = 8;
+
+const NOT_RESERVED: u8 = 12;
+
+const CHARGE_RANGE: u8 = 13;
+
+// The refusal of Open.
+pub(crate) fn open_port(port: &[u8], link: u32, delay: u32) -> u8
+    requires { ⌜ Whole (now port) ⌝ }
+    ensures { λ r. ⌜ r ≡ openRefusal (now (port .entry)) link delay ⌝ }
+{
+    if record::head::is_open(port) {
+        return OPEN_ALREADY;
+    }
+    if !ranges::link_fits(link) {
+        return LINK_RANGE;
+    }
+    if !ranges::delay_fits(delay) {
+        return DELAY_RANGE;
+    }
+    0
+}
+
+// The refusal of Reserve. Where it refuses nothing, P is a number of 16 bits, since L is.
+pub(crate) fn reserve(port: &[u8], stream: u8, permitted: u32) -> u8
+    requires { ⌜ Whole (now port) ⌝ }
+    ensures { λ r. ⌜ (r ≡ reserveRefusal (now (port .entry)) stream permitted) × (r ≡ 0 → permitted < 65536) ⌝ }
+{
+    if !record::head::is_open(port) {
+        return CLOSED;
+    }
+    if record::STREAMS <= stream {
+        return STREAM_RANGE;
+    }
+    if record::entry::stream_at(port, stream).reserved {
+        return RESERVED_ALREADY;
+    }
+    if !ranges::permitted_fits(permitted) {
+        return PERMITTED_RANGE;
+    }
+    let sum = fitness::streams::permitted_sum(port) as u64 + permitted as u64;
+    if (ranges::share(record::head::link(port)) as u64) < sum {
+        return SHARE_EXCEEDED;
+    }
+    0
+}
+
+// The refusal of Arrive.
+pub(crate) fn arrive(port: &[u8], stream: u8, charge: u32) -> u8
+    requires { ⌜ Whole (now port) ⌝ }
+    ensures { λ r. ⌜ r ≡ arriveRefusal (now (port .entry)) stream charge ⌝ }
+{
+    if !record::head::is_open(port) {
+        return CLOSED;
+    }
+    if record::STREAMS <= stream {
+        return STREAM_RANGE;
+    }
+    if !record::entry::stream_at(port, stream).reserved {
+        return NOT_RESERVED;
+    }
+    if !ranges::charge_fits(charge) {
+        return CHARGE_RANGE;
+    }
+    0
+}
+
+// The refusal of Tick and Transmit.
+pub(crate) fn closed(port: &[u8]) -> u8
+    requires { ⌜ Whole (now port) ⌝ }
+    ensures { λ r. ⌜ r ≡ closedRefusal (now (port .entry)) ⌝ }
+{
+    if !record::head::is_open(port) {
+        return CLOSED;
+    }
+    0
+}

@@ -1,0 +1,2 @@
+-- The laws of the ranges, cited by the crates above.
+pub mod RangeLaws

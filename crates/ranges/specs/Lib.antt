@@ -1,0 +1,2 @@
+-- The ranges of document 01's numbers.
+pub mod Ranges
