@@ -4,10 +4,10 @@ use mathlib.Core.Bool.{cond}
 use mathlib.Core.List.{List}
 use lib.Dec.{eqb}
 use Rattle.steps.specs.Outcome.{Outcome, refused}
-use Rattle.steps.specs.Opening.{openStep, reserveStep}
-use Rattle.steps.specs.Arriving.{arriveStep}
-use Rattle.steps.specs.Ticking.{tickStep}
-use Rattle.steps.specs.Sending.{transmitStep}
+use Rattle.opening.specs.Opening.{openStep, reserveStep}
+use Rattle.arriving.specs.Arriving.{arriveStep}
+use Rattle.ticking.specs.Ticking.{tickStep}
+use Rattle.sending.specs.Sending.{transmitStep}
 use Rattle.gates.specs.Refusals.{openRefusal, reserveRefusal, arriveRefusal, closedRefusal}
 
 -- a refusal, which leaves record and memory as they are, or what is done where there is none

@@ -18,7 +18,7 @@ pub fn open_port(port: &mut [u8], memory: &[u8], link: u32, delay: u32) -> Reply
     if refusal != 0 {
         return steps::refused(refusal);
     }
-    steps::opening::open_port(port, link as u16, delay as u8)
+    opening::open_port(port, link as u16, delay as u8)
 }
 
 // Reserve.
@@ -30,7 +30,7 @@ pub fn reserve(port: &mut [u8], memory: &[u8], stream: u8, permitted: u32) -> Re
     if refusal != 0 {
         return steps::refused(refusal);
     }
-    steps::opening::reserve(port, stream, permitted as u16)
+    opening::reserve(port, stream, permitted as u16)
 }
 
 // Arrive.
@@ -42,7 +42,7 @@ pub fn arrive(port: &mut [u8], memory: &mut [u8], stream: u8, charge: u32, tag: 
     if refusal != 0 {
         return steps::refused(refusal);
     }
-    steps::arriving::arrive(port, memory, stream, charge as u16, tag)
+    arriving::arrive(port, memory, stream, charge as u16, tag)
 }
 
 // Tick.
@@ -54,7 +54,7 @@ pub fn tick(port: &mut [u8], memory: &[u8]) -> Reply
     if refusal != 0 {
         return steps::refused(refusal);
     }
-    steps::ticking::tick(port, memory)
+    ticking::tick(port, memory)
 }
 
 // Transmit.
@@ -66,5 +66,5 @@ pub fn transmit(port: &mut [u8], memory: &[u8]) -> Reply
     if refusal != 0 {
         return steps::refused(refusal);
     }
-    steps::sending::transmit(port, memory)
+    sending::transmit(port, memory)
 }

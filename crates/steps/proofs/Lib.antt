@@ -1,3 +1,2 @@
--- The laws of the steps, cited by the crates above.
+-- The laws of what the steps share, cited by the crates above.
 pub mod OutcomeLaws
-pub mod SendLaws

@@ -1,7 +1,4 @@
--- The steps of a port over the record and the memory: document 01, "Steps", in its order.
+-- What the steps of a port share: the outcome of a call, the roles of the queues, a stream moved.
 pub mod Outcome
 pub mod Roles
-pub mod Opening
-pub mod Arriving
-pub mod Ticking
-pub mod Sending
+pub mod Moves

@@ -1,24 +1,22 @@
-// The steps of a port, in the octets that the host lends: what Open, Reserve, Arrive, Tick and Transmit do once nothing refuses them. Each is
-// defined for every record and memory that are long enough, fit or not, and writes only what its rule names. The definitions are in specs/.
-pub mod arriving;
-pub mod opening;
-pub mod sending;
-pub mod ticking;
-
+// What the steps of a port share: replies, the roles of the queues, and a stream moved. The steps themselves stand in the crates above, one for
+// each call: what it does once nothing refuses it. Each is defined for every record and memory that are long enough, fit or not, and writes only
+// what its rule names.
 use stream::Reply;
+use stream::Stream;
 ghost use mathlib.Core.Path.{_≡_};
 ghost use Prim.Native.Nat.{_≤_, _<_};
 ghost use Rattle.stream.specs.Replies.{granted, refusedBy};
-ghost use Rattle.record.specs.Layout.{Whole, queueCount};
+ghost use Rattle.record.specs.Layout.{Whole, streamCount, queueCount};
 ghost use Rattle.steps.specs.Roles.{roleAt};
+ghost use Rattle.steps.specs.Moves.{moved};
 
 // The roles prior and current; the roles from current on have the numbers of the places.
-const PRIOR: u8 = 0;
+pub const PRIOR: u8 = 0;
 
-const CURRENT: u8 = stream::CURRENT;
+pub const CURRENT: u8 = stream::CURRENT;
 
 // The reply of a call that is not refused.
-fn granted(first: u32, second: u32) -> Reply
+pub fn granted(first: u32, second: u32) -> Reply
     ensures { λ r. ⌜ r ≡ granted first second ⌝ }
 {
     Reply {
@@ -40,9 +38,17 @@ pub fn refused(number: u8) -> Reply
 }
 
 // The number of the queue in a role, one of the four.
-fn in_role(port: &[u8], role: u8) -> u8
+pub fn in_role(port: &[u8], role: u8) -> u8
     requires { ⌜ Whole (now port) ⌝ }
     ensures { λ r. ⌜ (r ≡ roleAt (now (port .entry)) role) × (r < queueCount) ⌝ }
 {
     ((record::head::prior(port) as u16 + role as u16) % record::QUEUES as u16) as u8
+}
+
+// Puts the stream where its rule has moved it.
+pub fn move_to(port: &mut [u8], stream: u8, next: Stream)
+    requires { ⌜ Whole (now port) × (stream < streamCount) ⌝ }
+    ensures { λ _. ⌜ now (port .exit) ≡ moved (now (port .entry)) stream next ⌝ }
+{
+    record::entry::put_place(port, stream, next.place, next.left);
 }

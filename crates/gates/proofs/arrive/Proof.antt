@@ -7,7 +7,7 @@ use borrow.Author.Needs.{needs}
 use borrow.Author.Tests.{leb-true}
 use Rattle.lists.proofs.TurnLaws.{both}
 use Rattle.steps.proofs.OutcomeLaws.{same-outcome}
-use Rattle.steps.specs.Arriving.{arriveStep}
+use Rattle.arriving.specs.Arriving.{arriveStep}
 use Rattle.gates.specs.Gated.{gated}
 use Rattle.gates.proofs.GateLaws.{grants, refuses, arrive-allowed}
 use Rattle.gates.proofs.arrive.Statement.{statement}

@@ -7,7 +7,7 @@ use borrow.Author.Needs.{needs}
 use borrow.Author.Tests.{leb-true}
 use Rattle.lists.proofs.TurnLaws.{both}
 use Rattle.steps.proofs.OutcomeLaws.{same-outcome}
-use Rattle.steps.specs.Opening.{openStep}
+use Rattle.opening.specs.Opening.{openStep}
 use Rattle.gates.specs.Gated.{gated}
 use Rattle.gates.proofs.GateLaws.{grants, refuses, open-allowed}
 use Rattle.gates.proofs.open_port.Statement.{statement}

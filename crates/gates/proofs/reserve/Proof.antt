@@ -4,7 +4,7 @@ use mathlib.Core.Path.{refl, _∙_, ap, sym}
 use native.Mathlib.Omega.{arith}
 use borrow.Author.Needs.{needs}
 use Rattle.steps.proofs.OutcomeLaws.{same-outcome}
-use Rattle.steps.specs.Opening.{reserveStep}
+use Rattle.opening.specs.Opening.{reserveStep}
 use Rattle.gates.specs.Gated.{gated}
 use Rattle.gates.proofs.GateLaws.{grants, refuses, reserve-allowed}
 use Rattle.gates.proofs.reserve.Statement.{statement}

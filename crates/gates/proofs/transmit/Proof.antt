@@ -3,7 +3,7 @@ use Prim.Native.Nat.{ℕ}
 use mathlib.Core.Path.{refl, _∙_, ap, sym}
 use borrow.Author.Needs.{needs}
 use Rattle.steps.proofs.OutcomeLaws.{same-outcome}
-use Rattle.steps.specs.Sending.{transmitStep}
+use Rattle.sending.specs.Sending.{transmitStep}
 use Rattle.gates.specs.Gated.{gated}
 use Rattle.gates.proofs.GateLaws.{grants, refuses}
 use Rattle.gates.proofs.transmit.Statement.{statement}

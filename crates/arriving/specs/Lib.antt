@@ -1,0 +1,2 @@
+-- The step of Arrive(s, a, tag): document 01, "Steps".
+pub mod Arriving

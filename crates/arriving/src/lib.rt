@@ -1,0 +1,62 @@
+// The step of Arrive, in the octets that the host lends. The definition is in specs/.
+use queue::Frame;
+use stream::Arrival;
+use stream::Reply;
+use stream::Stream;
+ghost use mathlib.Core.Path.{_≡_};
+ghost use Prim.Native.Nat.{_≤_, _<_};
+ghost use lib.ListN.{length};
+ghost use Rattle.record.specs.Layout.{Whole, streamCount, queueCount, memoryLength};
+ghost use Rattle.steps.specs.Outcome.{outcome};
+ghost use Rattle.arriving.specs.Arriving.{joinedInto, arriveStep};
+ghost use Rattle.steps.specs.Moves.{moved};
+
+// The refusals of a discarded frame and of a full queue.
+const DISCARD: u8 = 14;
+
+const FULL: u8 = 20;
+
+// The frame joins the queue of this number, which is at the place, unless that is full.
+fn join(
+    port: &mut [u8],
+    memory: &mut [u8],
+    stream: u8,
+    place: u8,
+    next: Stream,
+    number: u8,
+    frame: Frame,
+) -> Reply
+    requires { ⌜ Whole (now port) × ((memoryLength ≤ length (now memory)) × ((stream < streamCount) × (number < queueCount))) ⌝ }
+    ensures { λ r. ⌜ outcome r (now (port .exit)) (now (memory .exit)) ≡ joinedInto (now (port .entry)) (now (memory .entry)) stream place next number frame ⌝ }
+{
+    let queue = record::head::queue_at(port, number);
+    if queue::PLACES <= queue.count {
+        return steps::refused(FULL);
+    }
+    steps::move_to(port, stream, next);
+    record::head::put_queue(port, number, queue.joined());
+    queue::join_at(memory, number, queue, frame);
+    steps::granted(place as u32, next.left as u32)
+}
+
+// Arrive(s, a, tag).
+pub fn arrive(port: &mut [u8], memory: &mut [u8], stream: u8, charge: u16, tag: u32) -> Reply
+    requires { ⌜ Whole (now port) × ((memoryLength ≤ length (now memory)) × (stream < streamCount)) ⌝ }
+    ensures { λ r. ⌜ outcome r (now (port .exit)) (now (memory .exit)) ≡ arriveStep (now (port .entry)) (now (memory .entry)) stream charge tag ⌝ }
+{
+    let frame = Frame {
+        stream: stream as u16,
+        charge,
+        tag,
+    };
+    match record::entry::stream_at(port, stream).arrive(charge) {
+        Arrival::Joined(place, next) => {
+            let number = steps::in_role(port, place);
+            join(port, memory, stream, place, next, number, frame)
+        }
+        Arrival::Discarded(spent) => {
+            steps::move_to(port, stream, spent);
+            steps::refused(DISCARD)
+        }
+    }
+}

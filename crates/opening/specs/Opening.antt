@@ -1,0 +1,43 @@
+-- Open(L, K) and Reserve(s, P).
+use Prim.Native.Nat.{ℕ, _-_}
+use mathlib.Core.List.{List}
+use Rattle.lists.specs.Turns.{iterate}
+use Rattle.stream.specs.State.{reserveOf}
+use Rattle.stream.specs.Replies.{granted}
+use Rattle.queue.specs.Ring.{emptyQueue}
+use Rattle.record.specs.Layout.{allQueues, streamCount}
+use Rattle.record.specs.Head.{linkAt, withOpen, withPrior, withDelay, withLink, withWaits, withQueue}
+use Rattle.record.specs.Entry.{withStream, dropped}
+use Rattle.ranges.specs.Ranges.{shareOf}
+use Rattle.fitness.specs.Clauses.{permittedSum}
+use Rattle.steps.specs.Outcome.{Outcome, outcome}
+
+-- the head of an open port: L and K, prior is queue 0, W is 0
+abbrev pub openedHead : List ℕ → ℕ → ℕ → List ℕ
+openedHead p link delay = withWaits (withLink (withDelay (withPrior (withOpen p) 0) delay) link) 0
+
+-- "empties all queues"
+abbrev pub allEmptied : List ℕ → List ℕ
+allEmptied = iterate (λ q l. withQueue l q emptyQueue) allQueues
+
+-- "drops all reservations and bindings"
+abbrev pub allDropped : List ℕ → List ℕ
+allDropped = iterate (λ s l. dropped l s) streamCount
+
+-- the record after Open(L, K), whose reply is the share
+unfoldable pub openedRecord : List ℕ → ℕ → ℕ → List ℕ
+openedRecord p link delay = allDropped (allEmptied (openedHead p link delay))
+
+abbrev pub openStep : List ℕ → List ℕ → ℕ → ℕ → Outcome
+openStep p m link delay = outcome (granted (shareOf link) 0) (openedRecord p link delay) m
+
+-- the share still free: the share less R
+abbrev pub freeShare : List ℕ → ℕ
+freeShare p = shareOf (linkAt p) - permittedSum p
+
+-- the record after Reserve(s, P), whose reply is the share still free then
+abbrev pub reservedRecord : List ℕ → ℕ → ℕ → List ℕ
+reservedRecord p s permitted = withStream p s (reserveOf permitted)
+
+abbrev pub reserveStep : List ℕ → List ℕ → ℕ → ℕ → Outcome
+reserveStep p m s permitted = outcome (granted (freeShare (reservedRecord p s permitted)) 0) (reservedRecord p s permitted) m

@@ -1,0 +1,2 @@
+-- The laws of Transmit, cited by the crates above.
+pub mod SendLaws

@@ -1,0 +1,37 @@
+-- Which frame a transmit sends, under plain hypotheses. Assumes nothing.
+use Prim.Native.Nat.{ℕ}
+use mathlib.Core.Path.{_≡_, ap, ap₂, _∙_}
+use mathlib.Core.Bool.{Bool, cond}
+use mathlib.Core.List.{List}
+use borrow.Author.Tests.{eq-eqb, ne-eqb}
+use Rattle.stream.specs.Replies.{granted}
+use Rattle.queue.specs.declared.Queue.{Queue}
+use Rattle.steps.specs.Outcome.{Outcome, outcome}
+use Rattle.sending.specs.Sending.{sent, sentBestEffort, nothing, ifWaiting, sentFirst}
+
+-- a queue where frames wait, and one where none does
+waits : (q : Queue) (done else : Outcome) → (q .count ≡ 0 → ⊥) → ifWaiting q done else ≡ done
+waits q done else h = ap (λ (b : Bool). cond b else done) (ne-eqb (q .count) 0 h)
+
+none : (q : Queue) (done else : Outcome) → q .count ≡ 0 → ifWaiting q done else ≡ else
+none q done else h = ap (λ (b : Bool). cond b else done) (eq-eqb (q .count) 0 h)
+
+module _ (p m : List ℕ) (prior current : ℕ) (a b c : Queue) where
+  pub sends-prior : (a .count ≡ 0 → ⊥) → sentFirst p m prior current a b c ≡ sent p m prior a
+  sends-prior h = waits a _ _ h
+
+  pub sends-current : a .count ≡ 0 → (b .count ≡ 0 → ⊥) → sentFirst p m prior current a b c ≡ sent p m current b
+  sends-current i h = none a _ _ i ∙ waits b _ _ h
+
+  pub sends-best-effort : a .count ≡ 0 → b .count ≡ 0 → (c .count ≡ 0 → ⊥) → sentFirst p m prior current a b c ≡ sentBestEffort p m c
+  sends-best-effort i j h = none a _ _ i ∙ none b _ _ j ∙ waits c _ _ h
+
+  pub sends-nothing : a .count ≡ 0 → b .count ≡ 0 → c .count ≡ 0 → sentFirst p m prior current a b c ≡ outcome (granted nothing 0) p m
+  sends-nothing i j h = none a _ _ i ∙ none b _ _ j ∙ none c _ _ h
+
+-- the same queues send the same
+pub same-queues : (p m : List ℕ) (prior current prior′ current′ : ℕ) (a b c a′ b′ c′ : Queue)
+    → prior ≡ prior′ → current ≡ current′ → a ≡ a′ → b ≡ b′ → c ≡ c′
+    → sentFirst p m prior current a b c ≡ sentFirst p m prior′ current′ a′ b′ c′
+same-queues p m prior current prior′ current′ a b c a′ b′ c′ r s i j k =
+    ap₂ (λ (x y : ℕ). sentFirst p m x y a b c) r s ∙ ap₂ (λ (x y : Queue). sentFirst p m prior′ current′ x y c) i j ∙ ap (sentFirst p m prior′ current′ a′ b′) k

@@ -1,0 +1,2 @@
+-- The step of Transmit: document 01, "Steps".
+pub mod Sending

@@ -1,0 +1,2 @@
+-- The step of Tick: document 01, "Steps".
+pub mod Ticking

@@ -1,0 +1,56 @@
+// The step of Tick, in the octets that the host lends. The definition is in specs/.
+use queue::Queue;
+use stream::Reply;
+ghost use mathlib.Core.Path.{_≡_};
+ghost use Prim.Native.Nat.{_≤_, _<_};
+ghost use lib.ListN.{length};
+ghost use Rattle.record.specs.Layout.{Whole, streamCount, memoryLength};
+ghost use Rattle.steps.specs.Outcome.{outcome};
+ghost use Rattle.ticking.specs.Ticking.{tickedAt, streamsTicked, tickedRecord, tickStep};
+
+// The tick of one stream.
+fn tick_stream(port: &mut [u8], stream: u8)
+    requires { ⌜ Whole (now port) × (stream < streamCount) ⌝ }
+    ensures { λ _. ⌜ now (port .exit) ≡ tickedAt stream (now (port .entry)) ⌝ }
+{
+    let reservation = record::entry::stream_at(port, stream);
+    if !reservation.reserved {
+        return;
+    }
+    steps::move_to(port, stream, reservation.tick());
+}
+
+// The tick of every stream.
+fn tick_streams(port: &mut [u8])
+    requires { ⌜ Whole (now port) ⌝ }
+    ensures { λ _. ⌜ now (port .exit) ≡ streamsTicked (now (port .entry)) ⌝ }
+{
+    let mut s: u8 = 0;
+    while s < record::STREAMS {
+        tick_stream(port, s);
+        s += 1;
+    }
+}
+
+// The record of the tick: prior is emptied, current becomes prior, and the streams come nearer.
+fn tick_record(port: &mut [u8])
+    requires { ⌜ Whole (now port) ⌝ }
+    ensures { λ _. ⌜ now (port .exit) ≡ tickedRecord (now (port .entry)) ⌝ }
+{
+    let prior = steps::in_role(port, steps::PRIOR);
+    let current = steps::in_role(port, steps::CURRENT);
+    record::head::put_queue(port, prior, Queue::empty());
+    record::head::put_prior(port, current);
+    tick_streams(port);
+}
+
+// Tick.
+pub fn tick(port: &mut [u8], memory: &[u8]) -> Reply
+    requires { ⌜ Whole (now port) × (memoryLength ≤ length (now memory)) ⌝ }
+    ensures { λ r. ⌜ outcome r (now (port .exit)) (now (memory .entry)) ≡ tickStep (now (port .entry)) (now (memory .entry)) ⌝ }
+{
+    let prior = steps::in_role(port, steps::PRIOR);
+    let queue = record::head::queue_at(port, prior);
+    tick_record(port);
+    steps::granted(queue.count as u32, queue::charges(memory, prior, queue))
+}
