@@ -1,2 +1,4 @@
 -- The laws of fitness, cited by the crates above.
 mod GatherLaws
+pub mod TestLaws
+pub mod FitLaws

@@ -1,6 +1,6 @@
 -- Laws of `allTo`, `sumTo`, `listTo`, `allOf`, `sumOf` and `iterate`. Assumes nothing.
 use Prim.Native.Nat.{ℕ, zero, suc, _+_, _<_}
-use mathlib.Core.Path.{_≡_, refl, sym, ap, ap₂, _∙_}
+use mathlib.Core.Path.{_≡_, refl, sym, ap, ap₂, subst, _∙_}
 use mathlib.Core.Bool.{Bool, true, false, _&&_}
 use mathlib.Core.Logic.{⊎-elim}
 use native.Mathlib.Nat.{eq-or-lt-of-le}
@@ -107,3 +107,16 @@ module _ {A : Type 0} where
   unfolding iterate
   iterate-keeps P f zero a h p = p
   iterate-keeps P f (suc n) a h p = h n (iterate f n a) (iterate-keeps P f n a h p)
+
+  -- what each turn brings for its number, and later turns keep, holds of every number after all
+  pub iterate-each : (G : ℕ → A → Type 0) (f : ℕ → A → A) (n : ℕ) (a : A)
+      → ((k : ℕ) (x : A) → G k (f k x))
+      → ((k i : ℕ) (x : A) → k < i → G k x → G k (f i x))
+      → (k : ℕ) → k < n → G k (iterate f n a)
+  unfolding iterate
+  iterate-each G f zero a brings keeps k h = absurd (omega arith)
+  iterate-each G f (suc n) a brings keeps k h =
+      ⊎-elim
+      (λ (q : k ≡ n). subst (λ (i : ℕ). G i (f n (iterate f n a))) (sym q) (brings n (iterate f n a)))
+      (λ (l : k < n). keeps k n (iterate f n a) l (iterate-each G f n a brings keeps k l))
+      (eq-or-lt-of-le (omega arith))

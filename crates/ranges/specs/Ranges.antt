@@ -29,8 +29,11 @@ abbrev pub linkFits : ℕ → Bool
 linkFits = within (greatestCharge + leastCharge) (greatestCharge + greatestShare)
 
 -- "K, best-effort delay bound in epochs, 1 to 16"
+abbrev pub greatestDelay : ℕ
+greatestDelay = 16
+
 abbrev pub delayFits : ℕ → Bool
-delayFits = within 1 16
+delayFits = within 1 greatestDelay
 
 -- "P below 84" is refused; P has no upper end of its own
 abbrev pub permittedFits : ℕ → Bool

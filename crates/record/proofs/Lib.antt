@@ -1,3 +1,7 @@
 -- The laws of the record's fields, cited by the crates above.
 pub mod HeadLaws
 pub mod EntryLaws
+pub mod HeadPairs
+pub mod EntryPairs
+pub mod KeepLaws
+pub mod OpenPairs

@@ -1,9 +1,11 @@
 -- Which frame a transmit sends, under plain hypotheses. Assumes nothing.
 use Prim.Native.Nat.{ℕ}
-use mathlib.Core.Path.{_≡_, ap, ap₂, _∙_}
+use mathlib.Core.Path.{_≡_, sym, ap, ap₂, subst, _∙_}
 use mathlib.Core.Bool.{Bool, cond}
+use mathlib.Core.Logic.{⊎-elim}
 use mathlib.Core.List.{List}
 use borrow.Author.Tests.{eq-eqb, ne-eqb}
+use Rattle.lists.proofs.Order.{eq-or-not}
 use Rattle.stream.specs.Replies.{granted}
 use Rattle.queue.specs.declared.Queue.{Queue}
 use Rattle.steps.specs.Outcome.{Outcome, outcome}
@@ -28,6 +30,27 @@ module _ (p m : List ℕ) (prior current : ℕ) (a b c : Queue) where
 
   pub sends-nothing : a .count ≡ 0 → b .count ≡ 0 → c .count ≡ 0 → sentFirst p m prior current a b c ≡ outcome (granted nothing 0) p m
   sends-nothing i j h = none a _ _ i ∙ none b _ _ j ∙ none c _ _ h
+
+  -- what holds of each of the four holds of what is sent
+  pub first-cases : (G : Outcome → Type 0)
+      → ((a .count ≡ 0 → ⊥) → G (sent p m prior a))
+      → (a .count ≡ 0 → (b .count ≡ 0 → ⊥) → G (sent p m current b))
+      → (a .count ≡ 0 → b .count ≡ 0 → (c .count ≡ 0 → ⊥) → G (sentBestEffort p m c))
+      → (a .count ≡ 0 → b .count ≡ 0 → c .count ≡ 0 → G (outcome (granted nothing 0) p m))
+      → G (sentFirst p m prior current a b c)
+  first-cases G in-prior in-current in-best-effort in-none =
+      ⊎-elim
+      (λ (i : a .count ≡ 0).
+      ⊎-elim
+      (λ (j : b .count ≡ 0).
+      ⊎-elim
+      (λ (k : c .count ≡ 0). subst G (sym (sends-nothing i j k)) (in-none i j k))
+      (λ (k : c .count ≡ 0 → ⊥). subst G (sym (sends-best-effort i j k)) (in-best-effort i j k))
+      (eq-or-not (c .count) 0))
+      (λ (j : b .count ≡ 0 → ⊥). subst G (sym (sends-current i j)) (in-current i j))
+      (eq-or-not (b .count) 0))
+      (λ (i : a .count ≡ 0 → ⊥). subst G (sym (sends-prior i)) (in-prior i))
+      (eq-or-not (a .count) 0)
 
 -- the same queues send the same
 pub same-queues : (p m : List ℕ) (prior current prior′ current′ : ℕ) (a b c a′ b′ c′ : Queue)

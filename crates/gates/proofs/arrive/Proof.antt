@@ -2,12 +2,11 @@
 use Prim.Native.Nat.{ℕ}
 use mathlib.Core.Path.{refl, _∙_, ap, sym}
 use native.Mathlib.Omega.{arith}
-use lib.Dec.{leb}
 use borrow.Author.Needs.{needs}
-use borrow.Author.Tests.{leb-true}
-use Rattle.lists.proofs.TurnLaws.{both}
-use Rattle.steps.proofs.OutcomeLaws.{same-outcome}
 use Rattle.arriving.specs.Arriving.{arriveStep}
+use Rattle.ranges.proofs.RangeLaws.{within-bounds}
+use Rattle.ranges.specs.Ranges.{leastCharge, greatestCharge}
+use Rattle.steps.proofs.OutcomeLaws.{same-outcome}
 use Rattle.gates.specs.Gated.{gated}
 use Rattle.gates.proofs.GateLaws.{grants, refuses, arrive-allowed}
 use Rattle.gates.proofs.arrive.Statement.{statement}
@@ -35,8 +34,7 @@ cast-arrive : tie.Need-cast-arrive
 cast-arrive c =
     let a = c .before .before .before .before .before .before .before .args in
     let allowed = arrive-allowed (a .port .now) (a .stream) (a .charge) (sym (c .before .before .before .arrive .ensures) ∙ c .before .before .if1 .left) in
-    let within = both (leb 84 (a .charge)) (leb (a .charge) 1542) (allowed .charge-fits) in
-    omega (arith, leb-true (a .charge) 1542 (within .1))
+    omega (arith, within-bounds leastCharge greatestCharge (a .charge) (allowed .charge-fits) .1)
 
 arrive-requires-2 : tie.Need-arrive-requires-2
 arrive-requires-2 c κs =

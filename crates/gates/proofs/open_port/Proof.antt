@@ -1,13 +1,12 @@
 -- `gates::open_port` meets its contract. By the gate; then the step. Assumes nothing.
-use Prim.Native.Nat.{ℕ}
+use Prim.Native.Nat.{_+_, ℕ}
 use mathlib.Core.Path.{refl, _∙_, ap, sym}
 use native.Mathlib.Omega.{arith}
-use lib.Dec.{leb}
 use borrow.Author.Needs.{needs}
-use borrow.Author.Tests.{leb-true}
-use Rattle.lists.proofs.TurnLaws.{both}
-use Rattle.steps.proofs.OutcomeLaws.{same-outcome}
 use Rattle.opening.specs.Opening.{openStep}
+use Rattle.ranges.proofs.RangeLaws.{within-bounds}
+use Rattle.ranges.specs.Ranges.{leastCharge, greatestCharge, greatestShare, greatestDelay}
+use Rattle.steps.proofs.OutcomeLaws.{same-outcome}
 use Rattle.gates.specs.Gated.{gated}
 use Rattle.gates.proofs.GateLaws.{grants, refuses, open-allowed}
 use Rattle.gates.proofs.open_port.Statement.{statement}
@@ -35,15 +34,13 @@ cast-open-port : tie.Need-cast-open-port
 cast-open-port c =
     let a = c .before .before .before .before .before .before .args in
     let allowed = open-allowed (a .port .now) (a .link) (a .delay) (sym (c .before .before .open-port .ensures) ∙ c .before .if1 .left) in
-    let within = both (leb 1626 (a .link)) (leb (a .link) 23046) (allowed .link-fits) in
-    omega (arith, leb-true (a .link) 23046 (within .1))
+    omega (arith, within-bounds (greatestCharge + leastCharge) (greatestCharge + greatestShare) (a .link) (allowed .link-fits) .1)
 
 cast-open-port-2 : tie.Need-cast-open-port-2
 cast-open-port-2 c =
     let a = c .before .before .before .before .before .before .args in
     let allowed = open-allowed (a .port .now) (a .link) (a .delay) (sym (c .before .before .open-port .ensures) ∙ c .before .if1 .left) in
-    let within = both (leb 1 (a .delay)) (leb (a .delay) 16) (allowed .delay-fits) in
-    omega (arith, leb-true (a .delay) 16 (within .1))
+    omega (arith, within-bounds 1 greatestDelay (a .delay) (allowed .delay-fits) .1)
 
 open-port-requires-2 : tie.Need-open-port-requires-2
 open-port-requires-2 c κs = search needs

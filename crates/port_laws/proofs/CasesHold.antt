@@ -1,0 +1,23 @@
+-- C1 to C11 hold of the calls' definitions. Assumes nothing.
+use mathlib.Core.Path.{_≡_, refl}
+use mathlib.Core.List.{map}
+use Rattle.port_laws.specs.Cases.{cases, repliesTo}
+use Rattle.lists.specs.Turns.{allTo, sumTo, listTo, iterate}
+use Rattle.octets.specs.Numbers.{twoOf, fourOf, eightOf}
+use Rattle.stream.specs.Steps.{attempt, arriveOf, tickOf}
+use Rattle.queue.specs.Place.{frameAt, withFrame}
+use Rattle.queue.specs.Ring.{joinedMemory, frontOf}
+use Rattle.queue.specs.Waiting.{waiting}
+use Rattle.record.specs.Head.{openAt, withOpen, priorAt, withPrior, delayAt, withDelay, linkAt, withLink, waitsAt, withWaits, queueAt, withQueue}
+use Rattle.record.specs.Entry.{streamAt, withStream, withPlace, boundAt, vidAt, pairAt, dropped}
+use Rattle.fitness.specs.Fit.{recordFits, lentRefusal}
+use Rattle.steps.specs.Roles.{roleAt}
+use Rattle.opening.specs.Opening.{openedRecord}
+use Rattle.arriving.specs.Arriving.{arriveStep}
+use Rattle.ticking.specs.Ticking.{tickedRecord, tickStep}
+use Rattle.sending.specs.Sending.{transmitStep}
+use Rattle.gates.specs.Refusals.{openRefusal, reserveRefusal, arriveRefusal, closedRefusal}
+
+pub cases-hold : map repliesTo cases ≡ map (λ c. c .expected) cases
+unfolding allTo sumTo listTo iterate twoOf fourOf eightOf attempt arriveOf tickOf frameAt withFrame joinedMemory frontOf waiting openAt withOpen priorAt withPrior delayAt withDelay linkAt withLink waitsAt withWaits queueAt withQueue streamAt withStream withPlace boundAt vidAt pairAt dropped recordFits lentRefusal roleAt openedRecord arriveStep tickedRecord tickStep transmitStep openRefusal reserveRefusal arriveRefusal closedRefusal
+cases-hold = refl

@@ -1,0 +1,11 @@
+-- What holds of the calls, cited by the crates above.
+pub mod WriteFit
+pub mod OpenLaws
+pub mod OpenFit
+pub mod ReserveFit
+pub mod ArriveFit
+pub mod TickFit
+pub mod SendFit
+pub mod QuickLaws
+pub mod StayLaws
+pub mod CasesHold

@@ -1,0 +1,78 @@
+-- A fit record stays fit through every call, refused or not; so on a list of calls the quick calls reply as the calls do. Assumes nothing.
+use Prim.Native.Nat.{ℕ}
+use mathlib.Core.Path.{_≡_, refl, sym, ap₂, subst, _∙_}
+use mathlib.Core.Bool.{true}
+use mathlib.Core.Logic.{⊎-elim}
+use mathlib.Core.List.{List, [], _∷_}
+use Rattle.lists.proofs.Order.{eq-or-not}
+use Rattle.stream.specs.declared.Reply.{Reply}
+use Rattle.fitness.specs.Fit.{recordFits, lentRefusal}
+use Rattle.fitness.proofs.FitLaws.{fit-record, lent-fit}
+use Rattle.steps.specs.Outcome.{Outcome}
+use Rattle.opening.specs.Opening.{openStep, reserveStep}
+use Rattle.arriving.specs.Arriving.{arriveStep}
+use Rattle.ticking.specs.Ticking.{tickStep}
+use Rattle.sending.specs.Sending.{transmitStep}
+use Rattle.gates.specs.Refusals.{openRefusal, reserveRefusal, arriveRefusal, closedRefusal}
+use Rattle.gates.specs.Gated.{gated, opens, reserves, arrives, ticks, transmits}
+use Rattle.gates.proofs.GateLaws.{grants, refuses, open-allowed, reserve-allowed, arrive-allowed}
+use Rattle.port_laws.specs.Lists.{Call, opening, reserving, arriving, ticking, transmitting, called, quicklyCalled, replies}
+use Rattle.port_laws.proofs.OpenFit.{open-fits}
+use Rattle.port_laws.proofs.ReserveFit.{reserve-fits}
+use Rattle.port_laws.proofs.ArriveFit.{arrive-fits}
+use Rattle.port_laws.proofs.TickFit.{tick-fits}
+use Rattle.port_laws.proofs.SendFit.{transmit-fits}
+use Rattle.port_laws.proofs.QuickLaws.{quick-call}
+
+-- the record that a call leaves is fit for the memory that it leaves
+abbrev pub LeavesFit : Outcome → Type 0
+LeavesFit o = recordFits (o .port) (o .memory) ≡ true
+
+-- a gate leaves a fit record fit, where what it lets through does
+gated-fits : (g : ℕ) (p m : List ℕ) (done : Outcome) → recordFits p m ≡ true → (g ≡ 0 → LeavesFit done) → LeavesFit (gated g p m done)
+gated-fits g p m done fit h =
+    ⊎-elim
+    (λ (zero : g ≡ 0). subst LeavesFit (sym (grants g p m done zero)) (h zero))
+    (λ (some : g ≡ 0 → ⊥). subst LeavesFit (sym (refuses g p m done some)) fit)
+    (eq-or-not g 0)
+
+module _ (p m : List ℕ) (fit : recordFits p m ≡ true) where
+  opens-fit : (link delay : ℕ) → LeavesFit (opens p m link delay)
+  opens-fit link delay =
+      gated-fits (openRefusal p link delay) p m (openStep p m link delay) fit
+      (λ e. let a = open-allowed p link delay e in open-fits p m link delay (fit-record p m fit .long) (a .link-fits) (a .delay-fits))
+
+  reserves-fit : (s permitted : ℕ) → LeavesFit (reserves p m s permitted)
+  reserves-fit s permitted =
+      gated-fits (reserveRefusal p s permitted) p m (reserveStep p m s permitted) fit
+      (λ e. let a = reserve-allowed p s permitted e in
+      reserve-fits p m s permitted fit (a .opened) (a .stream) (a .free) (a .permitted-fits) (a .share))
+
+  arrives-fit : lentRefusal p m ≡ 0 → (s charge tag : ℕ) → LeavesFit (arrives p m s charge tag)
+  arrives-fit lent s charge tag =
+      gated-fits (arriveRefusal p s charge) p m (arriveStep p m s charge tag) fit
+      (λ e. let a = arrive-allowed p s charge e in
+      arrive-fits p m s charge tag (lent-fit p m lent .0) fit (a .stream) (a .reserved) (a .charge-fits))
+
+  ticks-fit : LeavesFit (ticks p m)
+  unfolding tickStep
+  ticks-fit = gated-fits (closedRefusal p) p m (tickStep p m) fit (λ e. tick-fits p m fit)
+
+  transmits-fit : LeavesFit (transmits p m)
+  transmits-fit = gated-fits (closedRefusal p) p m (transmitStep p m) fit (λ e. transmit-fits p m fit)
+
+-- every call
+pub stays-fit : (c : Call) (p m : List ℕ) → recordFits p m ≡ true → LeavesFit (called c p m)
+stays-fit (opening link delay) p m fit = gated-fits (lentRefusal p m) p m (opens p m link delay) fit (λ e. opens-fit p m fit link delay)
+stays-fit (reserving s permitted) p m fit = gated-fits (lentRefusal p m) p m (reserves p m s permitted) fit (λ e. reserves-fit p m fit s permitted)
+stays-fit (arriving s charge tag) p m fit = gated-fits (lentRefusal p m) p m (arrives p m s charge tag) fit (λ e. arrives-fit p m fit e s charge tag)
+stays-fit ticking p m fit = gated-fits (lentRefusal p m) p m (ticks p m) fit (λ e. ticks-fit p m fit)
+stays-fit transmitting p m fit = gated-fits (lentRefusal p m) p m (transmits p m) fit (λ e. transmits-fit p m fit)
+
+-- every list of calls: the quick calls reply as the calls do
+pub quick-replies : (cs : List Call) (p m : List ℕ) → recordFits p m ≡ true → replies quicklyCalled cs p m ≡ replies called cs p m
+quick-replies [] p m fit = refl
+quick-replies (c ∷ cs) p m fit =
+    let o = called c p m in
+    subst (λ (q : Outcome). q .reply ∷ replies quicklyCalled cs (q .port) (q .memory) ≡ o .reply ∷ replies called cs (o .port) (o .memory)) (sym (quick-call c p m fit))
+    (ap₂ _∷_ refl (quick-replies cs (o .port) (o .memory) (stays-fit c p m fit)))

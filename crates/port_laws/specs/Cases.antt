@@ -1,0 +1,92 @@
+-- Document 01's cases C1 to C11, each as calls on a port never opened, and what they reply. Stream 5 with P = 200, L = 2,142, K = 1, unless said
+-- otherwise.
+use Prim.Native.Nat.{ℕ}
+use mathlib.Core.List.{List, [], _∷_, _++_}
+use lib.ListN.{replicate}
+use Rattle.stream.specs.declared.Reply.{Reply}
+use Rattle.stream.specs.Replies.{granted, refusedBy}
+use Rattle.record.specs.Layout.{recordLength, memoryLength}
+use Rattle.port_laws.specs.Lists.{Call, opening, reserving, arriving, ticking, transmitting, called, replies}
+
+-- "A port starts closed, its queues empty and no stream reserved"
+abbrev pub freshRecord : List ℕ
+freshRecord = replicate recordLength 0
+
+abbrev pub freshMemory : List ℕ
+freshMemory = replicate memoryLength 0
+
+-- a case: the calls, and what they are to reply
+pub record Case : Type 0 where
+  pub calls : List Call
+  pub expected : List Reply
+
+-- the calls of a case after those of another
+abbrev pub continued : Case → List Call → List Reply → Case
+continued c cs rs = record { calls = c .calls ++ cs; expected = c .expected ++ rs }
+
+-- the port open, and the stream reserved
+abbrev pub opened : Case
+opened = record { calls = opening 2142 1 ∷ []; expected = granted 600 0 ∷ [] }
+
+abbrev pub reserved : Case
+reserved = continued opened (reserving 5 200 ∷ []) (granted 400 0 ∷ [])
+
+-- "C1 L 1,625: 3; 1,626: share 84"
+abbrev pub c1 : Case
+c1 = record { calls = opening 1625 1 ∷ opening 1626 1 ∷ []; expected = refusedBy 3 ∷ granted 84 0 ∷ [] }
+
+-- "C2 L 23,046: share 21,504; 23,047: 3", the refused one first, since a port opens once
+abbrev pub c2 : Case
+c2 = record { calls = opening 23047 1 ∷ opening 23046 1 ∷ []; expected = refusedBy 3 ∷ granted 21504 0 ∷ [] }
+
+-- "C3 P 83: 7; 84 granted"
+abbrev pub c3 : Case
+c3 = continued opened (reserving 5 83 ∷ reserving 5 84 ∷ []) (refusedBy 7 ∷ granted 516 0 ∷ [])
+
+-- "C4 after 200, P 401: 8; 400 granted"
+abbrev pub c4 : Case
+c4 = continued reserved (reserving 6 401 ∷ reserving 6 400 ∷ []) (refusedBy 8 ∷ granted 0 0 ∷ [])
+
+-- "C5 charge 200: current, then next with left 200"
+abbrev pub c5 : Case
+c5 = continued reserved (arriving 5 200 1 ∷ []) (granted 1 200 ∷ [])
+
+-- "C6 120, 100: as in the output", that is, of the sample capture, whose other events follow here
+abbrev pub c6 : Case
+c6 = continued reserved (arriving 5 120 7 ∷ arriving 5 100 8 ∷ []) (granted 1 80 ∷ granted 2 100 ∷ [])
+
+abbrev pub sample : Case
+sample =
+    continued c6
+    (transmitting ∷ transmitting ∷ ticking ∷ transmitting ∷ [])
+    (granted 5 7 ∷ granted 254 0 ∷ granted 0 0 ∷ granted 5 8 ∷ [])
+
+-- "C7 then 90: next, left 10; then 84: last, left 116"
+abbrev pub c7 : Case
+c7 = continued c6 (arriving 5 90 9 ∷ arriving 5 84 10 ∷ []) (granted 2 10 ∷ granted 3 116 ∷ [])
+
+-- "C8 200 three times: current, next, last; then 84: 14"
+abbrev pub c8 : Case
+c8 =
+    continued reserved
+    (arriving 5 200 1 ∷ arriving 5 200 2 ∷ arriving 5 200 3 ∷ arriving 5 84 4 ∷ [])
+    (granted 1 200 ∷ granted 2 200 ∷ granted 3 0 ∷ refusedBy 14 ∷ [])
+
+-- "C9 C8, tick, 84: last, left 116"
+abbrev pub c9 : Case
+c9 = continued c8 (ticking ∷ arriving 5 84 5 ∷ []) (granted 0 0 ∷ granted 3 116 ∷ [])
+
+-- "C10 charge 201: 14; then 84: 14"
+abbrev pub c10 : Case
+c10 = continued reserved (arriving 5 201 1 ∷ arriving 5 84 2 ∷ []) (refusedBy 14 ∷ refusedBy 14 ∷ [])
+
+-- "C11 charges 83 and 1,543: 13"
+abbrev pub c11 : Case
+c11 = continued reserved (arriving 5 83 1 ∷ arriving 5 1543 2 ∷ []) (refusedBy 13 ∷ refusedBy 13 ∷ [])
+
+abbrev pub cases : List Case
+cases = c1 ∷ c2 ∷ c3 ∷ c4 ∷ c5 ∷ c6 ∷ sample ∷ c7 ∷ c8 ∷ c9 ∷ c10 ∷ c11 ∷ []
+
+-- what the calls reply to a case
+abbrev pub repliesTo : Case → List Reply
+repliesTo c = replies called (c .calls) freshRecord freshMemory

@@ -1,0 +1,3 @@
+-- Lists of calls on one port, and document 01's cases C1 to C11.
+pub mod Lists
+pub mod Cases

@@ -1,0 +1,35 @@
+-- Lists of calls on one port and its memory: each call gets both as the one before it left them.
+use Prim.Native.Nat.{ℕ}
+use mathlib.Core.List.{List, [], _∷_}
+use Rattle.stream.specs.declared.Reply.{Reply}
+use Rattle.steps.specs.Outcome.{Outcome}
+use Rattle.port.specs.Calls.{openCall, reserveCall, arriveCall, tickCall, transmitCall}
+use Rattle.port.specs.Quick.{quickOpen, quickReserve, quickArrive, quickTick, quickTransmit}
+
+-- a call with its arguments: Open(L, K), Reserve(s, P), Arrive(s, a, tag), Tick, Transmit
+pub data Call : Type 0 where
+  opening : ℕ → ℕ → Call
+  reserving : ℕ → ℕ → Call
+  arriving : ℕ → ℕ → ℕ → Call
+  ticking : Call
+  transmitting : Call
+
+abbrev pub called : Call → List ℕ → List ℕ → Outcome
+called (opening link delay) p m = openCall p m link delay
+called (reserving s permitted) p m = reserveCall p m s permitted
+called (arriving s charge tag) p m = arriveCall p m s charge tag
+called ticking p m = tickCall p m
+called transmitting p m = transmitCall p m
+
+-- the same by the quick calls
+abbrev pub quicklyCalled : Call → List ℕ → List ℕ → Outcome
+quicklyCalled (opening link delay) p m = quickOpen p m link delay
+quicklyCalled (reserving s permitted) p m = quickReserve p m s permitted
+quicklyCalled (arriving s charge tag) p m = quickArrive p m s charge tag
+quicklyCalled ticking p m = quickTick p m
+quicklyCalled transmitting p m = quickTransmit p m
+
+-- the replies of a list of calls, by whichever sort of call
+abbrev pub replies : (Call → List ℕ → List ℕ → Outcome) → List Call → List ℕ → List ℕ → List Reply
+replies call [] p m = []
+replies call (c ∷ cs) p m = let o = call c p m in o .reply ∷ replies call cs (o .port) (o .memory)

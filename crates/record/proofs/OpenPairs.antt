@@ -1,0 +1,150 @@
+-- What the record reads after the writes of Open: the mark of an open port, K, L, a queue, and a stream dropped. A law is named after the
+-- reader and the writer. Assumes nothing.
+use Prim.Native.Nat.{ℕ, _+_, _≤_, _<_}
+use mathlib.Core.Bool.{true, false}
+use mathlib.Core.Path.{_≡_, ap, _∙_}
+use mathlib.Core.List.{List, [], _∷_}
+use native.Mathlib.Omega.{arith}
+use lib.ListN.{length}
+use Rattle.lists.specs.Window.{put, get}
+use Rattle.lists.proofs.WindowLaws.{length-put, get-apart, get-put}
+use Rattle.octets.specs.Numbers.{twoOf, twoOctets, fourOf}
+use Rattle.octets.proofs.NumberLaws.{two-octets}
+use Rattle.queue.specs.declared.Queue.{Queue}
+use Rattle.record.specs.Layout.{Whole, headLength, streamCount, openOffset, priorOffset, delayOffset, linkOffset, waitsOffset, queueOffset, queueLength, queueRoom, entryOffset, boundOffset, streamLength}
+use Rattle.record.specs.Head.{octetOf, flagOf, openAt, withOpen, priorAt, delayAt, withDelay, linkAt, withLink, waitsAt, queueOf, queueOctets, queueAt, withQueue}
+use Rattle.record.specs.Entry.{streamOf, streamAt, boundAt, dropped}
+
+-- after the port was marked open
+module _ (l : List ℕ) where
+  pub length-open : length (withOpen l) ≡ length l
+  unfolding withOpen
+  length-open = length-put l openOffset (1 ∷ [])
+
+  pub open-open : Whole l → openAt (withOpen l) ≡ true
+  unfolding openAt withOpen
+  open-open h = ap flagOf (get-put l openOffset (1 ∷ []) (omega arith))
+
+-- after K was written
+module _ (l : List ℕ) (epochs : ℕ) where
+  pub length-delay : length (withDelay l epochs) ≡ length l
+  unfolding withDelay
+  length-delay = length-put l delayOffset (epochs ∷ [])
+
+  pub delay-delay : Whole l → delayAt (withDelay l epochs) ≡ epochs
+  unfolding delayAt withDelay
+  delay-delay h = ap octetOf (get-put l delayOffset (epochs ∷ []) (omega arith))
+
+  pub open-delay : openAt (withDelay l epochs) ≡ openAt l
+  unfolding openAt withDelay
+  open-delay = ap flagOf (get-apart l delayOffset (epochs ∷ []) openOffset 1 (λ k a b c d. omega arith))
+
+  pub prior-delay : priorAt (withDelay l epochs) ≡ priorAt l
+  unfolding priorAt withDelay
+  prior-delay = ap octetOf (get-apart l delayOffset (epochs ∷ []) priorOffset 1 (λ k a b c d. omega arith))
+
+-- after L was written
+module _ (l : List ℕ) (octets : ℕ) where
+  pub length-link : length (withLink l octets) ≡ length l
+  unfolding withLink
+  length-link = length-put l linkOffset (twoOctets octets)
+
+  pub link-link : Whole l → linkAt (withLink l octets) ≡ octets
+  unfolding linkAt withLink
+  link-link h = ap twoOf (get-put l linkOffset (twoOctets octets) (omega arith)) ∙ two-octets octets
+
+  pub open-link : openAt (withLink l octets) ≡ openAt l
+  unfolding openAt withLink
+  open-link = ap flagOf (get-apart l linkOffset (twoOctets octets) openOffset 1 (λ k a b c d. omega arith))
+
+  pub prior-link : priorAt (withLink l octets) ≡ priorAt l
+  unfolding priorAt withLink
+  prior-link = ap octetOf (get-apart l linkOffset (twoOctets octets) priorOffset 1 (λ k a b c d. omega arith))
+
+  pub delay-link : delayAt (withLink l octets) ≡ delayAt l
+  unfolding delayAt withLink
+  delay-link = ap octetOf (get-apart l linkOffset (twoOctets octets) delayOffset 1 (λ k a b c d. omega arith))
+
+-- after a queue of whatever number was written
+module _ (l : List ℕ) (q : ℕ) (x : Queue) where
+  pub length-queue : length (withQueue l q x) ≡ length l
+  unfolding withQueue
+  length-queue = length-put l (queueOffset q) (queueOctets x)
+
+  pub open-queue : openAt (withQueue l q x) ≡ openAt l
+  unfolding openAt withQueue
+  open-queue = ap flagOf (get-apart l (queueOffset q) (queueOctets x) openOffset 1 (λ k a b c d. omega arith))
+
+  pub delay-queue : delayAt (withQueue l q x) ≡ delayAt l
+  unfolding delayAt withQueue
+  delay-queue = ap octetOf (get-apart l (queueOffset q) (queueOctets x) delayOffset 1 (λ k a b c d. omega arith))
+
+  pub link-queue : linkAt (withQueue l q x) ≡ linkAt l
+  unfolding linkAt withQueue
+  link-queue = ap twoOf (get-apart l (queueOffset q) (queueOctets x) linkOffset 2 (λ k a b c d. omega arith))
+
+-- after a stream was dropped
+module _ (l : List ℕ) (s : ℕ) where
+  pub length-dropped : length (dropped l s) ≡ length l
+  unfolding dropped
+  length-dropped =
+      length-put (put l (entryOffset s) (0 ∷ [])) (entryOffset s + boundOffset) (0 ∷ []) ∙ length-put l (entryOffset s) (0 ∷ [])
+
+  -- nothing is written in the head
+  head-dropped : (i n : ℕ) → i + n ≤ headLength → get (dropped l s) i n ≡ get l i n
+  unfolding dropped
+  head-dropped i n h =
+      get-apart (put l (entryOffset s) (0 ∷ [])) (entryOffset s + boundOffset) (0 ∷ []) i n (λ k a b c d. omega arith)
+      ∙ get-apart l (entryOffset s) (0 ∷ []) i n (λ k a b c d. omega arith)
+
+  pub open-dropped : openAt (dropped l s) ≡ openAt l
+  unfolding openAt
+  open-dropped = ap flagOf (head-dropped openOffset 1 (omega arith))
+
+  pub prior-dropped : priorAt (dropped l s) ≡ priorAt l
+  unfolding priorAt
+  prior-dropped = ap octetOf (head-dropped priorOffset 1 (omega arith))
+
+  pub delay-dropped : delayAt (dropped l s) ≡ delayAt l
+  unfolding delayAt
+  delay-dropped = ap octetOf (head-dropped delayOffset 1 (omega arith))
+
+  pub link-dropped : linkAt (dropped l s) ≡ linkAt l
+  unfolding linkAt
+  link-dropped = ap twoOf (head-dropped linkOffset 2 (omega arith))
+
+  pub waits-dropped : waitsAt (dropped l s) ≡ waitsAt l
+  unfolding waitsAt
+  waits-dropped = ap fourOf (head-dropped waitsOffset 4 (omega arith))
+
+  pub queue-dropped : (q : ℕ) → q < queueRoom → queueAt (dropped l s) q ≡ queueAt l q
+  unfolding queueAt
+  queue-dropped q h = ap queueOf (head-dropped (queueOffset q) queueLength (omega arith))
+
+  -- the stream is neither reserved nor bound
+  pub stream-dropped : Whole l → s < streamCount → streamAt (dropped l s) s .reserved ≡ false
+  unfolding streamAt dropped
+  stream-dropped h b =
+      ap (λ (o : List ℕ). streamOf o .reserved)
+      (get-apart (put l (entryOffset s) (0 ∷ [])) (entryOffset s + boundOffset) (0 ∷ []) (entryOffset s) streamLength (λ k a b c d. omega arith))
+      ∙ ap flagOf (get-put l (entryOffset s) (0 ∷ []) (omega arith))
+
+  pub bound-dropped : Whole l → s < streamCount → boundAt (dropped l s) s ≡ false
+  unfolding boundAt dropped
+  bound-dropped h b =
+      ap flagOf (get-put (put l (entryOffset s) (0 ∷ [])) (entryOffset s + boundOffset) (0 ∷ []) (simp (length-put l (entryOffset s) (0 ∷ [])) (omega arith)))
+
+  -- and the others are as they were
+  pub other-stream-dropped : (t : ℕ) → (t ≡ s → ⊥) → streamAt (dropped l s) t ≡ streamAt l t
+  unfolding streamAt dropped
+  other-stream-dropped t other =
+      ap streamOf
+      (get-apart (put l (entryOffset s) (0 ∷ [])) (entryOffset s + boundOffset) (0 ∷ []) (entryOffset t) streamLength (λ k a b c d. other (omega arith))
+      ∙ get-apart l (entryOffset s) (0 ∷ []) (entryOffset t) streamLength (λ k a b c d. other (omega arith)))
+
+  pub other-bound-dropped : (t : ℕ) → (t ≡ s → ⊥) → boundAt (dropped l s) t ≡ boundAt l t
+  unfolding boundAt dropped
+  other-bound-dropped t other =
+      ap flagOf
+      (get-apart (put l (entryOffset s) (0 ∷ [])) (entryOffset s + boundOffset) (0 ∷ []) (entryOffset t + boundOffset) 1 (λ k a b c d. other (omega arith))
+      ∙ get-apart l (entryOffset s) (0 ∷ []) (entryOffset t + boundOffset) 1 (λ k a b c d. other (omega arith)))
