@@ -9,25 +9,22 @@ ghost use lib.ListN.{length};
 ghost use Rattle.record.specs.Layout.{Whole, streamCount, queueCount, memoryLength};
 ghost use Rattle.steps.specs.Outcome.{outcome};
 ghost use Rattle.arriving.specs.Arriving.{joinedInto, arriveStep};
-ghost use Rattle.steps.specs.Moves.{moved};
 
-// The refusals of a discarded frame and of a full queue.
-const DISCARD: u8 = 14;
-
+// The refusal of a full queue.
 const FULL: u8 = 20;
 
-// The frame joins the queue of this number, which is at the place, unless that is full.
+// The frame joins the queue of this number, and the stream moves on, with this reply, unless the queue is full.
 fn join(
     port: &mut [u8],
     memory: &mut [u8],
     stream: u8,
-    place: u8,
+    reply: Reply,
     next: Stream,
     number: u8,
     frame: Frame,
 ) -> Reply
     requires { ⌜ Whole (now port) × ((memoryLength ≤ length (now memory)) × ((stream < streamCount) × (number < queueCount))) ⌝ }
-    ensures { λ r. ⌜ outcome r (now (port .exit)) (now (memory .exit)) ≡ joinedInto (now (port .entry)) (now (memory .entry)) stream place next number frame ⌝ }
+    ensures { λ r. ⌜ outcome r (now (port .exit)) (now (memory .exit)) ≡ joinedInto (now (port .entry)) (now (memory .entry)) stream reply next number frame ⌝ }
 {
     let queue = record::head::queue_at(port, number);
     if queue::PLACES <= queue.count {
@@ -36,7 +33,7 @@ fn join(
     steps::move_to(port, stream, next);
     record::head::put_queue(port, number, queue.joined());
     queue::join_at(memory, number, queue, frame);
-    steps::granted(place as u32, next.left as u32)
+    reply
 }
 
 // Arrive(s, a, tag).
@@ -49,14 +46,16 @@ pub fn arrive(port: &mut [u8], memory: &mut [u8], stream: u8, charge: u16, tag: 
         charge,
         tag,
     };
-    match record::entry::stream_at(port, stream).arrive(charge) {
+    let arrival = record::entry::stream_at(port, stream).arrive(charge);
+    let reply = arrival.reply();
+    match arrival {
         Arrival::Joined(place, next) => {
             let number = steps::in_role(port, place);
-            join(port, memory, stream, place, next, number, frame)
+            join(port, memory, stream, reply, next, number, frame)
         }
         Arrival::Discarded(spent) => {
             steps::move_to(port, stream, spent);
-            steps::refused(DISCARD)
+            reply
         }
     }
 }

@@ -34,7 +34,7 @@ abbrev pub streamsFit : List ℕ → Bool
 streamsFit p = allTo (λ s. streamFits (streamAt p s)) streamCount
 
 -- "a binding that repeats, belongs to an unreserved stream or has a VID outside 1 to 4,094"; `unlike` says whether its pair is another than that
--- of each binding before it
+-- of each binding before it. VID and address are both equal where the pairs' numbers are (`eight-same`)
 abbrev pub bindingFits : List ℕ → ℕ → Bool → Bool
 bindingFits p s unlike = cond (boundAt p s) (streamAt p s .reserved && vidFits (vidAt p s) && unlike) true
 
@@ -48,11 +48,11 @@ bindingsFit p = allTo (λ s. bindingFits p s (unlikeEarlier p s)) streamCount
 abbrev pub bestEffortStream : ℕ
 bestEffortStream = 255
 
-abbrev pub sourceFits : ℕ → ℕ → Bool
-sourceFits number stream = cond (eqb number bestEffort) (eqb stream bestEffortStream) (ltb stream streamCount)
+abbrev pub frameStreamFits : ℕ → ℕ → Bool
+frameStreamFits number stream = cond (eqb number bestEffort) (eqb stream bestEffortStream) (ltb stream streamCount)
 
 abbrev pub frameFits : ℕ → Frame → Bool
-frameFits number f = sourceFits number (f .stream) && chargeFits (f .charge)
+frameFits number f = frameStreamFits number (f .stream) && chargeFits (f .charge)
 
 abbrev pub framesFit : List ℕ → List ℕ → Bool
 framesFit p m = allTo (λ q. allOf (frameFits q) (waiting m q (queueAt p q))) allQueues

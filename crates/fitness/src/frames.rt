@@ -8,14 +8,14 @@ ghost use Rattle.lists.specs.Turns.{allOf};
 ghost use Rattle.queue.specs.Ring.{HasPart};
 ghost use Rattle.queue.specs.Waiting.{waiting};
 ghost use Rattle.record.specs.Layout.{Whole, memoryLength};
-ghost use Rattle.fitness.specs.Clauses.{sourceFits, frameFits, framesFit};
+ghost use Rattle.fitness.specs.Clauses.{frameStreamFits, frameFits, framesFit};
 
 // The stream of a best-effort frame.
 const BEST_EFFORT_STREAM: u16 = 255;
 
 // Whether a frame of this stream may wait in the queue of this number.
-fn source_fits(number: u8, stream: u16) -> bool
-    ensures { λ r. ⌜ r ≡ sourceFits number stream ⌝ }
+fn frame_stream_fits(number: u8, stream: u16) -> bool
+    ensures { λ r. ⌜ r ≡ frameStreamFits number stream ⌝ }
 {
     if number == record::BEST_EFFORT {
         return stream == BEST_EFFORT_STREAM;
@@ -28,7 +28,7 @@ fn frame_fits(number: u8, frame: Frame) -> bool
     ensures { λ r. ⌜ r ≡ frameFits number frame ⌝ }
 {
     crate::both(
-        source_fits(number, frame.stream),
+        frame_stream_fits(number, frame.stream),
         ranges::charge_fits(frame.charge as u32),
     )
 }

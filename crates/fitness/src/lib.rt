@@ -14,9 +14,9 @@ ghost use Rattle.fitness.specs.Clauses.{waitsFit, planFits, openFits};
 ghost use Rattle.fitness.specs.Fit.{recordFits, lentRefusal};
 
 // The refusals of a memory that is too short and of a record that is unfit.
-const SHORT_MEMORY: u8 = 18;
+pub const SHORT_MEMORY: u8 = 18;
 
-const UNFIT_RECORD: u8 = 19;
+pub const UNFIT_RECORD: u8 = 19;
 
 // Whether both hold.
 fn both(one: bool, other: bool) -> bool

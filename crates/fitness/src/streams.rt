@@ -1,7 +1,6 @@
 // The clauses of 19 on the reserved streams, and R, the sum of their P.
 use stream::Stream;
 ghost use mathlib.Core.Path.{_≡_};
-ghost use Prim.Native.Nat.{_≤_};
 ghost use Rattle.lists.specs.Turns.{allTo};
 ghost use Rattle.record.specs.Layout.{Whole, streamCount};
 ghost use Rattle.record.specs.Entry.{streamAt};

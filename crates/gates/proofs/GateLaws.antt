@@ -12,7 +12,7 @@ use Rattle.record.specs.Entry.{streamAt}
 use Rattle.ranges.specs.Ranges.{chargeFits, shareOf, linkFits, delayFits, permittedFits}
 use Rattle.fitness.specs.Clauses.{permittedSum}
 use Rattle.steps.specs.Outcome.{Outcome, refused}
-use Rattle.gates.specs.Refusals.{openRefusal, reserveRefusal, arriveRefusal, closedRefusal}
+use Rattle.gates.specs.Refusals.{openRefusal, reserveRefusal, arriveRefusal}
 use Rattle.gates.specs.Gated.{gated}
 
 module _ (g : ℕ) (p m : List ℕ) (done : Outcome) where

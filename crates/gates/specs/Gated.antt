@@ -1,4 +1,4 @@
--- What each call does where record and memory will do: its own refusals, then its step.
+-- What each call does where record and memory are long enough: its own refusals, then its step.
 use Prim.Native.Nat.{ℕ}
 use mathlib.Core.Bool.{cond}
 use mathlib.Core.List.{List}
@@ -14,17 +14,22 @@ use Rattle.gates.specs.Refusals.{openRefusal, reserveRefusal, arriveRefu
 abbrev pub gated : ℕ → List ℕ → List ℕ → Outcome → Outcome
 gated number p m done = cond (eqb number 0) done (refused number p m)
 
+-- Open(L, K)
 abbrev pub opens : List ℕ → List ℕ → ℕ → ℕ → Outcome
 opens p m link delay = gated (openRefusal p link delay) p m (openStep p m link delay)
 
+-- Reserve(s, P)
 abbrev pub reserves : List ℕ → List ℕ → ℕ → ℕ → Outcome
 reserves p m s permitted = gated (reserveRefusal p s permitted) p m (reserveStep p m s permitted)
 
+-- Arrive(s, a, tag)
 abbrev pub arrives : List ℕ → List ℕ → ℕ → ℕ → ℕ → Outcome
 arrives p m s charge tag = gated (arriveRefusal p s charge) p m (arriveStep p m s charge tag)
 
+-- Tick
 abbrev pub ticks : List ℕ → List ℕ → Outcome
 ticks p m = gated (closedRefusal p) p m (tickStep p m)
 
+-- Transmit
 abbrev pub transmits : List ℕ → List ℕ → Outcome
 transmits p m = gated (closedRefusal p) p m (transmitStep p m)

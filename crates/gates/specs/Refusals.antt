@@ -1,4 +1,4 @@
--- What each call refuses of a record and memory that will do, in document 01's order: "Checks run 18, 19, 1 (for Open: 2), 17, then upward by
+-- What each call refuses of a record and memory that are long enough, in document 01's order: "Checks run 18, 19, 1 (for Open: 2), 17, then upward by
 -- number, except that 12 follows 5". A gate is the number of the first refusal that applies, or 0.
 use Prim.Native.Nat.{ℕ, _+_}
 use mathlib.Core.Bool.{not, cond}

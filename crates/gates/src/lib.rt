@@ -1,4 +1,4 @@
-// What each call does where record and memory will do: its own refusals, in document 01's order, then its step. The definitions are in specs/.
+// What each call does where record and memory are long enough: its own refusals, in document 01's order, then its step. The definitions are in specs/.
 mod refusals;
 
 use stream::Reply;

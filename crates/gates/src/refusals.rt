@@ -1,4 +1,4 @@
-// What each call refuses of a record and memory that will do: the number of the first refusal that applies, or 0.
+// What each call refuses of a record and memory that are long enough: the number of the first refusal that applies, or 0.
 ghost use mathlib.Core.Path.{_≡_};
 ghost use Prim.Native.Nat.{_<_};
 ghost use Rattle.record.specs.Layout.{Whole};

@@ -1,2 +1,2 @@
--- The step of Open(L, K) and Reserve(s, P): document 01, "Steps".
+-- The steps of Open(L, K) and Reserve(s, P): document 01, "Steps".
 pub mod Opening

@@ -3,7 +3,7 @@ use queue::Queue;
 use stream::Reply;
 use stream::Stream;
 ghost use mathlib.Core.Path.{_≡_};
-ghost use Prim.Native.Nat.{_≤_, _<_};
+ghost use Prim.Native.Nat.{_<_};
 ghost use Rattle.stream.specs.Replies.{granted};
 ghost use Rattle.record.specs.Layout.{Whole, streamCount};
 ghost use Rattle.ranges.specs.Ranges.{shareOf};

@@ -1,2 +1,2 @@
--- The laws of the calls, cited by the crates above.
+-- What a call's first test shows of the lengths.
 pub mod LengthLaws

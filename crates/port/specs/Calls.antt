@@ -5,17 +5,22 @@ use Rattle.fitness.specs.Fit.{lentRefusal}
 use Rattle.steps.specs.Outcome.{Outcome}
 use Rattle.gates.specs.Gated.{gated, opens, reserves, arrives, ticks, transmits}
 
+-- Open(L, K)
 abbrev pub openCall : List ℕ → List ℕ → ℕ → ℕ → Outcome
 openCall p m link delay = gated (lentRefusal p m) p m (opens p m link delay)
 
+-- Reserve(s, P)
 abbrev pub reserveCall : List ℕ → List ℕ → ℕ → ℕ → Outcome
 reserveCall p m s permitted = gated (lentRefusal p m) p m (reserves p m s permitted)
 
+-- Arrive(s, a, tag)
 abbrev pub arriveCall : List ℕ → List ℕ → ℕ → ℕ → ℕ → Outcome
 arriveCall p m s charge tag = gated (lentRefusal p m) p m (arrives p m s charge tag)
 
+-- Tick
 abbrev pub tickCall : List ℕ → List ℕ → Outcome
 tickCall p m = gated (lentRefusal p m) p m (ticks p m)
 
+-- Transmit
 abbrev pub transmitCall : List ℕ → List ℕ → Outcome
 transmitCall p m = gated (lentRefusal p m) p m (transmits p m)

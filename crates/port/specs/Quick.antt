@@ -13,17 +13,22 @@ use Rattle.gates.specs.Gated.{gated, opens, reserves, arrives, ticks, transmits
 unfoldable pub lengthRefusal : List ℕ → List ℕ → ℕ
 lengthRefusal p m = cond (ltb (length m) memoryLength) 18 (cond (ltb (length p) recordLength) 19 0)
 
+-- Open(L, K)
 abbrev pub quickOpen : List ℕ → List ℕ → ℕ → ℕ → Outcome
 quickOpen p m link delay = gated (lengthRefusal p m) p m (opens p m link delay)
 
+-- Reserve(s, P)
 abbrev pub quickReserve : List ℕ → List ℕ → ℕ → ℕ → Outcome
 quickReserve p m s permitted = gated (lengthRefusal p m) p m (reserves p m s permitted)
 
+-- Arrive(s, a, tag)
 abbrev pub quickArrive : List ℕ → List ℕ → ℕ → ℕ → ℕ → Outcome
 quickArrive p m s charge tag = gated (lengthRefusal p m) p m (arrives p m s charge tag)
 
+-- Tick
 abbrev pub quickTick : List ℕ → List ℕ → Outcome
 quickTick p m = gated (lengthRefusal p m) p m (ticks p m)
 
+-- Transmit
 abbrev pub quickTransmit : List ℕ → List ℕ → Outcome
 quickTransmit p m = gated (lengthRefusal p m) p m (transmits p m)

@@ -4,20 +4,15 @@ ghost use mathlib.Core.Path.{_≡_};
 ghost use Rattle.steps.specs.Outcome.{outcome};
 ghost use Rattle.port.specs.Quick.{lengthRefusal, quickOpen, quickReserve, quickArrive, quickTick, quickTransmit};
 
-// The refusals of a memory and of a record that are too short.
-const SHORT_MEMORY: u8 = 18;
-
-const SHORT_RECORD: u8 = 19;
-
 // The refusal of a memory or record that is too short, or 0.
 fn lengths(port: &[u8], memory: &[u8]) -> u8
     ensures { λ r. ⌜ r ≡ lengthRefusal (now (port .entry)) (now (memory .entry)) ⌝ }
 {
     if memory.len() < record::MEMORY_LENGTH {
-        return SHORT_MEMORY;
+        return fitness::SHORT_MEMORY;
     }
     if port.len() < record::RECORD_LENGTH {
-        return SHORT_RECORD;
+        return fitness::UNFIT_RECORD;
     }
     0
 }

@@ -9,11 +9,12 @@ use lib.ListN.{length}
 use borrow.Author.Tests.{le-leb, lt-leb, lt-ltb, ne-eqb}
 use Rattle.lists.proofs.Order.{le-or-lt}
 use Rattle.stream.specs.declared.Stream.{Stream}
+use Rattle.stream.specs.declared.Reply.{Reply}
 use Rattle.stream.specs.declared.Arrival.{Arrival}
 use Rattle.stream.specs.declared.Arrival.the-variants.{Joined, Discarded}
 use Rattle.stream.specs.State.{lastPlace}
 use Rattle.stream.specs.Steps.{arriveOf}
-use Rattle.stream.specs.Replies.{streamOf}
+use Rattle.stream.specs.Replies.{replyOf, streamOf}
 use Rattle.stream.proofs.FitLaws.{fit-arrive, permitted-arrive}
 use Rattle.queue.specs.declared.Frame.{Frame}
 use Rattle.queue.specs.Ring.{placeCount, joinedMemory, joinedQueue}
@@ -38,9 +39,9 @@ frame-fits number f n s charge = rw (ne-eqb number bestEffort (λ e. omega arith
 
 module _ (p m : List ℕ) (fit : Fit p m) (room : memoryLength ≤ length m) (f : Frame) (b : f .stream < streamCount) (charge : chargeFits (f .charge) ≡ true) where
   -- the frame joins, or its queue is full
-  joined-fits : (s place number : ℕ) (next : Stream) → number < queueCount → Fit (moved p s next) m
-      → Fit (joinedInto p m s place next number f .port) (joinedInto p m s place next number f .memory)
-  joined-fits s place number next n there =
+  joined-fits : (s number : ℕ) (reply : Reply) (next : Stream) → number < queueCount → Fit (moved p s next) m
+      → Fit (joinedInto p m s reply next number f .port) (joinedInto p m s reply next number f .memory)
+  joined-fits s number reply next n there =
       let x = queueAt p number in
       ⊎-elim
       (λ (full : placeCount ≤ x .count). rw (le-leb placeCount (x .count) full) fit)
@@ -52,9 +53,9 @@ module _ (p m : List ℕ) (fit : Fit p m) (room : memoryLength ≤ length m) (f 
       n))
       (le-or-lt placeCount (x .count))
 
-  arrived-fits : (s : ℕ) (r : Arrival) → Fit (moved p s (streamOf r)) m → Fit (arrived p m s f r .port) (arrived p m s f r .memory)
-  arrived-fits s (Joined place next) there = joined-fits s place (roleAt p place) next (role-below p place) there
-  arrived-fits s (Discarded spent) there = there
+  arrived-fits : (s : ℕ) (reply : Reply) (r : Arrival) → Fit (moved p s (streamOf r)) m → Fit (arrived p m s f reply r .port) (arrived p m s f reply r .memory)
+  arrived-fits s reply (Joined place next) there = joined-fits s (roleAt p place) reply next (role-below p place) there
+  arrived-fits s reply (Discarded spent) there = there
 
 -- by where the stream's rule puts the frame
 pub arrive-fits : (p m : List ℕ) (s a tag : ℕ) → memoryLength ≤ length m → recordFits p m ≡ true → s < streamCount → streamAt p s .reserved ≡ true
@@ -65,7 +66,7 @@ arrive-fits p m s a tag room h b reserved charge =
     let fit = fit-record p m h in
     let r = arriveOf lastPlace (streamAt p s) a in
     record-fit (arriveStep p m s a tag .port) (arriveStep p m s a tag .memory)
-    (arrived-fits p m fit room (record { stream = s; charge = a; tag = tag }) b charge s r
+    (arrived-fits p m fit room (record { stream = s; charge = a; tag = tag }) b charge s (replyOf r) r
     (fits-moved p m fit s (streamOf r)
     (λ c. fit-arrive lastPlace (streamAt p s) a (stream-fit (streamAt p s) reserved (fit .streams s b)))
     (permitted-arrive lastPlace (streamAt p s) a)))

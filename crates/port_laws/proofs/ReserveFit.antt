@@ -33,9 +33,9 @@ module _ (p : List ℕ) (s permitted : ℕ) (whole : Whole p) (b : s < streamCou
       omega (arith, none, here, change)
 
   -- and the plan stays fit where P is in its range and the sum within the share
-  plan-stays : Plan p → streamAt p s .reserved ≡ false → permittedFits permitted ≡ true → permittedSum p + permitted ≤ shareOf (linkAt p)
+  reserved-plan : Plan p → streamAt p s .reserved ≡ false → permittedFits permitted ≡ true → permittedSum p + permitted ≤ shareOf (linkAt p)
       → Plan (reservedRecord p s permitted)
-  plan-stays plan free least share =
+  reserved-plan plan free least share =
       let x = reserveOf permitted in
       let keeps = keeps-stream p s x in
       record {
@@ -64,5 +64,5 @@ reserve-fits p m s permitted h opened b free least share =
       bindings = bindings-stay p k m fit keeps (λ t c r. stream-cases p s x (λ y. y .reserved ≡ true) t (fit .long) c (λ e. refl) (λ o. r));
       frames = λ q c. rw (queue-stream p s x q (omega arith)) (fit .frames q c);
       waits = rw (waits-stream p s x, queue-stream p s x bestEffort (omega arith)) (fit .waits);
-      plan = plan-fit k (plan-stays p s permitted (fit .long) b (fit-plan p opened (fit .plan)) free least share);
+      plan = plan-fit k (reserved-plan p s permitted (fit .long) b (fit-plan p opened (fit .plan)) free least share);
     })

@@ -1,11 +1,10 @@
 -- A fit record stays fit through every call, refused or not; so on a list of calls the quick calls reply as the calls do. Assumes nothing.
 use Prim.Native.Nat.{ℕ}
-use mathlib.Core.Path.{_≡_, refl, sym, ap₂, subst, _∙_}
+use mathlib.Core.Path.{_≡_, refl, sym, ap₂, subst}
 use mathlib.Core.Bool.{true}
 use mathlib.Core.Logic.{⊎-elim}
 use mathlib.Core.List.{List, [], _∷_}
 use Rattle.lists.proofs.Order.{eq-or-not}
-use Rattle.stream.specs.declared.Reply.{Reply}
 use Rattle.fitness.specs.Fit.{recordFits, lentRefusal}
 use Rattle.fitness.proofs.FitLaws.{fit-record, lent-fit}
 use Rattle.steps.specs.Outcome.{Outcome}

@@ -65,12 +65,12 @@ module _ (p k m n : List ℕ) (fit : Fit p m) (keeps : Keeps p k) (same : SameRe
       rw (keeps .opened, keeps .link, keeps .delay, each, sum) (fit .plan)
 
   -- where the reservations and all that `Keeps` names are kept, fitness is that of prior, the queues, the places and W
-  stays-fit : priorAt k < queueCount
+  kept-fits : priorAt k < queueCount
       → ((q : ℕ) → q < allQueues → FitQueue n q (queueAt k q))
       → ((s : ℕ) → s < streamCount → streamFits (streamAt k s) ≡ true)
       → waitsAt k ≡ chargesOf (waiting n bestEffort (queueAt k bestEffort))
       → Fit k n
-  stays-fit prior queues streams waits =
+  kept-fits prior queues streams waits =
       record {
         long = omega (arith, keeps .long, fit .long);
         prior = prior;
@@ -86,7 +86,7 @@ module _ (p m : List ℕ) (fit : Fit p m) where
   -- prior written
   pub fits-prior : (number : ℕ) → number < queueCount → Fit (withPrior p number) m
   fits-prior number h =
-      stays-fit p (withPrior p number) m m fit (keeps-prior p number) (λ s b. same-stream _ _ (stream-prior p number s))
+      kept-fits p (withPrior p number) m m fit (keeps-prior p number) (λ s b. same-stream _ _ (stream-prior p number s))
       (omega (arith, prior-prior p number (fit .long)))
       (λ q b. rw (queue-prior p number q) (fit .queues q b, fit .frames q b))
       (λ s b. rw (stream-prior p number s) (fit .streams s b))
@@ -96,7 +96,7 @@ module _ (p m : List ℕ) (fit : Fit p m) where
   pub fits-place : (s place left : ℕ) → (s < streamCount → streamFits (atPlace (streamAt p s) place left) ≡ true) → Fit (withPlace p s place left) m
   fits-place s place left h =
       let k = withPlace p s place left in
-      stays-fit p k m m fit (keeps-place p s place left)
+      kept-fits p k m m fit (keeps-place p s place left)
       (λ t b. place-cases p s place left
       (λ x. (x .reserved ≡ streamAt p t .reserved) × (x .permitted ≡ streamAt p t .permitted)) t (fit .long) b (λ e. (refl, refl)) (λ o. (refl, refl)))
       (omega (arith, prior-place p s place left, fit .prior))
@@ -122,7 +122,7 @@ module _ (p m : List ℕ) (fit : Fit p m) where
 
     pub fits-queue : q < queueCount → Fit (withQueue p q x) n
     fits-queue h =
-        stays-fit p (withQueue p q x) m n fit (keeps-queue p q x (omega arith)) (λ s b. same-stream _ _ (stream-queue p q x s (omega arith)))
+        kept-fits p (withQueue p q x) m n fit (keeps-queue p q x (omega arith)) (λ s b. same-stream _ _ (stream-queue p q x s (omega arith)))
         (omega (arith, prior-queue p q x, fit .prior))
         (queues-fit (omega arith))
         (λ s b. rw (stream-queue p q x s (omega arith)) (fit .streams s b))
@@ -148,7 +148,7 @@ module _ (p m : List ℕ) (fit : Fit p m) where
   fits-best-effort n x octets waits others sum =
       let k = withQueue p bestEffort x in
       let keeps = keeps-queue p bestEffort x (omega arith) in
-      stays-fit p (withWaits k octets) m n fit (keeps-both p k (withWaits k octets) keeps (keeps-waits k octets))
+      kept-fits p (withWaits k octets) m n fit (keeps-both p k (withWaits k octets) keeps (keeps-waits k octets))
       (λ s b. same-stream _ _ (stream-waits k octets s ∙ stream-queue p bestEffort x s (omega arith)))
       (omega (arith, prior-waits k octets, prior-queue p bestEffort x, fit .prior))
       (λ q b. rw (queue-waits k octets q) (queues-fit n bestEffort x waits others (omega arith) q b))

@@ -14,6 +14,7 @@ pub data Call : Type 0 where
   ticking : Call
   transmitting : Call
 
+-- what a call leaves of a record and a memory
 abbrev pub called : Call → List ℕ → List ℕ → Outcome
 called (opening link delay) p m = openCall p m link delay
 called (reserving s permitted) p m = reserveCall p m s permitted

@@ -2,20 +2,25 @@
 ghost use mathlib.Core.Path.{_≡_};
 ghost use Rattle.ranges.specs.Ranges.{within, chargeFits, shareOf, linkFits, delayFits, permittedFits, vidFits};
 
+// The ends of a charge's range; P has the same lower end.
 const LEAST_CHARGE: u32 = 84;
 
 const GREATEST_CHARGE: u32 = 1542;
 
+// The greatest share.
 const GREATEST_SHARE: u32 = 21504;
 
+// The ends of L.
 const LEAST_LINK: u32 = GREATEST_CHARGE + LEAST_CHARGE;
 
 const GREATEST_LINK: u32 = GREATEST_CHARGE + GREATEST_SHARE;
 
+// The ends of K.
 const LEAST_DELAY: u32 = 1;
 
 const GREATEST_DELAY: u32 = 16;
 
+// The ends of a VID.
 const LEAST_VID: u32 = 1;
 
 const GREATEST_VID: u32 = 4094;

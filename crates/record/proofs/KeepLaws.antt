@@ -1,4 +1,4 @@
--- What every write but those of Open and Bind keeps: the record's length, whether the port is open, K and L, and the bindings. Assumes nothing.
+-- What every write keeps but those of open, K, L and the bindings: the record's length, whether the port is open, K and L, and the bindings. Assumes nothing.
 use Prim.Native.Nat.{ℕ, _+_, _-_, _<_}
 use mathlib.Core.Path.{_≡_, ap, _∙_}
 use mathlib.Core.List.{List, [], _∷_}
@@ -10,7 +10,7 @@ use Rattle.octets.specs.Numbers.{twoOf, eightOf, fourOctets}
 use Rattle.stream.specs.declared.Stream.{Stream}
 use Rattle.queue.specs.declared.Queue.{Queue}
 use Rattle.record.specs.Layout.{openOffset, priorOffset, delayOffset, linkOffset, waitsOffset, queueOffset, queueRoom, entryOffset, entryLength, placeOffset, boundOffset, pairOffset}
-use Rattle.record.specs.Head.{octetOf, flagOf, openAt, withPrior, delayAt, linkAt, withWaits, queueOctets, withQueue}
+use Rattle.record.specs.Head.{octetOf, markOf, openAt, withPrior, delayAt, linkAt, withWaits, queueOctets, withQueue}
 use Rattle.record.specs.Entry.{placeOctets, streamOctets, withStream, withPlace, boundAt, vidAt, pairAt}
 
 -- record k has these as record l has them
@@ -47,10 +47,10 @@ unfolding openAt delayAt linkAt boundAt vidAt pairAt
 keeps-put l i vs opened delay link binding =
     record {
       long = length-put l i vs;
-      opened = ap flagOf (get-apart l i vs openOffset 1 opened);
+      opened = ap markOf (get-apart l i vs openOffset 1 opened);
       delay = ap octetOf (get-apart l i vs delayOffset 1 delay);
       link = ap twoOf (get-apart l i vs linkOffset 2 link);
-      bound = λ s. ap flagOf (get-apart l i vs (entryOffset s + boundOffset) 1 (λ k a b c d. binding s k a (omega arith) c d));
+      bound = λ s. ap markOf (get-apart l i vs (entryOffset s + boundOffset) 1 (λ k a b c d. binding s k a (omega arith) c d));
       vid = λ s. ap twoOf (get-apart l i vs (entryOffset s + pairOffset) 2 (λ k a b c d. binding s k (omega arith) (omega arith) c d));
       pair = λ s. ap eightOf (get-apart l i vs (entryOffset s + pairOffset) 8 (λ k a b c d. binding s k (omega arith) (omega arith) c d));
     }

@@ -12,7 +12,7 @@ use Rattle.octets.specs.Numbers.{twoOf, twoOctets, fourOf}
 use Rattle.octets.proofs.NumberLaws.{two-octets}
 use Rattle.queue.specs.declared.Queue.{Queue}
 use Rattle.record.specs.Layout.{Whole, headLength, streamCount, openOffset, priorOffset, delayOffset, linkOffset, waitsOffset, queueOffset, queueLength, queueRoom, entryOffset, boundOffset, streamLength}
-use Rattle.record.specs.Head.{octetOf, flagOf, openAt, withOpen, priorAt, delayAt, withDelay, linkAt, withLink, waitsAt, queueOf, queueOctets, queueAt, withQueue}
+use Rattle.record.specs.Head.{octetOf, markOf, openAt, withOpen, priorAt, delayAt, withDelay, linkAt, withLink, waitsAt, queueOf, queueOctets, queueAt, withQueue}
 use Rattle.record.specs.Entry.{streamOf, streamAt, boundAt, dropped}
 
 -- after the port was marked open
@@ -23,7 +23,7 @@ module _ (l : List ℕ) where
 
   pub open-open : Whole l → openAt (withOpen l) ≡ true
   unfolding openAt withOpen
-  open-open h = ap flagOf (get-put l openOffset (1 ∷ []) (omega arith))
+  open-open h = ap markOf (get-put l openOffset (1 ∷ []) (omega arith))
 
 -- after K was written
 module _ (l : List ℕ) (epochs : ℕ) where
@@ -37,7 +37,7 @@ module _ (l : List ℕ) (epochs : ℕ) where
 
   pub open-delay : openAt (withDelay l epochs) ≡ openAt l
   unfolding openAt withDelay
-  open-delay = ap flagOf (get-apart l delayOffset (epochs ∷ []) openOffset 1 (λ k a b c d. omega arith))
+  open-delay = ap markOf (get-apart l delayOffset (epochs ∷ []) openOffset 1 (λ k a b c d. omega arith))
 
   pub prior-delay : priorAt (withDelay l epochs) ≡ priorAt l
   unfolding priorAt withDelay
@@ -55,7 +55,7 @@ module _ (l : List ℕ) (octets : ℕ) where
 
   pub open-link : openAt (withLink l octets) ≡ openAt l
   unfolding openAt withLink
-  open-link = ap flagOf (get-apart l linkOffset (twoOctets octets) openOffset 1 (λ k a b c d. omega arith))
+  open-link = ap markOf (get-apart l linkOffset (twoOctets octets) openOffset 1 (λ k a b c d. omega arith))
 
   pub prior-link : priorAt (withLink l octets) ≡ priorAt l
   unfolding priorAt withLink
@@ -73,7 +73,7 @@ module _ (l : List ℕ) (q : ℕ) (x : Queue) where
 
   pub open-queue : openAt (withQueue l q x) ≡ openAt l
   unfolding openAt withQueue
-  open-queue = ap flagOf (get-apart l (queueOffset q) (queueOctets x) openOffset 1 (λ k a b c d. omega arith))
+  open-queue = ap markOf (get-apart l (queueOffset q) (queueOctets x) openOffset 1 (λ k a b c d. omega arith))
 
   pub delay-queue : delayAt (withQueue l q x) ≡ delayAt l
   unfolding delayAt withQueue
@@ -99,7 +99,7 @@ module _ (l : List ℕ) (s : ℕ) where
 
   pub open-dropped : openAt (dropped l s) ≡ openAt l
   unfolding openAt
-  open-dropped = ap flagOf (head-dropped openOffset 1 (omega arith))
+  open-dropped = ap markOf (head-dropped openOffset 1 (omega arith))
 
   pub prior-dropped : priorAt (dropped l s) ≡ priorAt l
   unfolding priorAt
@@ -127,12 +127,12 @@ module _ (l : List ℕ) (s : ℕ) where
   stream-dropped h b =
       ap (λ (o : List ℕ). streamOf o .reserved)
       (get-apart (put l (entryOffset s) (0 ∷ [])) (entryOffset s + boundOffset) (0 ∷ []) (entryOffset s) streamLength (λ k a b c d. omega arith))
-      ∙ ap flagOf (get-put l (entryOffset s) (0 ∷ []) (omega arith))
+      ∙ ap markOf (get-put l (entryOffset s) (0 ∷ []) (omega arith))
 
   pub bound-dropped : Whole l → s < streamCount → boundAt (dropped l s) s ≡ false
   unfolding boundAt dropped
   bound-dropped h b =
-      ap flagOf (get-put (put l (entryOffset s) (0 ∷ [])) (entryOffset s + boundOffset) (0 ∷ []) (simp (length-put l (entryOffset s) (0 ∷ [])) (omega arith)))
+      ap markOf (get-put (put l (entryOffset s) (0 ∷ [])) (entryOffset s + boundOffset) (0 ∷ []) (simp (length-put l (entryOffset s) (0 ∷ [])) (omega arith)))
 
   -- and the others are as they were
   pub other-stream-dropped : (t : ℕ) → (t ≡ s → ⊥) → streamAt (dropped l s) t ≡ streamAt l t
@@ -145,6 +145,6 @@ module _ (l : List ℕ) (s : ℕ) where
   pub other-bound-dropped : (t : ℕ) → (t ≡ s → ⊥) → boundAt (dropped l s) t ≡ boundAt l t
   unfolding boundAt dropped
   other-bound-dropped t other =
-      ap flagOf
+      ap markOf
       (get-apart (put l (entryOffset s) (0 ∷ [])) (entryOffset s + boundOffset) (0 ∷ []) (entryOffset t + boundOffset) 1 (λ k a b c d. other (omega arith))
       ∙ get-apart l (entryOffset s) (0 ∷ []) (entryOffset t + boundOffset) 1 (λ k a b c d. other (omega arith)))

@@ -7,11 +7,11 @@ use Rattle.lists.specs.Window.{put, get}
 use Rattle.octets.specs.Numbers.{twoOf, twoOctets, eightOf}
 use Rattle.stream.specs.declared.Stream.{Stream}
 use Rattle.record.specs.Layout.{entryOffset, placeOffset, leftOffset, permittedOffset, streamLength, boundOffset, pairOffset}
-use Rattle.record.specs.Head.{flagOf}
+use Rattle.record.specs.Head.{markOf}
 
 -- the reservation of stream s: whether it is reserved, its place, left and P
 abbrev pub streamOf : List ℕ → Stream
-streamOf o = record { reserved = flagOf o; permitted = twoOf (get o permittedOffset 2); place = getD o placeOffset 0; left = twoOf (get o leftOffset 2) }
+streamOf o = record { reserved = markOf o; permitted = twoOf (get o permittedOffset 2); place = getD o placeOffset 0; left = twoOf (get o leftOffset 2) }
 
 abbrev pub placeOctets : ℕ → ℕ → List ℕ
 placeOctets place left = place ∷ twoOctets left
@@ -31,7 +31,7 @@ withPlace l s place left = put l (entryOffset s + placeOffset) (placeOctets plac
 
 -- whether stream s is bound, the VID of its binding, and the pair of VID and address as one number of eight octets
 unfoldable pub boundAt : List ℕ → ℕ → Bool
-boundAt l s = flagOf (get l (entryOffset s + boundOffset) 1)
+boundAt l s = markOf (get l (entryOffset s + boundOffset) 1)
 
 unfoldable pub vidAt : List ℕ → ℕ → ℕ
 vidAt l s = twoOf (get l (entryOffset s + pairOffset) 2)

@@ -9,16 +9,16 @@ use Rattle.octets.specs.Numbers.{twoOf, twoOctets, fourOf, fourOctets}
 use Rattle.queue.specs.declared.Queue.{Queue}
 use Rattle.record.specs.Layout.{openOffset, priorOffset, delayOffset, linkOffset, waitsOffset, queueOffset, queueLength, countOffset}
 
--- one octet as a number, and as a flag: 1 is yes, any other no
+-- one octet as a number, and as a mark: 1 is yes, any other no
 abbrev pub octetOf : List ℕ → ℕ
 octetOf o = getD o 0 0
 
-abbrev pub flagOf : List ℕ → Bool
-flagOf o = eqb (octetOf o) 1
+abbrev pub markOf : List ℕ → Bool
+markOf o = eqb (octetOf o) 1
 
 -- whether the port is open, and the record of an open one
 unfoldable pub openAt : List ℕ → Bool
-openAt l = flagOf (get l openOffset 1)
+openAt l = markOf (get l openOffset 1)
 
 unfoldable pub withOpen : List ℕ → List ℕ
 withOpen l = put l openOffset (1 ∷ [])

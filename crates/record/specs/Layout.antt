@@ -3,11 +3,12 @@
 use Prim.Native.Nat.{ℕ, _+_, _*_, _≤_}
 use mathlib.Core.List.{List}
 use lib.ListN.{length}
+use Rattle.stream.specs.State.{lastPlace}
 use Rattle.queue.specs.Ring.{partLength}
 
--- the queues for reserved traffic; the queue for best effort has the number after theirs
+-- the queues for reserved traffic, prior and one for each place; the queue for best effort has the number after theirs
 abbrev pub queueCount : ℕ
-queueCount = 4
+queueCount = lastPlace + 1
 
 abbrev pub bestEffort : ℕ
 bestEffort = queueCount

@@ -2,7 +2,7 @@
 use stream::Stream;
 ghost use mathlib.Core.Path.{_≡_};
 ghost use mathlib.Core.Bool.{cond};
-ghost use Prim.Native.Nat.{_≤_, _<_};
+ghost use Prim.Native.Nat.{_<_};
 ghost use Rattle.record.specs.Layout.{Whole, streamCount, entryOffset};
 ghost use Rattle.record.specs.Entry.{streamAt, withStream, withPlace, boundAt, vidAt, pairAt, dropped};
 
@@ -43,8 +43,8 @@ pub fn stream_at(port: &[u8], stream: u8) -> Stream
     }
 }
 
-// The octet of a flag.
-fn flag(yes: bool) -> u8
+// The octet of a mark.
+fn mark(yes: bool) -> u8
     ensures { λ r. ⌜ r ≡ cond yes 1 0 ⌝ }
 {
     if yes {
@@ -59,7 +59,7 @@ pub fn put_stream(port: &mut [u8], stream: u8, reservation: Stream)
     ensures { λ _. ⌜ now (port .exit) ≡ withStream (now (port .entry)) stream reservation ⌝ }
 {
     let at = start(stream);
-    crate::put_octet(port, at, flag(reservation.reserved));
+    crate::put_octet(port, at, mark(reservation.reserved));
     put_place(port, stream, reservation.place, reservation.left);
     octets::put_two(port, at + PERMITTED, reservation.permitted);
 }

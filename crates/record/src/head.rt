@@ -1,7 +1,7 @@
 // The fields of the record's head: open or closed, prior, K, L, W, and the start and count of each queue.
 use queue::Queue;
 ghost use mathlib.Core.Path.{_≡_};
-ghost use Prim.Native.Nat.{_≤_, _<_};
+ghost use Prim.Native.Nat.{_<_};
 ghost use Rattle.record.specs.Layout.{Whole, queueRoom, queueOffset};
 ghost use Rattle.record.specs.Head.{openAt, withOpen, priorAt, withPrior, delayAt, withDelay, linkAt, withLink, waitsAt, withWaits, queueAt, withQueue};
 

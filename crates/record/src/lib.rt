@@ -8,8 +8,8 @@ ghost use Prim.Native.Nat.{_<_};
 ghost use lib.ListN.{length};
 ghost use Rattle.lists.specs.Window.{put};
 
-// The queues for reserved traffic; the queue for best effort has the number after theirs.
-pub const QUEUES: u8 = 4;
+// The queues for reserved traffic, prior and one for each place; the queue for best effort has the number after theirs.
+pub const QUEUES: u8 = stream::LAST + 1;
 
 pub const BEST_EFFORT: u8 = QUEUES;
 
@@ -24,7 +24,7 @@ pub const RECORD_LENGTH: usize = entry::START + STREAMS as usize * entry::LENGTH
 
 pub const MEMORY_LENGTH: usize = ALL_QUEUES as usize * queue::PART_LENGTH;
 
-// An octet as a flag: 1 is yes, any other no.
+// An octet as a mark: 1 is yes, any other no.
 const YES: u8 = 1;
 
 const NO: u8 = 0;

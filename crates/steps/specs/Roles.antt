@@ -2,6 +2,7 @@
 -- next number, 3 to 0".
 use Prim.Native.Nat.{ℕ, _+_, _%_}
 use mathlib.Core.List.{List}
+use Rattle.stream.specs.State.{currentPlace}
 use Rattle.record.specs.Layout.{queueCount}
 use Rattle.record.specs.Head.{priorAt}
 
@@ -13,4 +14,4 @@ abbrev pub priorRole : ℕ
 priorRole = 0
 
 abbrev pub currentRole : ℕ
-currentRole = 1
+currentRole = currentPlace

@@ -1,10 +1,10 @@
-// What the steps of a port share: replies, the roles of the queues, and a stream moved. The steps themselves stand in the crates above, one for
-// each call: what it does once nothing refuses it. Each is defined for every record and memory that are long enough, fit or not, and writes only
+// What the steps of a port share: replies, the roles of the queues, and a stream moved. The steps themselves stand in the crates above, each
+// what a call does once nothing refuses it. Each is defined for every record and memory that are long enough, fit or not, and writes only
 // what its rule names.
 use stream::Reply;
 use stream::Stream;
 ghost use mathlib.Core.Path.{_≡_};
-ghost use Prim.Native.Nat.{_≤_, _<_};
+ghost use Prim.Native.Nat.{_<_};
 ghost use Rattle.stream.specs.Replies.{granted, refusedBy};
 ghost use Rattle.record.specs.Layout.{Whole, streamCount, queueCount};
 ghost use Rattle.steps.specs.Roles.{roleAt};

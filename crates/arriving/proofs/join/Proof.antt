@@ -40,12 +40,6 @@ put-queue-requires c κs = search needs
 join-at-requires : tie.Need-join-at-requires
 join-at-requires c κs = search needs
 
-cast-granted : tie.Need-cast-granted
-cast-granted c = search needs
-
-granted-requires : tie.Need-granted-requires
-granted-requires c κs = search needs
-
 same-length-2 : tie.Need-same-length-2
 same-length-2 c = search needs
 
@@ -54,14 +48,14 @@ same-length-3 c = search needs
 
 returns-2 : tie.Need-returns-2
 returns-2 c =
-    let a = c .before .before .before .before .before .before .before .before .before .before .before .before .before .before .before .before .before .before .before .before .before .args in
-    let q = c .before .before .before .before .before .before .before .before .before .before .before .before .before .before .before .before .before .queue-at .ensures in
-    let room : leb placeCount (queueAt (a .port .now) (a .number) .count) ≡ false = lt-leb placeCount _ (rw q at (c .before .before .before .before .before .before .before .before .before .before .before .before .before .before .before .if1 .left)) in
+    let a = c .before .before .before .before .before .before .before .before .before .before .before .before .before .before .before .before .before .before .before .args in
+    let q = c .before .before .before .before .before .before .before .before .before .before .before .before .before .before .before .queue-at .ensures in
+    let room : leb placeCount (queueAt (a .port .now) (a .number) .count) ≡ false = lt-leb placeCount _ (rw q at (c .before .before .before .before .before .before .before .before .before .before .before .before .before .if1 .left)) in
     simp room
     (same-outcome _ _ _ _ _ _
-    (c .granted .ensures)
-    (c .before .before .before .before .before .before .before .before .put-queue .ensures ∙ ap₂ (λ (l : List ℕ) (x : Queue). withQueue l (a .number) x) (c .before .before .before .before .before .before .before .before .before .before .before .before .before .move-to .ensures) (c .before .before .before .before .before .before .before .before .before .joined .ensures ∙ ap joinedQueue q))
-    (c .before .before .before .before .join-at .ensures ∙ ap (λ (x : Queue). joinedMemory (a .memory .now) (a .number) x (a .frame)) q))
+    refl
+    (c .before .before .before .before .before .before .put-queue .ensures ∙ ap₂ (λ (l : List ℕ) (x : Queue). withQueue l (a .number) x) (c .before .before .before .before .before .before .before .before .before .before .before .move-to .ensures) (c .before .before .before .before .before .before .before .joined .ensures ∙ ap joinedQueue q))
+    (c .before .before .join-at .ensures ∙ ap (λ (x : Queue). joinedMemory (a .memory .now) (a .number) x (a .frame)) q))
 
 pub join-spec : {M : Type 1} → statement M
 join-spec =
@@ -75,8 +69,6 @@ join-spec =
     joined-requires
     put-queue-requires
     join-at-requires
-    cast-granted
-    granted-requires
     same-length-2
     same-length-3
     returns-2)

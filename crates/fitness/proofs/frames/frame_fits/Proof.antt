@@ -7,8 +7,8 @@ use Rattle.fitness.proofs.frames.frame_fits.Tie as tie
 
 -- `fitness::frames::frame_fits` meets its contract. Both tests. Assumes nothing.
 
-source-fits-requires : tie.Need-source-fits-requires
-source-fits-requires c κs = search needs
+frame-stream-fits-requires : tie.Need-frame-stream-fits-requires
+frame-stream-fits-requires c κs = search needs
 
 cast-charge-fits : tie.Need-cast-charge-fits
 cast-charge-fits c = search needs
@@ -20,9 +20,9 @@ both-requires : tie.Need-both-requires
 both-requires c κs = search needs
 
 returns : tie.Need-returns
-returns c = c .both .ensures ∙ ap₂ _&&_ (c .before .before .before .source-fits .ensures) (c .before .charge-fits .ensures)
+returns c = c .both .ensures ∙ ap₂ _&&_ (c .before .before .before .frame-stream-fits .ensures) (c .before .charge-fits .ensures)
 
 pub frame-fits-spec : {M : Type 1} → statement M
 frame-fits-spec =
     tie.close
-    (tie.spec source-fits-requires cast-charge-fits charge-fits-requires both-requires returns)
+    (tie.spec frame-stream-fits-requires cast-charge-fits charge-fits-requires both-requires returns)

@@ -15,8 +15,8 @@ use Rattle.record.proofs.entry.put_stream.Tie as tie
 start-requires : tie.Need-start-requires
 start-requires c κs = search needs
 
-flag-requires : tie.Need-flag-requires
-flag-requires c κs = search needs
+mark-requires : tie.Need-mark-requires
+mark-requires c κs = search needs
 
 put-octet-requires : tie.Need-put-octet-requires
 put-octet-requires c κs = search needs
@@ -39,7 +39,7 @@ returns c =
     let x = a .reservation in
     c .before .before .put-two .ensures
     ∙ ap (λ (l : List ℕ). put l (c .before .before .before .before .before .before .before .before .before .before .before .before .before .start .result + permittedOffset) (twoOctets (x .permitted)))
-    (c .before .before .before .before .before .before .put-place .ensures ∙ ap (λ (l : List ℕ). withPlace l (a .stream) (x .place) (x .left)) (c .before .before .before .before .before .before .before .before .before .before .put-octet .ensures ∙ ap (λ (b : ℕ). put (a .port .now) (c .before .before .before .before .before .before .before .before .before .before .before .before .before .start .result) (b ∷ [])) (c .before .before .before .before .before .before .before .before .before .before .before .flag .ensures)))
+    (c .before .before .before .before .before .before .put-place .ensures ∙ ap (λ (l : List ℕ). withPlace l (a .stream) (x .place) (x .left)) (c .before .before .before .before .before .before .before .before .before .before .put-octet .ensures ∙ ap (λ (b : ℕ). put (a .port .now) (c .before .before .before .before .before .before .before .before .before .before .before .before .before .start .result) (b ∷ [])) (c .before .before .before .before .before .before .before .before .before .before .before .mark .ensures)))
     ∙ ap (λ (at : ℕ). put (withPlace (put (a .port .now) at (cond (x .reserved) 1 0 ∷ [])) (a .stream) (x .place) (x .left)) (at + permittedOffset) (twoOctets (x .permitted))) (c .before .before .before .before .before .before .before .before .before .before .before .before .before .start .ensures)
     ∙ stream-written (a .port .now) (a .stream) x
 
@@ -48,7 +48,7 @@ put-stream-spec =
     tie.close
     (tie.spec
     start-requires
-    flag-requires
+    mark-requires
     put-octet-requires
     put-place-requires
     add-put-two
