@@ -137,7 +137,7 @@ impl Stream {
         ensures { λ r. ⌜ r ≡ tickOf self ⌝ }
     {
         if self.place <= CURRENT {
-            return self.full_at(CURRENT);
+            return self.at(CURRENT, self.permitted);
         }
         self.at(self.place - 1, self.left)
     }

@@ -1,0 +1,2 @@
+-- How the exports hand over a reply.
+pub mod Handed
