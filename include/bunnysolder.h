@@ -1,0 +1,110 @@
+/*
+ * The calls of a paternoster port, for a host that lends it a record and a memory for frames.
+ *
+ * What is lent. `port` is the port record: BUNNYSOLDER_RECORD_LENGTH octets or more. `memory` holds the waiting frames:
+ * BUNNYSOLDER_MEMORY_LENGTH octets or more. Octets past these lengths are neither read nor written. Both may hold anything: a call tests what
+ * it is given (18 and 19 below) and never reads or writes outside the two. A record of zeros is a port that is closed, and may be opened.
+ *
+ * What C has to keep. Each pointer is not null and points to as many octets as its length says; `port`, `memory`, `*first` and `*second` do
+ * not overlap; nobody else reads or writes them while a call runs. C cannot be asked for these, and no call can test them.
+ *
+ * What comes back. A call returns 0, or the number of its refusal, and leaves its two reply numbers in `*first` and `*second`. Both are always
+ * written; a refusal leaves two zeros there, and record and memory as they were. BUNNYSOLDER_DISCARD alone also moves its stream: to place
+ * last, with nothing left. Of the refusals that apply the first in the order given at each function is returned.
+ *
+ * Two sorts. Each call is there twice. bunnysolder_NAME tests the whole record and memory (19) before anything else, which takes as long as
+ * there are frames waiting. bunnysolder_NAME_unscanned scans nothing: of 18 and 19 it asks only the two lengths, and then does the same. The two
+ * are equal, in reply, record and memory, on every record that is fit (one that 19 does not refuse), and every call of either sort leaves a fit
+ * record fit; a granted Open leaves a fit one too. So a host that opens its port with bunnysolder_open, and alone writes the record and the
+ * memory, gets the same from both sorts for good. On a record that is not fit an unscanned call still ends, and reads and writes nothing else
+ * than record and memory, but what it replies is not document 01's rule.
+ */
+#ifndef BUNNYSOLDER_H
+#define BUNNYSOLDER_H
+
+#include <stddef.h>
+#include <stdint.h>
+
+#ifdef __cplusplus
+extern "C" {
+#endif
+
+/* The octets of a port record, and of the memory for 1,280 frames. */
+#define BUNNYSOLDER_RECORD_LENGTH 1088
+#define BUNNYSOLDER_MEMORY_LENGTH 10240
+
+/* The refusals, with document 01's numbers. */
+enum bunnysolder_refusal {
+    BUNNYSOLDER_GRANTED = 0,
+    BUNNYSOLDER_CLOSED = 1,            /* the port is closed */
+    BUNNYSOLDER_OPEN_ALREADY = 2,      /* the port is open already */
+    BUNNYSOLDER_LINK_RANGE = 3,        /* L is outside 1,626 to 23,046 */
+    BUNNYSOLDER_DELAY_RANGE = 4,       /* K is outside 1 to 16 */
+    BUNNYSOLDER_STREAM_RANGE = 5,      /* the stream is above 63 */
+    BUNNYSOLDER_RESERVED_ALREADY = 6,  /* the stream is reserved already */
+    BUNNYSOLDER_PERMITTED_RANGE = 7,   /* P is below 84 */
+    BUNNYSOLDER_SHARE_EXCEEDED = 8,    /* the sum of P would be above the share */
+    BUNNYSOLDER_NOT_RESERVED = 12,     /* the stream is not reserved */
+    BUNNYSOLDER_CHARGE_RANGE = 13,     /* the charge is outside 84 to 1,542 */
+    BUNNYSOLDER_DISCARD = 14,          /* the frame fits at no place of its stream */
+    BUNNYSOLDER_SHORT_MEMORY = 18,     /* the memory is shorter than BUNNYSOLDER_MEMORY_LENGTH */
+    BUNNYSOLDER_UNFIT_RECORD = 19,     /* the record is unfit, or shorter than BUNNYSOLDER_RECORD_LENGTH */
+    BUNNYSOLDER_QUEUE_FULL = 20        /* the chosen queue holds 256 frames; never met in a list of calls from a granted Open */
+};
+
+/* The first reply number of Arrive: the queue that the frame has joined. */
+enum bunnysolder_place { BUNNYSOLDER_CURRENT = 1, BUNNYSOLDER_NEXT = 2, BUNNYSOLDER_LAST = 3 };
+
+/* The first reply number of Transmit where no reserved stream's frame is sent. */
+enum bunnysolder_sent { BUNNYSOLDER_NOTHING = 254, BUNNYSOLDER_BEST_EFFORT = 255 };
+
+/*
+ * Open(L, K): empties the queues, drops all reservations and bindings. `link` is L, the link octets in an epoch; `delay` is K, the best-effort
+ * delay bound in epochs. Replies the share, L - 1,542, and 0. Refusals: 18 19 2 3 4.
+ */
+uint8_t bunnysolder_open(uint8_t *port, size_t port_length, const uint8_t *memory, size_t memory_length,
+                         uint32_t link, uint32_t delay, uint32_t *first, uint32_t *second);
+uint8_t bunnysolder_open_unscanned(uint8_t *port, size_t port_length, const uint8_t *memory, size_t memory_length,
+                                   uint32_t link, uint32_t delay, uint32_t *first, uint32_t *second);
+
+/*
+ * Reserve(s, P): `permitted` is P, the stream's permitted octets per epoch. Replies the share still free, with the new P taken from it, and 0.
+ * Refusals: 18 19 1 5 6 7 8.
+ */
+uint8_t bunnysolder_reserve(uint8_t *port, size_t port_length, const uint8_t *memory, size_t memory_length,
+                            uint8_t stream, uint32_t permitted, uint32_t *first, uint32_t *second);
+uint8_t bunnysolder_reserve_unscanned(uint8_t *port, size_t port_length, const uint8_t *memory, size_t memory_length,
+                                      uint8_t stream, uint32_t permitted, uint32_t *first, uint32_t *second);
+
+/*
+ * Arrive(s, a, tag): a frame arrives on the stream. `charge` is a, the octets that it costs on the wire: its length without check sequence plus
+ * 24. `tag` is the host's own number for it. Replies the queue that the frame has joined (enum bunnysolder_place) and the octets left to
+ * the stream at its place afterwards. Refusals: 18 19 1 5 12 13, then 14 or 20. Of all calls this one alone writes the memory.
+ */
+uint8_t bunnysolder_arrive(uint8_t *port, size_t port_length, uint8_t *memory, size_t memory_length,
+                           uint8_t stream, uint32_t charge, uint32_t tag, uint32_t *first, uint32_t *second);
+uint8_t bunnysolder_arrive_unscanned(uint8_t *port, size_t port_length, uint8_t *memory, size_t memory_length,
+                                     uint8_t stream, uint32_t charge, uint32_t tag, uint32_t *first, uint32_t *second);
+
+/*
+ * Tick: an epoch ends. Replies how many frames were purged, and their octets. Refusals: 18 19 1.
+ */
+uint8_t bunnysolder_tick(uint8_t *port, size_t port_length, const uint8_t *memory, size_t memory_length,
+                         uint32_t *first, uint32_t *second);
+uint8_t bunnysolder_tick_unscanned(uint8_t *port, size_t port_length, const uint8_t *memory, size_t memory_length,
+                                   uint32_t *first, uint32_t *second);
+
+/*
+ * Transmit: the link can send a frame. Replies the stream of the frame to send (enum bunnysolder_sent: 255 best effort, 254 nothing) and its
+ * tag (0 for nothing). Refusals: 18 19 1.
+ */
+uint8_t bunnysolder_transmit(uint8_t *port, size_t port_length, const uint8_t *memory, size_t memory_length,
+                             uint32_t *first, uint32_t *second);
+uint8_t bunnysolder_transmit_unscanned(uint8_t *port, size_t port_length, const uint8_t *memory, size_t memory_length,
+                                       uint32_t *first, uint32_t *second);
+
+#ifdef __cplusplus
+}
+#endif
+
+#endif
