@@ -12,12 +12,12 @@
  * written; a refusal leaves two zeros there, and record and memory as they were. BUNNYSOLDER_DISCARD alone also moves its stream: to place
  * last, with nothing left. Of the refusals that apply the first in the order given at each function is returned.
  *
- * Two sorts. Each call is there twice. bunnysolder_NAME tests the whole record and memory (19) before anything else, which takes as long as
- * there are frames waiting. bunnysolder_NAME_unscanned scans nothing: of 18 and 19 it asks only the two lengths, and then does the same. The two
- * are equal, in reply, record and memory, on every record that is fit (one that 19 does not refuse), and every call of either sort leaves a fit
- * record fit; a granted Open leaves a fit one too. So a host that opens its port with bunnysolder_open, and alone writes the record and the
- * memory, gets the same from both sorts for good. On a record that is not fit an unscanned call still ends, and reads and writes nothing else
- * than record and memory, but what it replies is not document 01's rule.
+ * Two sorts. Each call is there twice. bunnysolder_NAME tests the whole record and its waiting frames (19) before anything else, which takes
+ * the longer the more frames wait. bunnysolder_NAME_unscanned scans nothing: of 18 and 19 it asks only the two lengths, and then does the same. On
+ * every record that is fit (one that 19 does not refuse) the two are equal in reply, record and memory, and leave it fit. So a host
+ * that opens its port by a granted bunnysolder_open, which refuses a record that is not fit, and alone writes record and memory from then on, gets
+ * the same from both sorts for good. On a record that is not fit an unscanned call still ends, and reads and writes nothing but record and
+ * memory, but its reply is not document 01's.
  */
 #ifndef BUNNYSOLDER_H
 #define BUNNYSOLDER_H

@@ -1,0 +1,78 @@
+/*
+ * Every function that bunnysolder.h declares, called through it: both sorts of call play document 01's sample, and must reply what the document
+ * says. The last line is the total.
+ */
+#include <stdio.h>
+#include <string.h>
+
+#include "bunnysolder.h"
+
+/* One sort of call. Both sorts have the same types, or this does not compile. */
+struct sort {
+    const char *name;
+    uint8_t (*open)(uint8_t *, size_t, const uint8_t *, size_t, uint32_t, uint32_t, uint32_t *, uint32_t *);
+    uint8_t (*reserve)(uint8_t *, size_t, const uint8_t *, size_t, uint8_t, uint32_t, uint32_t *, uint32_t *);
+    uint8_t (*arrive)(uint8_t *, size_t, uint8_t *, size_t, uint8_t, uint32_t, uint32_t, uint32_t *, uint32_t *);
+    uint8_t (*tick)(uint8_t *, size_t, const uint8_t *, size_t, uint32_t *, uint32_t *);
+    uint8_t (*transmit)(uint8_t *, size_t, const uint8_t *, size_t, uint32_t *, uint32_t *);
+};
+
+static const struct sort sorts[] = {
+    { "the calls", bunnysolder_open, bunnysolder_reserve, bunnysolder_arrive, bunnysolder_tick, bunnysolder_transmit },
+    { "the unscanned calls", bunnysolder_open_unscanned, bunnysolder_reserve_unscanned, bunnysolder_arrive_unscanned,
+      bunnysolder_tick_unscanned, bunnysolder_transmit_unscanned },
+};
+
+static uint8_t port[BUNNYSOLDER_RECORD_LENGTH];
+static uint8_t memory[BUNNYSOLDER_MEMORY_LENGTH];
+static uint32_t first, second;
+static int wrong;
+
+/* Holds a reply against what it is to be. */
+static void replies(const char *call, uint8_t refusal, uint8_t number, uint32_t one, uint32_t two)
+{
+    if (refusal == number && first == one && second == two)
+        return;
+    printf("  %s replies %u %u %u, not %u %u %u\n", call, refusal, first, second, number, one, two);
+    wrong++;
+}
+
+/* Document 01's sample, and a refusal of each call, on a port never opened. */
+static void sample(const struct sort *s)
+{
+    const size_t p = sizeof port, m = sizeof memory;
+
+    memset(port, 0, p);
+    memset(memory, 0, m);
+    replies("transmit", s->transmit(port, p, memory, m, &first, &second), BUNNYSOLDER_CLOSED, 0, 0);
+    replies("open", s->open(port, p, memory, m, 23047, 1, &first, &second), BUNNYSOLDER_LINK_RANGE, 0, 0);
+    replies("open", s->open(port, p, memory, m, 2142, 1, &first, &second), BUNNYSOLDER_GRANTED, 600, 0);
+    replies("reserve", s->reserve(port, p, memory, m, 5, 200, &first, &second), BUNNYSOLDER_GRANTED, 400, 0);
+    replies("reserve", s->reserve(port, p, memory, m, 6, 401, &first, &second), BUNNYSOLDER_SHARE_EXCEEDED, 0, 0);
+    replies("arrive", s->arrive(port, p, memory, m, 5, 120, 7, &first, &second), BUNNYSOLDER_GRANTED, BUNNYSOLDER_CURRENT, 80);
+    replies("arrive", s->arrive(port, p, memory, m, 5, 100, 8, &first, &second), BUNNYSOLDER_GRANTED, BUNNYSOLDER_NEXT, 100);
+    replies("transmit", s->transmit(port, p, memory, m, &first, &second), BUNNYSOLDER_GRANTED, 5, 7);
+    replies("transmit", s->transmit(port, p, memory, m, &first, &second), BUNNYSOLDER_GRANTED, BUNNYSOLDER_NOTHING, 0);
+    replies("tick", s->tick(port, p, memory, m, &first, &second), BUNNYSOLDER_GRANTED, 0, 0);
+    replies("transmit", s->transmit(port, p, memory, m, &first, &second), BUNNYSOLDER_GRANTED, 5, 8);
+    replies("arrive", s->arrive(port, p, memory, m, 5, 201, 9, &first, &second), BUNNYSOLDER_DISCARD, 0, 0);
+    replies("tick", s->tick(port, p, memory, m - 1, &first, &second), BUNNYSOLDER_SHORT_MEMORY, 0, 0);
+}
+
+int main(void)
+{
+    int passed = 0, failed = 0;
+    size_t i;
+
+    for (i = 0; i < sizeof sorts / sizeof *sorts; i++) {
+        wrong = 0;
+        sample(&sorts[i]);
+        printf("test %s through the header: %s\n", sorts[i].name, wrong ? "FAILED" : "ok");
+        if (wrong)
+            failed++;
+        else
+            passed++;
+    }
+    printf("%d passed, %d failed\n", passed, failed);
+    return failed != 0;
+}

@@ -1,0 +1,175 @@
+//! What happened in the calls of a test, counted, so that a test fails if what it is named for did not occur often enough.
+
+use std::collections::BTreeMap;
+use std::fmt;
+
+use crate::call::{Call, Reply};
+use crate::comparing::layout;
+use crate::model::port::{BEST_EFFORT, BEST_EFFORT_STREAM, CURRENT, LAST, NOTHING, QUEUE_PLACES, RESERVED_QUEUES, STREAMS};
+
+/// One kind of thing that can happen.
+#[derive(Clone, Copy, Debug, PartialEq, Eq, PartialOrd, Ord)]
+pub enum Seen {
+    /// A granted Open.
+    Opened,
+    /// A granted Reserve.
+    Reserved,
+    /// A granted Reserve that left nothing of the share free.
+    ShareFilled,
+    /// A granted Reserve after which all 64 streams are reserved.
+    AllReserved,
+    /// A frame that joined at a place of the three.
+    JoinedAt(u8),
+    /// A frame that joined at a place that is none of the three, as a quick call lets it.
+    JoinedElsewhere,
+    /// A frame that took all that was left at a place.
+    ExactFitAt(u8),
+    /// A frame that joined at a place of memory before its queue's start.
+    JoinedWrapped,
+    /// A frame that filled its queue.
+    QueueFilled,
+    /// A granted Tick.
+    Ticked,
+    /// A frame that a Tick purged.
+    PurgedFrame,
+    /// A Transmit that sent from prior.
+    SentFromPrior,
+    /// A Transmit that sent from current.
+    SentFromCurrent,
+    /// A Transmit that sent from best effort.
+    SentFromBestEffort,
+    /// A Transmit that found nothing to send.
+    SentNothing,
+    /// A refusal with a number.
+    Refused(u8),
+    /// The host closed the port by writing its record.
+    Closed,
+    /// A record that the model calls fit.
+    FitRecord,
+    /// A record that the model calls unfit.
+    UnfitRecord,
+}
+
+impl fmt::Display for Seen {
+    fn fmt(&self, f: &mut fmt::Formatter<'_>) -> fmt::Result {
+        match self {
+            Seen::Opened => write!(f, "opened"),
+            Seen::Reserved => write!(f, "reserved"),
+            Seen::ShareFilled => write!(f, "share filled"),
+            Seen::AllReserved => write!(f, "all streams reserved"),
+            Seen::JoinedAt(place) => write!(f, "joined at {place}"),
+            Seen::JoinedElsewhere => write!(f, "joined elsewhere"),
+            Seen::ExactFitAt(place) => write!(f, "exact fit at {place}"),
+            Seen::JoinedWrapped => write!(f, "joined wrapped"),
+            Seen::QueueFilled => write!(f, "queue filled"),
+            Seen::Ticked => write!(f, "ticked"),
+            Seen::PurgedFrame => write!(f, "frames purged"),
+            Seen::SentFromPrior => write!(f, "sent from prior"),
+            Seen::SentFromCurrent => write!(f, "sent from current"),
+            Seen::SentFromBestEffort => write!(f, "sent from best effort"),
+            Seen::SentNothing => write!(f, "sent nothing"),
+            Seen::Refused(number) => write!(f, "refused {number}"),
+            Seen::Closed => write!(f, "closed by host"),
+            Seen::FitRecord => write!(f, "fit"),
+            Seen::UnfitRecord => write!(f, "unfit"),
+        }
+    }
+}
+
+/// How often each kind of thing happened.
+#[derive(Default)]
+pub struct Coverage {
+    counts: BTreeMap<Seen, u64>,
+}
+
+impl Coverage {
+    /// Counts one thing.
+    pub fn count(&mut self, seen: Seen) {
+        self.add(seen, 1);
+    }
+
+    /// Counts so many things of one kind.
+    fn add(&mut self, seen: Seen, times: u64) {
+        if times > 0 {
+            *self.counts.entry(seen).or_default() += times;
+        }
+    }
+
+    /// How often a thing happened.
+    pub fn times(&self, seen: Seen) -> u64 {
+        self.counts.get(&seen).copied().unwrap_or_default()
+    }
+
+    /// Counts what a call did, by its reply and the record after it; `prior_waited` says whether frames waited in prior before it.
+    pub fn count_call(&mut self, call: &Call, reply: &Reply, record: &[u8], prior_waited: bool) {
+        if reply.refusal != 0 {
+            return self.count(Seen::Refused(reply.refusal));
+        }
+        match *call {
+            Call::Open { .. } => self.count(Seen::Opened),
+            Call::Reserve { .. } => self.count_reserve(reply, record),
+            Call::Arrive { stream, .. } => self.count_joined(usize::from(stream), reply, record),
+            Call::Tick => {
+                self.count(Seen::Ticked);
+                self.add(Seen::PurgedFrame, u64::from(reply.first));
+            }
+            Call::Transmit => self.count(sent(reply, prior_waited)),
+        }
+    }
+
+    /// Counts a granted Reserve.
+    fn count_reserve(&mut self, reply: &Reply, record: &[u8]) {
+        self.count(Seen::Reserved);
+        if reply.first == 0 {
+            self.count(Seen::ShareFilled);
+        }
+        if (0..STREAMS).all(|stream| layout::is_reserved(record, stream)) {
+            self.count(Seen::AllReserved);
+        }
+    }
+
+    /// Counts a granted Arrive.
+    fn count_joined(&mut self, stream: usize, reply: &Reply, record: &[u8]) {
+        let joined = reply.first as u8;
+        if !(CURRENT..=LAST).contains(&joined) {
+            return self.count(Seen::JoinedElsewhere);
+        }
+        self.count(Seen::JoinedAt(joined));
+        let place = record[layout::entry(stream) + layout::PLACE];
+        if place != joined || (joined == LAST && reply.second == 0) {
+            self.count(Seen::ExactFitAt(joined));
+        }
+        let queue = (usize::from(record[layout::PRIOR]) + usize::from(joined)) % RESERVED_QUEUES;
+        let start = layout::two(record, layout::start(queue)) as usize;
+        let count = layout::two(record, layout::count(queue)) as usize;
+        if start + count > QUEUE_PLACES {
+            self.count(Seen::JoinedWrapped);
+        }
+        if count == QUEUE_PLACES {
+            self.count(Seen::QueueFilled);
+        }
+    }
+}
+
+/// Where a granted Transmit sent from.
+fn sent(reply: &Reply, prior_waited: bool) -> Seen {
+    match reply.first {
+        NOTHING => Seen::SentNothing,
+        BEST_EFFORT_STREAM => Seen::SentFromBestEffort,
+        _ if prior_waited => Seen::SentFromPrior,
+        _ => Seen::SentFromCurrent,
+    }
+}
+
+/// Whether frames wait in prior, by a record of any content.
+pub fn prior_waits(record: &[u8]) -> bool {
+    let prior = record.get(layout::PRIOR).map_or(BEST_EFFORT, |&octet| usize::from(octet));
+    prior < RESERVED_QUEUES && record.len() > layout::count(prior) + 1 && layout::two(record, layout::count(prior)) > 0
+}
+
+impl fmt::Display for Coverage {
+    fn fmt(&self, f: &mut fmt::Formatter<'_>) -> fmt::Result {
+        let texts: Vec<String> = self.counts.iter().map(|(seen, times)| format!("{seen} {times}")).collect();
+        write!(f, "{}", texts.join(", "))
+    }
+}

@@ -1,0 +1,59 @@
+//! The tests of the kind `quick` between fences: the proved calls, quick or not, touch no octet outside the slices that were lent.
+
+use crate::comparing::compared::Compared;
+use crate::comparing::coverage::Seen;
+use crate::comparing::fenced::{lend_pair, Edge, EDGES};
+use crate::comparing::lent::Lend;
+use crate::comparing::sides::Side;
+use crate::comparing::test::{Kind, Run, Test};
+use crate::comparing::tried::try_lengths;
+use crate::model::octets::{MEMORY_OCTETS, RECORD_OCTETS};
+
+/// The tests between fences.
+pub const TESTS: [Test; 3] = [
+    Test { kind: Kind::Quick, name: "fences_notice_a_touch", body: fences_notice_a_touch },
+    Test { kind: Kind::Quick, name: "calls_between_fences", body: calls_between_fences },
+    Test { kind: Kind::Quick, name: "quick_calls_between_fences", body: quick_calls_between_fences },
+];
+
+/// A read right outside a slice is noticed at either edge, of record and memory.
+fn fences_notice_a_touch(run: &mut Run) -> Result<(), String> {
+    for length in [0, 1, RECORD_OCTETS, MEMORY_OCTETS] {
+        for edge in EDGES {
+            run.records += 2;
+            let noticed = [false, true].map(|in_memory| touch_is_noticed(length, edge, in_memory));
+            if noticed != [true; 2] {
+                return Err(format!("a read outside {length} octets at their {edge:?} is noticed: record, memory {noticed:?}"));
+            }
+        }
+    }
+    Ok(())
+}
+
+/// Whether a read right outside one of two lent slices is noticed, and nothing before it.
+fn touch_is_noticed(length: usize, edge: Edge, in_memory: bool) -> bool {
+    let (record, memory) = lend_pair(&vec![0; length], &vec![0; length], [edge; 2]);
+    let touched = if in_memory { &memory } else { &record };
+    let kept_before = touched.outside_kept();
+    touched.touch_outside(edge);
+    kept_before && !touched.outside_kept()
+}
+
+/// The proved calls.
+fn calls_between_fences(run: &mut Run) -> Result<(), String> {
+    between_fences(run, Side::Exports)
+}
+
+/// The proved quick calls.
+fn quick_calls_between_fences(run: &mut Run) -> Result<(), String> {
+    between_fences(run, Side::Quick)
+}
+
+/// Each call on records of every shape at every pair of lengths, against fences before and after.
+fn between_fences(run: &mut Run, side: Side) -> Result<(), String> {
+    try_lengths(run, 12, |run, random, octets| {
+        let edges = [random.pick(&EDGES), random.pick(&EDGES)];
+        Compared::fenced(side, run, &octets.record, &octets.memory, edges)
+    })?;
+    run.demand(&[(Seen::FitRecord, 100), (Seen::UnfitRecord, 500), (Seen::Ticked, 40), (Seen::Opened, 40)])
+}

@@ -1,0 +1,207 @@
+//! The kind `lists`: long lists of calls, the proved calls against the model, each test with one profile of steps.
+
+use crate::comparing::calls::{Charges, Permitted, Profile, Weights, ORDINARY};
+use crate::comparing::compared::{Compared, Step};
+use crate::comparing::coverage::Seen;
+use crate::comparing::fit::Octets;
+use crate::comparing::random::Random;
+use crate::comparing::sides::Side;
+use crate::comparing::test::{Kind, Run, Test};
+use crate::model::port::{CURRENT, LARGEST_CHARGE, LAST, LINKS, NEXT, STREAMS};
+use crate::model::refusal::*;
+
+/// The tests of this kind.
+pub const TESTS: [Test; 8] = [
+    test("few_streams_pressed", few_streams_pressed),
+    test("many_streams_pressed_to_the_share", many_streams_pressed_to_the_share),
+    test("full_queues", full_queues),
+    test("withheld_transmits", withheld_transmits),
+    test("ring_starts_anywhere", ring_starts_anywhere),
+    test("opened_again", opened_again),
+    test("arguments_out_of_range", arguments_out_of_range),
+    test("mixture", mixture),
+];
+
+/// The sides of this kind.
+const SIDES: [Side; 2] = [Side::Exports, Side::Model];
+
+/// A test of this kind.
+const fn test(name: &'static str, body: fn(&mut Run) -> Result<(), String>) -> Test {
+    Test { kind: Kind::Lists, name, body }
+}
+
+/// How many lists a test plays at full size, how many calls each has, and how it begins.
+pub struct Plan {
+    pub lists: usize,
+    pub calls: usize,
+    pub begin: fn(&mut Random) -> Octets,
+}
+
+/// L at which the share holds 256 frames of the least charge, and that share.
+const FULL_LINK: u32 = *LINKS.end();
+const FULL_SHARE: u32 = FULL_LINK - LARGEST_CHARGE;
+
+/// The refusals of a planner's call, and those of an arrival's arguments.
+const OF_PLANNER: [u8; 8] =
+    [PORT_CLOSED, OPEN_ALREADY, LINK_OUTSIDE, DELAY_OUTSIDE, STREAM_ABOVE, RESERVED_ALREADY, PERMITTED_BELOW, SHARE_EXCEEDED];
+const OF_SENDER: [u8; 2] = [NOT_RESERVED, CHARGE_OUTSIDE];
+
+/// Few streams, which arrivals press at every place: exact fits and discards.
+fn few_streams_pressed(run: &mut Run) -> Result<(), String> {
+    let weights = Weights { open: 0, reserve: 4, arrive: 70, tick: 15, transmit: 20, close: 0 };
+    let profile = Profile { weights, streams: 4, links: 10_000..=FULL_LINK, permitted: Permitted::UpTo(2_000), ..ORDINARY };
+    play(run, SIDES, &Plan { lists: 200, calls: 1_000, begin: a_closed_port }, |_| profile.clone())?;
+    never_met_from_opening(run)?;
+    run.demand(&at_each_place(Seen::JoinedAt, 5_000))?;
+    run.demand(&at_each_place(Seen::ExactFitAt, 1_000))?;
+    run.demand(&[(Seen::Refused(DISCARD), 5_000)])
+}
+
+/// All 64 streams, with reservations up to the share and past it.
+fn many_streams_pressed_to_the_share(run: &mut Run) -> Result<(), String> {
+    let weights = Weights { open: 1, reserve: 150, arrive: 200, tick: 40, transmit: 60, close: 1 };
+    let profile = Profile { weights, links: 7_000..=FULL_LINK, permitted: Permitted::Parts, ..ORDINARY };
+    play(run, SIDES, &Plan { lists: 150, calls: 800, begin: a_closed_port }, |_| profile.clone())?;
+    never_met_from_opening(run)?;
+    run.demand(&[(Seen::Refused(SHARE_EXCEEDED), 2_000), (Seen::ShareFilled, 40), (Seen::AllReserved, 50), (Seen::Reserved, 5_000)])
+}
+
+/// Queues of 256 frames, each of the least charge: one stream with all of the share, or 64 with an equal part.
+fn full_queues(run: &mut Run) -> Result<(), String> {
+    let weights = Weights { open: 0, reserve: 100, arrive: 1_000, tick: 2, transmit: 3, close: 0 };
+    let profile = |random: &mut Random| {
+        let permitted = Permitted::Exactly(random.pick(&[FULL_SHARE, FULL_SHARE / STREAMS as u32]));
+        Profile { weights, links: FULL_LINK..=FULL_LINK, permitted, charges: Charges::Least, ..ORDINARY }
+    };
+    play(run, SIDES, &Plan { lists: 20, calls: 3_000, begin: a_closed_port }, profile)?;
+    never_met_from_opening(run)?;
+    run.demand(&[(Seen::QueueFilled, 20), (Seen::Refused(DISCARD), 1_000), (Seen::PurgedFrame, 2_000)])
+}
+
+/// Hardly any transmits, so that ticks purge.
+fn withheld_transmits(run: &mut Run) -> Result<(), String> {
+    let weights = Weights { open: 0, reserve: 4, arrive: 60, tick: 30, transmit: 4, close: 0 };
+    let profile = Profile { weights, streams: 16, links: 5_000..=FULL_LINK, permitted: Permitted::UpTo(3_000), ..ORDINARY };
+    play(run, SIDES, &Plan { lists: 120, calls: 1_000, begin: a_closed_port }, |_| profile.clone())?;
+    never_met_from_opening(run)?;
+    run.demand(&[(Seen::PurgedFrame, 20_000), (Seen::SentFromPrior, 500), (Seen::Ticked, 10_000)])
+}
+
+/// Lists that begin on an open port of any content: queues that wrap, full ones that refuse, best effort that drains.
+fn ring_starts_anywhere(run: &mut Run) -> Result<(), String> {
+    play(run, SIDES, &Plan { lists: 500, calls: 300, begin: an_open_port }, ring_profile)?;
+    run.demand(&[(Seen::Refused(QUEUE_FULL), 1_500), (Seen::JoinedWrapped, 800), (Seen::SentFromBestEffort, 800)])?;
+    run.demand(&[(Seen::SentFromPrior, 3_000), (Seen::SentFromCurrent, 3_000), (Seen::SentNothing, 500)])
+}
+
+/// Ports that are opened though open, and used records that the host closes and opens again.
+fn opened_again(run: &mut Run) -> Result<(), String> {
+    let weights = Weights { open: 6, reserve: 12, arrive: 60, tick: 8, transmit: 15, close: 2 };
+    let profile = Profile { weights, streams: 24, edges: 5, ..ORDINARY };
+    play(run, SIDES, &Plan { lists: 250, calls: 600, begin: an_open_port }, |_| profile.clone())?;
+    run.demand(&[(Seen::Opened, 1_500), (Seen::Closed, 1_500)])?;
+    run.demand(&[(Seen::Refused(OPEN_ALREADY), 4_000), (Seen::Refused(PORT_CLOSED), 800)])
+}
+
+/// Every argument outside its range, at its ends and where fewer bits would hide it.
+fn arguments_out_of_range(run: &mut Run) -> Result<(), String> {
+    let weights = Weights { open: 15, reserve: 30, arrive: 40, tick: 3, transmit: 7, close: 5 };
+    let profile = Profile { weights, edges: 60, ..ORDINARY };
+    play(run, SIDES, &Plan { lists: 200, calls: 600, begin: a_closed_port }, |_| profile.clone())?;
+    never_met_from_opening(run)?;
+    run.demand(&OF_PLANNER.map(|refusal| (Seen::Refused(refusal), 500)))?;
+    run.demand(&OF_SENDER.map(|refusal| (Seen::Refused(refusal), 500)))
+}
+
+/// Everything, with other weights in each list.
+fn mixture(run: &mut Run) -> Result<(), String> {
+    play(run, SIDES, &Plan { lists: 400, calls: 500, begin: any_port }, any_profile)?;
+    run.demand(&at_each_place(Seen::JoinedAt, 1_000))?;
+    run.demand(&at_each_place(Seen::ExactFitAt, 200))?;
+    run.demand(&[(Seen::PurgedFrame, 5_000), (Seen::SentFromPrior, 2_000), (Seen::SentFromCurrent, 2_000), (Seen::SentNothing, 500)])?;
+    run.demand(&[(Seen::Opened, 500), (Seen::Reserved, 1_500), (Seen::Ticked, 5_000), (Seen::Refused(DISCARD), 1_000)])
+}
+
+/// A demand for each of the three places.
+fn at_each_place(seen: fn(u8) -> Seen, times: u64) -> [(Seen, u64); 3] {
+    [CURRENT, NEXT, LAST].map(|place| (seen(place), times))
+}
+
+/// No list from an opening meets a full queue.
+fn never_met_from_opening(run: &Run) -> Result<(), String> {
+    run.demand_none(Seen::Refused(QUEUE_FULL))
+}
+
+/// A closed port: all zeros, or fit with any content.
+fn a_closed_port(random: &mut Random) -> Octets {
+    match random.chance(50) {
+        true => Octets::zero(),
+        false => Octets::fit(random, false),
+    }
+}
+
+/// An open port of any content.
+pub fn an_open_port(random: &mut Random) -> Octets {
+    Octets::fit(random, true)
+}
+
+/// A port of any content, open or closed.
+pub fn any_port(random: &mut Random) -> Octets {
+    let open = random.chance(50);
+    Octets::fit(random, open)
+}
+
+/// A profile with few ticks, so that queues keep the starts that they have, and fill or drain.
+pub fn ring_profile(random: &mut Random) -> Profile {
+    let (tick, transmit) = (random.pick(&[0, 1, 4]), random.pick(&[5, 60]));
+    let weights = Weights { open: 1, reserve: 10, arrive: 60, tick, transmit, close: 0 };
+    Profile { weights, charges: random.pick(&[Charges::NearLeft, Charges::Least]), edges: 2, ..ORDINARY }
+}
+
+/// A profile of which everything is any.
+pub fn any_profile(random: &mut Random) -> Profile {
+    let mut any = |least: u32, most: u32| random.between(least..=most) as usize;
+    let (open, reserve, arrive) = (any(0, 4), any(1, 30), any(10, 100));
+    let (tick, transmit, close) = (any(0, 30), any(0, 60), any(0, 2));
+    Profile {
+        weights: Weights { open, reserve, arrive, tick, transmit, close },
+        streams: any(1, STREAMS as u32),
+        edges: any(0, 20),
+        permitted: random.pick(&[Permitted::NearFree, Permitted::UpTo(1_000), Permitted::UpTo(6_000)]),
+        charges: random.pick(&[Charges::NearLeft, Charges::Least]),
+        ..ORDINARY
+    }
+}
+
+/// Plays the lists of a plan; one that begins on a closed port is opened first, and none leaves a record unfit.
+pub fn play(run: &mut Run, sides: [Side; 2], plan: &Plan, profile: impl Fn(&mut Random) -> Profile) -> Result<(), String> {
+    for _ in 0..run.scaled(plan.lists) {
+        let mut random = run.next_list();
+        let begin = (plan.begin)(&mut random);
+        let profile = profile(&mut random);
+        let mut compared = Compared::guarded(sides, run, &begin.record, &begin.memory);
+        if !begin.is_open() {
+            let open = profile.open(&mut random, false);
+            compared.expect(run, &open, |reply| reply.refusal == 0, "a granted open")?;
+        }
+        play_list(run, &mut random, &mut compared, &profile, plan.calls)?;
+    }
+    run.demand_none(Seen::Refused(MEMORY_SHORT))?;
+    run.demand_none(Seen::Refused(RECORD_UNFIT))
+}
+
+/// Plays the steps of one list.
+fn play_list(run: &mut Run, random: &mut Random, compared: &mut Compared, profile: &Profile, calls: usize) -> Result<(), String> {
+    for _ in 0..calls {
+        match profile.step(random, compared.record()) {
+            Step::Call(call) => {
+                compared.call(run, &call)?;
+            }
+            Step::HostWrites { at, octet } => {
+                compared.host_writes(at, octet);
+                run.coverage.count(Seen::Closed);
+            }
+        }
+    }
+    Ok(())
+}

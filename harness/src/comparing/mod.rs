@@ -1,0 +1,21 @@
+//! The comparing tests: what they lend and call, what they compare and count, and the tests of each kind.
+
+pub mod broken;
+pub mod calls;
+pub mod compared;
+pub mod coverage;
+pub mod fenced;
+pub mod fences;
+pub mod fit;
+pub mod layout;
+pub mod lent;
+pub mod lists;
+pub mod program;
+pub mod quick;
+pub mod random;
+pub mod records;
+pub mod sample;
+pub mod shapes;
+pub mod sides;
+pub mod test;
+pub mod tried;

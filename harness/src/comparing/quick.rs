@@ -1,0 +1,81 @@
+//! The kind `quick`: the proved quick calls, on fit records against the proved calls and on all records against their own definition.
+
+use crate::comparing::broken;
+use crate::comparing::compared::Compared;
+use crate::comparing::coverage::Seen;
+use crate::comparing::lists::{an_open_port, any_port, any_profile, play, ring_profile, Plan};
+use crate::comparing::shapes::{any_fit, any_open, extreme, SHAPES};
+use crate::comparing::sides::Side;
+use crate::comparing::test::{Kind, Run, Test};
+use crate::comparing::tried::{try_each_call, try_lengths, try_shape};
+use crate::model::refusal::*;
+
+/// The tests of this kind, but for those between fences.
+pub const TESTS: [Test; 6] = [
+    test("quick_as_the_call_on_fit_records", as_the_call_on_fit_records),
+    test("quick_as_the_call_in_lists", as_the_call_in_lists),
+    test("quick_as_defined_on_every_shape", as_defined_on_every_shape),
+    test("quick_as_defined_in_lists", as_defined_in_lists),
+    test("quick_as_defined_on_broken_clauses", as_defined_on_broken_clauses),
+    test("quick_as_defined_at_all_lengths", as_defined_at_all_lengths),
+];
+
+/// The quick calls and the calls.
+const WITH_CALLS: [Side; 2] = [Side::Quick, Side::Exports];
+/// The quick calls and their definition.
+const WITH_DEFINITION: [Side; 2] = [Side::Quick, Side::InPlace];
+
+/// A test of this kind.
+const fn test(name: &'static str, body: fn(&mut Run) -> Result<(), String>) -> Test {
+    Test { kind: Kind::Quick, name, body }
+}
+
+/// On fit records the quick calls are the calls.
+fn as_the_call_on_fit_records(run: &mut Run) -> Result<(), String> {
+    try_shape(run, WITH_CALLS, ("fit", any_fit), 20_000)?;
+    run.demand_none(Seen::UnfitRecord)?;
+    run.demand(&[DISCARD, QUEUE_FULL, SHARE_EXCEEDED, PORT_CLOSED].map(|refusal| (Seen::Refused(refusal), 1_000)))
+}
+
+/// In lists from fit records the quick calls are the calls.
+fn as_the_call_in_lists(run: &mut Run) -> Result<(), String> {
+    play(run, WITH_CALLS, &Plan { lists: 1_000, calls: 500, begin: any_port }, any_profile)?;
+    play(run, WITH_CALLS, &Plan { lists: 500, calls: 300, begin: an_open_port }, ring_profile)?;
+    run.demand(&[(Seen::PurgedFrame, 10_000), (Seen::SentFromBestEffort, 500)])?;
+    run.demand(&[(Seen::JoinedWrapped, 800), (Seen::Refused(QUEUE_FULL), 1_500)])
+}
+
+/// On records of every shape, fit or far from it, the quick calls are what is defined.
+fn as_defined_on_every_shape(run: &mut Run) -> Result<(), String> {
+    for shape in SHAPES {
+        try_shape(run, WITH_DEFINITION, shape, 5_000)?;
+    }
+    run.demand(&[(Seen::UnfitRecord, 10_000), (Seen::JoinedElsewhere, 500), (Seen::PurgedFrame, 10_000)])
+}
+
+/// In lists that begin on an open record far outside what is fit, the quick calls are what is defined.
+fn as_defined_in_lists(run: &mut Run) -> Result<(), String> {
+    play(run, WITH_DEFINITION, &Plan { lists: 1_000, calls: 300, begin: extreme }, any_profile)?;
+    play(run, WITH_DEFINITION, &Plan { lists: 500, calls: 300, begin: any_open }, any_profile)?;
+    run.demand(&[(Seen::JoinedElsewhere, 500), (Seen::SentFromBestEffort, 500), (Seen::Refused(QUEUE_FULL), 500)])
+}
+
+/// On records with one broken clause the quick calls are what is defined.
+fn as_defined_on_broken_clauses(run: &mut Run) -> Result<(), String> {
+    for breach in broken::all() {
+        for round in 0..run.scaled(4) * breach.sites * 2 {
+            let mut random = run.next_record(breach.name);
+            let (_, past) = breach.at_boundary_and_past(&mut random, round % 2 == 0, round / 2 % breach.sites);
+            let compared = Compared::guarded(WITH_DEFINITION, run, &past.record, &past.memory);
+            try_each_call(run, &mut random, compared, &past)?;
+        }
+    }
+    run.demand(&[(Seen::UnfitRecord, 5_000)])
+}
+
+/// At all lengths the quick calls are what is defined.
+fn as_defined_at_all_lengths(run: &mut Run) -> Result<(), String> {
+    try_lengths(run, 12, |run, _, octets| Compared::guarded(WITH_DEFINITION, run, &octets.record, &octets.memory))?;
+    run.demand(&[MEMORY_SHORT, RECORD_UNFIT, PORT_CLOSED].map(|refusal| (Seen::Refused(refusal), 100)))?;
+    run.demand(&[(Seen::Opened, 50), (Seen::Ticked, 50)])
+}

@@ -1,0 +1,117 @@
+//! Document 01's sample and its cases C1 to C11, with the replies that the document states, through the proved calls and the model.
+
+use crate::call::{Call, Reply};
+use crate::comparing::compared::Compared;
+use crate::comparing::fit::Octets;
+use crate::comparing::sides::Side;
+use crate::comparing::test::{Kind, Run, Test};
+use crate::model::refusal::{CHARGE_OUTSIDE, DISCARD, LINK_OUTSIDE, PERMITTED_BELOW, SHARE_EXCEEDED};
+
+/// The tests of this file.
+pub const TESTS: [Test; 2] = [
+    Test { kind: Kind::Lists, name: "document_sample", body: document_sample },
+    Test { kind: Kind::Lists, name: "document_cases_c1_to_c11", body: document_cases_c1_to_c11 },
+];
+
+/// A call and its reply as the document states it.
+type Stated = (Call, Reply);
+
+/// A granted call's reply.
+const fn granted(first: u32, second: u32) -> Reply {
+    Reply { refusal: 0, first, second }
+}
+
+/// A refused call's reply.
+const fn refused(refusal: u8) -> Reply {
+    Reply { refusal, first: 0, second: 0 }
+}
+
+/// Open(L, 1).
+const fn open(link: u32, reply: Reply) -> Stated {
+    (Call::Open { link, delay: 1 }, reply)
+}
+
+/// A Reserve.
+const fn reserve(stream: u8, permitted: u32, reply: Reply) -> Stated {
+    (Call::Reserve { stream, permitted }, reply)
+}
+
+/// An Arrive on stream 5.
+const fn arrive(charge: u32, tag: u32, reply: Reply) -> Stated {
+    (Call::Arrive { stream: 5, charge, tag }, reply)
+}
+
+/// Open of the cases: L 2,142.
+const OPEN: Stated = open(2_142, granted(600, 0));
+/// Reserve of the cases: P 200.
+const RESERVE: Stated = reserve(5, 200, granted(400, 0));
+/// A tick that purges nothing.
+const TICK: Stated = (Call::Tick, granted(0, 0));
+
+/// The sample output's eight calls.
+const SAMPLE: [Stated; 8] = [
+    OPEN,
+    RESERVE,
+    arrive(120, 7, granted(1, 80)),
+    arrive(100, 8, granted(2, 100)),
+    (Call::Transmit, granted(5, 7)),
+    (Call::Transmit, granted(254, 0)),
+    TICK,
+    (Call::Transmit, granted(5, 8)),
+];
+
+/// C1 to C11, those of one number with each their own list.
+const CASES: [(&str, &[Stated]); 13] = [
+    ("C1, 1,625", &[open(1_625, refused(LINK_OUTSIDE))]),
+    ("C1, 1,626", &[open(1_626, granted(84, 0))]),
+    ("C2, 23,046", &[open(23_046, granted(21_504, 0))]),
+    ("C2, 23,047", &[open(23_047, refused(LINK_OUTSIDE))]),
+    ("C3", &[OPEN, reserve(5, 83, refused(PERMITTED_BELOW)), reserve(5, 84, granted(516, 0))]),
+    ("C4", &[OPEN, RESERVE, reserve(6, 401, refused(SHARE_EXCEEDED)), reserve(6, 400, granted(0, 0))]),
+    ("C5", &[OPEN, RESERVE, arrive(200, 1, granted(1, 200)), arrive(84, 2, granted(2, 116))]),
+    ("C6", &[OPEN, RESERVE, arrive(120, 1, granted(1, 80)), arrive(100, 2, granted(2, 100))]),
+    (
+        "C7",
+        &[
+            OPEN,
+            RESERVE,
+            arrive(120, 1, granted(1, 80)),
+            arrive(100, 2, granted(2, 100)),
+            arrive(90, 3, granted(2, 10)),
+            arrive(84, 4, granted(3, 116)),
+        ],
+    ),
+    ("C8", &[OPEN, RESERVE, THRICE[0], THRICE[1], THRICE[2], arrive(84, 4, refused(DISCARD))]),
+    ("C9", &[OPEN, RESERVE, THRICE[0], THRICE[1], THRICE[2], arrive(84, 4, refused(DISCARD)), TICK, arrive(84, 5, granted(3, 116))]),
+    ("C10", &[OPEN, RESERVE, arrive(201, 1, refused(DISCARD)), arrive(84, 2, refused(DISCARD))]),
+    ("C11", &[OPEN, RESERVE, arrive(83, 1, refused(CHARGE_OUTSIDE)), arrive(1_543, 2, refused(CHARGE_OUTSIDE))]),
+];
+
+/// "200 three times: current, next, last".
+const THRICE: [Stated; 3] = [arrive(200, 1, granted(1, 200)), arrive(200, 2, granted(2, 200)), arrive(200, 3, granted(3, 0))];
+
+/// The sample output of document 01.
+fn document_sample(run: &mut Run) -> Result<(), String> {
+    play_stated(run, "sample", &SAMPLE)
+}
+
+/// C1 to C11 of document 01.
+fn document_cases_c1_to_c11(run: &mut Run) -> Result<(), String> {
+    for (name, case) in CASES {
+        play_stated(run, name, case)?;
+    }
+    Ok(())
+}
+
+/// Plays a stated list, first on a record of zeros and then on used ones that are closed.
+fn play_stated(run: &mut Run, name: &str, stated: &[Stated]) -> Result<(), String> {
+    for used in [false, true, true, true] {
+        let mut random = run.next_list();
+        let begin = if used { Octets::fit(&mut random, false) } else { Octets::zero() };
+        let mut compared = Compared::guarded([Side::Exports, Side::Model], run, &begin.record, &begin.memory);
+        for (call, reply) in stated {
+            compared.expect(run, call, |got| got == reply, &format!("{reply} by {name} of document 01"))?;
+        }
+    }
+    Ok(())
+}

@@ -1,0 +1,55 @@
+//! The ways to play a call: the proved calls and quick calls, and the outside program that they are held against.
+
+use std::fmt;
+
+use crate::call::{Call, Reply};
+use crate::{exports, in_place, model};
+
+/// How a call is played on a lent record and memory.
+pub type Play = fn(&Call, &mut [u8], &mut [u8]) -> Reply;
+
+/// One of the ways to play a call.
+#[derive(Clone, Copy, Debug, PartialEq, Eq)]
+pub enum Side {
+    /// The proved calls.
+    Exports,
+    /// The proved quick calls.
+    Quick,
+    /// The independent model of the calls.
+    Model,
+    /// The quick calls' own definition in plain Rust.
+    InPlace,
+}
+
+/// The outside program, sound or with a fault that was seeded in it to see the tests catch.
+#[derive(Clone, Copy)]
+pub struct Outside {
+    pub model: Play,
+    pub in_place: Play,
+}
+
+impl Outside {
+    /// The outside program as it is.
+    pub const SOUND: Outside = Outside { model: model::call, in_place: in_place::call };
+
+    /// How a side plays a call.
+    pub fn play(&self, side: Side) -> Play {
+        match side {
+            Side::Exports => exports::call,
+            Side::Quick => exports::unscanned,
+            Side::Model => self.model,
+            Side::InPlace => self.in_place,
+        }
+    }
+}
+
+impl fmt::Display for Side {
+    fn fmt(&self, f: &mut fmt::Formatter<'_>) -> fmt::Result {
+        f.write_str(match self {
+            Side::Exports => "exports",
+            Side::Quick => "quick exports",
+            Side::Model => "model",
+            Side::InPlace => "in place",
+        })
+    }
+}

@@ -1,0 +1,103 @@
+//! A test, and one run of it: its seed and size, and what it counted.
+
+use std::fmt;
+
+use crate::call::{Call, Reply};
+use crate::comparing::coverage::{Coverage, Seen};
+use crate::comparing::random::Random;
+use crate::comparing::sides::Outside;
+
+/// The kinds of tests.
+#[derive(Clone, Copy, Debug, PartialEq, Eq)]
+pub enum Kind {
+    Lists,
+    Records,
+    Quick,
+}
+
+/// Each kind with the word that names it on the command line.
+pub const KINDS: [(&str, Kind); 3] = [("lists", Kind::Lists), ("records", Kind::Records), ("quick", Kind::Quick)];
+
+/// A test: its kind, its name and what it does.
+#[derive(Clone, Copy)]
+pub struct Test {
+    pub kind: Kind,
+    pub name: &'static str,
+    pub body: fn(&mut Run) -> Result<(), String>,
+}
+
+/// One run of a test.
+pub struct Run {
+    seed: u64,
+    percent: usize,
+    test: &'static str,
+    /// The outside program that the proved calls are held against.
+    pub outside: Outside,
+    /// How many lists and records were begun, and how many calls were compared.
+    pub lists: u64,
+    pub records: u64,
+    pub calls: u64,
+    /// What happened in the calls.
+    pub coverage: Coverage,
+    /// Where the run is, for a report.
+    pub place: String,
+}
+
+impl Run {
+    /// A run of a test with a seed, at so many percent of its size, against an outside program.
+    pub fn new(test: &'static str, seed: u64, percent: usize, outside: Outside) -> Run {
+        Run { seed, percent, test, outside, lists: 0, records: 0, calls: 0, coverage: Coverage::default(), place: String::new() }
+    }
+
+    /// A number of lists or records at the size of this run, at least one.
+    pub fn scaled(&self, at_full_size: usize) -> usize {
+        (at_full_size * self.percent / 100).max(1)
+    }
+
+    /// Begins the next list; its generator.
+    pub fn next_list(&mut self) -> Random {
+        self.lists += 1;
+        self.place = format!("seed {}, list {}", self.seed, self.lists);
+        Random::of(self.seed, self.test, self.lists)
+    }
+
+    /// Begins the next record; its generator.
+    pub fn next_record(&mut self, what: &str) -> Random {
+        self.records += 1;
+        self.place = format!("seed {}, record {} ({what})", self.seed, self.records);
+        Random::of(self.seed, self.test, self.records)
+    }
+
+    /// Counts a call that was compared.
+    pub fn count_call(&mut self, call: &Call, reply: &Reply, record: &[u8], prior_waited: bool) {
+        self.calls += 1;
+        self.coverage.count_call(call, reply, record, prior_waited);
+    }
+
+    /// Fails if a thing happened less often than is asked at full size, or than that part of it which this run's size is.
+    pub fn demand(&self, demands: &[(Seen, u64)]) -> Result<(), String> {
+        for &(seen, at_full_size) in demands {
+            let (times, least) = (self.coverage.times(seen), (at_full_size * self.percent as u64 / 100).max(1));
+            if times < least {
+                return Err(format!("seed {}: too little of what the test is for: {seen} {times}, at least {least} asked", self.seed));
+            }
+        }
+        Ok(())
+    }
+
+    /// Fails if a thing happened at all.
+    pub fn demand_none(&self, seen: Seen) -> Result<(), String> {
+        match self.coverage.times(seen) {
+            0 => Ok(()),
+            times => Err(format!("seed {}: {seen} {times} times, which can not be", self.seed)),
+        }
+    }
+}
+
+impl fmt::Display for Run {
+    fn fmt(&self, f: &mut fmt::Formatter<'_>) -> fmt::Result {
+        let counts = [(self.lists, "lists"), (self.records, "records"), (self.calls, "calls")];
+        let counted: Vec<String> = counts.iter().filter(|(count, _)| *count > 0).map(|(count, what)| format!("{count} {what}")).collect();
+        write!(f, "{}: {}", counted.join(", "), self.coverage)
+    }
+}

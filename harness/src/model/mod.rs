@@ -1,0 +1,28 @@
+//! A plain model of a port: the state read from its octets, the rule run on it in the document's words, the state written back.
+//!
+//! It is written from document 01 and its settled readings alone, and knows nothing of the proved code against which it is held.
+//! It is meant to be read line by line, not to be fast.
+
+pub mod fitness;
+pub mod octets;
+pub mod port;
+pub mod refusal;
+pub mod rule;
+#[cfg(test)]
+mod tests;
+
+use crate::call::{Call, Reply};
+
+/// Plays one call on a lent record and memory of any length and content: "Checks run 18, 19", then the call's own, then its rule.
+pub fn call(call: &Call, record: &mut [u8], memory: &mut [u8]) -> Reply {
+    if fitness::memory_short(memory) {
+        return Reply::refused(refusal::MEMORY_SHORT);
+    }
+    if !fitness::unfit(record, memory).is_empty() {
+        return Reply::refused(refusal::RECORD_UNFIT);
+    }
+    let mut port = octets::read(record, memory);
+    let reply = rule::step(call, &mut port);
+    octets::write(&port, record, memory);
+    reply
+}

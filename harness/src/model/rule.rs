@@ -1,0 +1,161 @@
+//! The steps of document 01 on a port that is fit: each call's checks in their order, then its rule in the document's words.
+
+use super::port::{
+    permitted_sum, share, Frame, Port, Stream, BEST_EFFORT, CHARGES, CURRENT, DELAYS, LAST, LEAST_PERMITTED, LINKS, MARK_NO, MARK_YES,
+    NEXT, NOTHING, QUEUE_PLACES, RESERVED_QUEUES, STREAMS,
+};
+use super::refusal;
+use crate::call::{Call, Reply};
+
+/// Runs a call on a port that has passed 18 and 19; a refusal leaves the port as it was, but for 14.
+pub fn step(call: &Call, port: &mut Port) -> Reply {
+    match *call {
+        Call::Open { link, delay } => open(port, link, delay),
+        Call::Reserve { stream, permitted } => reserve(port, usize::from(stream), permitted),
+        Call::Arrive { stream, charge, tag } => arrive(port, usize::from(stream), charge, tag),
+        Call::Tick => tick(port),
+        Call::Transmit => transmit(port),
+    }
+}
+
+/// "Open(L, K) empties all queues, drops all reservations and bindings and sets W to 0"; it replies the share.
+fn open(port: &mut Port, link: u32, delay: u32) -> Reply {
+    if port.is_open() {
+        return Reply::refused(refusal::OPEN_ALREADY);
+    }
+    if !LINKS.contains(&link) {
+        return Reply::refused(refusal::LINK_OUTSIDE);
+    }
+    if !DELAYS.contains(&delay) {
+        return Reply::refused(refusal::DELAY_OUTSIDE);
+    }
+    port.open = MARK_YES;
+    port.prior = 0;
+    port.link = link;
+    port.delay = delay;
+    port.waits = 0;
+    for queue in &mut port.queues {
+        queue.empty();
+    }
+    for stream in &mut port.streams {
+        stream.reserved = MARK_NO;
+        stream.bound = MARK_NO;
+    }
+    Reply::granted(share(link), 0)
+}
+
+/// "Reserve(s, P) sets place current, left P"; it replies the share still free, the new P taken off.
+fn reserve(port: &mut Port, number: usize, permitted: u32) -> Reply {
+    if !port.is_open() {
+        return Reply::refused(refusal::PORT_CLOSED);
+    }
+    if number >= STREAMS {
+        return Reply::refused(refusal::STREAM_ABOVE);
+    }
+    if port.streams[number].is_reserved() {
+        return Reply::refused(refusal::RESERVED_ALREADY);
+    }
+    if permitted < LEAST_PERMITTED {
+        return Reply::refused(refusal::PERMITTED_BELOW);
+    }
+    let share = u64::from(share(port.link));
+    let sum = permitted_sum(&port.streams) + u64::from(permitted);
+    if sum > share {
+        return Reply::refused(refusal::SHARE_EXCEEDED);
+    }
+    let stream = &mut port.streams[number];
+    stream.reserved = MARK_YES;
+    stream.permitted = permitted;
+    stream.place = CURRENT;
+    stream.left = permitted;
+    Reply::granted((share - sum) as u32, 0)
+}
+
+/// "Arrive(s, a, tag), a the charge": looks for the place whose left takes the frame, or discards it.
+fn arrive(port: &mut Port, number: usize, charge: u32, tag: u32) -> Reply {
+    if !port.is_open() {
+        return Reply::refused(refusal::PORT_CLOSED);
+    }
+    if number >= STREAMS {
+        return Reply::refused(refusal::STREAM_ABOVE);
+    }
+    if !port.streams[number].is_reserved() {
+        return Reply::refused(refusal::NOT_RESERVED);
+    }
+    if !CHARGES.contains(&charge) {
+        return Reply::refused(refusal::CHARGE_OUTSIDE);
+    }
+    let mut stream = port.streams[number];
+    loop {
+        if charge <= stream.left {
+            return join(port, number, stream, charge, tag);
+        }
+        if stream.place == LAST {
+            // "If a > left at last, the frame is discarded (14) and left becomes 0."
+            stream.left = 0;
+            port.streams[number] = stream;
+            return Reply::refused(refusal::DISCARD);
+        }
+        // "If a > left and the place is not last, the place advances, left becomes P, and the rule is tried again."
+        stream.advance();
+    }
+}
+
+/// "If a ≤ left, the frame joins the queue at the place and left falls by a", unless that queue holds 256 (20).
+fn join(port: &mut Port, number: usize, mut stream: Stream, charge: u32, tag: u32) -> Reply {
+    let joined = stream.place;
+    let at_place = port.queue_at(joined);
+    let queue = &mut port.queues[at_place];
+    if queue.frames.len() == QUEUE_PLACES {
+        return Reply::refused(refusal::QUEUE_FULL);
+    }
+    queue.join(Frame { stream: number as u32, charge, tag });
+    stream.left -= charge;
+    // "if left is then 0 and the place is not last, the place advances by one and left becomes P"
+    if stream.left == 0 && stream.place != LAST {
+        stream.advance();
+    }
+    port.streams[number] = stream;
+    Reply::granted(u32::from(joined), stream.left)
+}
+
+/// "Tick purges prior, and replies with the frames and octets purged"; then every role and every stream moves.
+fn tick(port: &mut Port) -> Reply {
+    if !port.is_open() {
+        return Reply::refused(refusal::PORT_CLOSED);
+    }
+    let purged = &mut port.queues[port.prior];
+    let frames = purged.frames.len() as u32;
+    let octets = purged.octets();
+    purged.empty();
+    // "a tick moves each role to the next number, 3 to 0": the purged queue, now empty, becomes last.
+    port.prior = (port.prior + 1) % RESERVED_QUEUES;
+    for stream in port.streams.iter_mut().filter(|stream| stream.is_reserved()) {
+        match stream.place {
+            // "A stream at current stays at current with left P."
+            CURRENT => stream.left = stream.permitted,
+            // "A stream at next goes to current, one at last goes to next, and both keep their left."
+            NEXT => stream.place = CURRENT,
+            // The place is last: a reserved stream with any other is 19.
+            _ => stream.place = NEXT,
+        }
+    }
+    Reply::granted(frames, octets)
+}
+
+/// "Transmit sends the oldest frame of prior; if none, of current; if none, of best effort; if none, it replies "nothing"."
+fn transmit(port: &mut Port) -> Reply {
+    if !port.is_open() {
+        return Reply::refused(refusal::PORT_CLOSED);
+    }
+    let current = port.queue_at(CURRENT);
+    for queue in [port.prior, current, BEST_EFFORT] {
+        if let Some(frame) = port.queues[queue].send() {
+            if queue == BEST_EFFORT {
+                port.waits -= frame.charge;
+            }
+            return Reply::granted(frame.stream, frame.tag);
+        }
+    }
+    Reply::granted(NOTHING, 0)
+}
