@@ -99,43 +99,71 @@ extern "C" {
     ) -> u8;
 }
 
+/// The calls as functions of C; Tick and Transmit have no arguments of their own.
+type Open = unsafe extern "C" fn(*mut u8, usize, *const u8, usize, u32, u32, &mut u32, &mut u32) -> u8;
+type Reserve = unsafe extern "C" fn(*mut u8, usize, *const u8, usize, u8, u32, &mut u32, &mut u32) -> u8;
+type Arrive = unsafe extern "C" fn(*mut u8, usize, *mut u8, usize, u8, u32, u32, &mut u32, &mut u32) -> u8;
+type Plain = unsafe extern "C" fn(*mut u8, usize, *const u8, usize, &mut u32, &mut u32) -> u8;
+
+/// One sort of call.
+struct Sort {
+    open: Open,
+    reserve: Reserve,
+    arrive: Arrive,
+    tick: Plain,
+    transmit: Plain,
+}
+
+/// The calls with all of document 01's checks.
+const CALLS: Sort = Sort {
+    open: bunnysolder_open,
+    reserve: bunnysolder_reserve,
+    arrive: bunnysolder_arrive,
+    tick: bunnysolder_tick,
+    transmit: bunnysolder_transmit,
+};
+
+/// The quick calls: nothing is scanned.
+const UNSCANNED: Sort = Sort {
+    open: bunnysolder_open_unscanned,
+    reserve: bunnysolder_reserve_unscanned,
+    arrive: bunnysolder_arrive_unscanned,
+    tick: bunnysolder_tick_unscanned,
+    transmit: bunnysolder_transmit_unscanned,
+};
+
 /// What the two reply numbers hold before each call, so that a number which a call leaves unwritten shows.
 const UNWRITTEN: u32 = 0xA5A5_5A5A;
+
+impl Sort {
+    /// A call of this sort.
+    #[inline(always)]
+    fn play(&self, call: &Call, port: &mut [u8], memory: &mut [u8]) -> Reply {
+        let (mut first, mut second) = (UNWRITTEN, UNWRITTEN);
+        let (p, n) = (port.as_mut_ptr(), port.len());
+        let (m, k) = (memory.as_mut_ptr(), memory.len());
+        // Each pointer and length is that of a slice which this function alone holds, and the two numbers are its own.
+        let refusal = unsafe {
+            match *call {
+                Call::Open { link, delay } => (self.open)(p, n, m, k, link, delay, &mut first, &mut second),
+                Call::Reserve { stream, permitted } => (self.reserve)(p, n, m, k, stream, permitted, &mut first, &mut second),
+                Call::Arrive { stream, charge, tag } => (self.arrive)(p, n, m, k, stream, charge, tag, &mut first, &mut second),
+                Call::Tick => (self.tick)(p, n, m, k, &mut first, &mut second),
+                Call::Transmit => (self.transmit)(p, n, m, k, &mut first, &mut second),
+            }
+        };
+        Reply { refusal, first, second }
+    }
+}
 
 /// The call with all of document 01's checks.
 #[inline]
 pub fn call(call: &Call, port: &mut [u8], memory: &mut [u8]) -> Reply {
-    let (mut first, mut second) = (UNWRITTEN, UNWRITTEN);
-    let (p, n) = (port.as_mut_ptr(), port.len());
-    let (m, k) = (memory.as_mut_ptr(), memory.len());
-    // Each pointer and length is that of a slice which this function alone holds, and the two numbers are its own.
-    let refusal = unsafe {
-        match *call {
-            Call::Open { link, delay } => bunnysolder_open(p, n, m, k, link, delay, &mut first, &mut second),
-            Call::Reserve { stream, permitted } => bunnysolder_reserve(p, n, m, k, stream, permitted, &mut first, &mut second),
-            Call::Arrive { stream, charge, tag } => bunnysolder_arrive(p, n, m, k, stream, charge, tag, &mut first, &mut second),
-            Call::Tick => bunnysolder_tick(p, n, m, k, &mut first, &mut second),
-            Call::Transmit => bunnysolder_transmit(p, n, m, k, &mut first, &mut second),
-        }
-    };
-    Reply { refusal, first, second }
+    CALLS.play(call, port, memory)
 }
 
 /// The quick call: nothing is scanned.
 #[inline]
 pub fn unscanned(call: &Call, port: &mut [u8], memory: &mut [u8]) -> Reply {
-    let (mut first, mut second) = (UNWRITTEN, UNWRITTEN);
-    let (p, n) = (port.as_mut_ptr(), port.len());
-    let (m, k) = (memory.as_mut_ptr(), memory.len());
-    // Each pointer and length is that of a slice which this function alone holds, and the two numbers are its own.
-    let refusal = unsafe {
-        match *call {
-            Call::Open { link, delay } => bunnysolder_open_unscanned(p, n, m, k, link, delay, &mut first, &mut second),
-            Call::Reserve { stream, permitted } => bunnysolder_reserve_unscanned(p, n, m, k, stream, permitted, &mut first, &mut second),
-            Call::Arrive { stream, charge, tag } => bunnysolder_arrive_unscanned(p, n, m, k, stream, charge, tag, &mut first, &mut second),
-            Call::Tick => bunnysolder_tick_unscanned(p, n, m, k, &mut first, &mut second),
-            Call::Transmit => bunnysolder_transmit_unscanned(p, n, m, k, &mut first, &mut second),
-        }
-    };
-    Reply { refusal, first, second }
+    UNSCANNED.play(call, port, memory)
 }

@@ -4,22 +4,33 @@
 //! is none of the three goes by the same sentences, and W falls to no less than 0.
 
 use crate::call::{Call, Reply};
+use crate::layout::{self, entry, BOUND, DELAY, LEFT, LINK, OPEN, PERMITTED, PLACE, PRIOR, RESERVED, WAITS};
 
+/// How long a record and a memory must be.
 const RECORD_LENGTH: usize = 1_088;
 const MEMORY_LENGTH: usize = 10_240;
 
+/// How many streams, queues of reserved traffic and places of a queue there are; best effort is the queue after those.
 const STREAMS: usize = 64;
 const QUEUES: usize = 4;
 const BEST_EFFORT: usize = 4;
 const PLACES: usize = 256;
 
+/// The ends of the ranges.
 const LEAST_CHARGE: u32 = 84;
 const GREATEST_CHARGE: u32 = 1_542;
 const GREATEST_SHARE: u32 = 21_504;
 const GREATEST_DELAY: u32 = 16;
 
+/// The mark of an open port, and of a reserved or bound stream; any other octet says no.
+const YES: u8 = 1;
+const NO: u8 = 0;
+
+/// The first and the last place of a stream, and the role current.
 const CURRENT: u8 = 1;
 const LAST: u8 = 3;
+
+/// The reply's stream where nothing is sent.
 const NOTHING: u32 = 254;
 
 /// The octets of a record and a memory that are long enough.
@@ -29,21 +40,30 @@ type Memory = [u8; MEMORY_LENGTH];
 /// The quick call.
 #[inline]
 pub fn call(call: &Call, port: &mut [u8], memory: &mut [u8]) -> Reply {
+    played(call, port, memory).unwrap_or_else(Reply::refused)
+}
+
+/// The quick call: its reply, or the number of its refusal; 18 for a memory that is too short comes first, then 19 for a record that is.
+#[inline]
+fn played(call: &Call, port: &mut [u8], memory: &mut [u8]) -> Result<Reply, u8> {
+    let memory = memory.first_chunk_mut().ok_or(18)?;
+    let record = port.first_chunk_mut().ok_or(19)?;
     match *call {
-        Call::Open { link, delay } => open(port, memory, link, delay),
-        Call::Reserve { stream, permitted } => reserve(port, memory, stream, permitted),
-        Call::Arrive { stream, charge, tag } => arrive(port, memory, stream, charge, tag),
-        Call::Tick => tick(port, memory),
-        Call::Transmit => transmit(port, memory),
+        Call::Open { link, delay } => open(record, link, delay),
+        Call::Reserve { stream, permitted } => reserve(record, stream, permitted),
+        Call::Arrive { stream, charge, tag } => arrive(record, memory, stream, charge, tag),
+        Call::Tick => tick(record, memory),
+        Call::Transmit => transmit(record, memory),
     }
 }
 
-/// Record and memory, or 18 for a memory that is too short, 19 for a record that is.
+/// Refuses with a number where a test says so.
 #[inline]
-fn lent<'a>(port: &'a mut [u8], memory: &'a mut [u8]) -> Result<(&'a mut Record, &'a mut Memory), Reply> {
-    let memory = memory.first_chunk_mut().ok_or(Reply::refused(18))?;
-    let record = port.first_chunk_mut().ok_or(Reply::refused(19))?;
-    Ok((record, memory))
+fn refuse(number: u8, refused: bool) -> Result<(), u8> {
+    if refused {
+        return Err(number);
+    }
+    Ok(())
 }
 
 /// The number of two octets, high octet first.
@@ -52,6 +72,7 @@ fn two(octets: &[u8], at: usize) -> u16 {
     u16::from_be_bytes([octets[at], octets[at + 1]])
 }
 
+/// Writes a number of two octets.
 #[inline]
 fn put_two(octets: &mut [u8], at: usize, number: u16) {
     octets[at..at + 2].copy_from_slice(&number.to_be_bytes());
@@ -63,33 +84,28 @@ fn four(octets: &[u8], at: usize) -> u32 {
     u32::from_be_bytes([octets[at], octets[at + 1], octets[at + 2], octets[at + 3]])
 }
 
+/// Writes a number of four octets.
 #[inline]
 fn put_four(octets: &mut [u8], at: usize, number: u32) {
     octets[at..at + 4].copy_from_slice(&number.to_be_bytes());
 }
 
-/// Where the entry of a stream begins.
+/// Start and count of a queue.
 #[inline]
-fn entry(stream: usize) -> usize {
-    64 + 16 * stream
-}
-
-/// Where start and count of a queue stand.
-#[inline]
-fn ring(queue: usize) -> usize {
-    16 + 4 * queue
+fn ring(record: &Record, queue: usize) -> (u16, u16) {
+    (two(record, layout::start(queue)), two(record, layout::count(queue)))
 }
 
 /// Where the frame `ahead` places after a start stands in a queue's part of the memory.
 #[inline]
 fn frame_at(queue: usize, start: u16, ahead: usize) -> usize {
-    8 * (PLACES * queue + (start as usize + ahead) % PLACES)
+    layout::frame(queue, start as usize, ahead)
 }
 
 /// The queue in a role: 0 prior, 1 current, 2 next, 3 last.
 #[inline]
 fn role(record: &Record, role: u8) -> usize {
-    (record[1] as usize + role as usize) % QUEUES
+    (record[PRIOR] as usize + role as usize) % QUEUES
 }
 
 /// The octets of an epoch that reservations may take.
@@ -100,97 +116,61 @@ fn share(link: u16) -> u32 {
 
 /// R, the sum of the reserved streams' P.
 fn permitted_sum(record: &Record) -> u32 {
-    let reserved = (0..STREAMS).map(entry).filter(|&at| record[at] == 1);
-    reserved.map(|at| two(record, at + 4) as u32).sum()
+    let reserved = (0..STREAMS).map(entry).filter(|&at| record[at + RESERVED] == YES);
+    reserved.map(|at| two(record, at + PERMITTED) as u32).sum()
 }
 
 /// Open(L, K): 2, 3, 4, then the step.
-fn open(port: &mut [u8], memory: &mut [u8], link: u32, delay: u32) -> Reply {
-    let (record, _) = match lent(port, memory) {
-        Ok(both) => both,
-        Err(refusal) => return refusal,
-    };
-    if record[0] == 1 {
-        return Reply::refused(2);
-    }
-    if !(GREATEST_CHARGE + LEAST_CHARGE..=GREATEST_CHARGE + GREATEST_SHARE).contains(&link) {
-        return Reply::refused(3);
-    }
-    if !(1..=GREATEST_DELAY).contains(&delay) {
-        return Reply::refused(4);
-    }
-    record[0] = 1;
-    record[1] = 0;
-    record[2] = delay as u8;
-    put_two(record, 6, link as u16);
-    put_four(record, 8, 0);
-    record[ring(0)..ring(BEST_EFFORT + 1)].fill(0);
+fn open(record: &mut Record, link: u32, delay: u32) -> Result<Reply, u8> {
+    refuse(2, record[OPEN] == YES)?;
+    refuse(3, !(GREATEST_CHARGE + LEAST_CHARGE..=GREATEST_CHARGE + GREATEST_SHARE).contains(&link))?;
+    refuse(4, !(1..=GREATEST_DELAY).contains(&delay))?;
+    record[OPEN] = YES;
+    record[PRIOR] = 0;
+    record[DELAY] = delay as u8;
+    put_two(record, LINK, link as u16);
+    put_four(record, WAITS, 0);
+    record[layout::start(0)..layout::start(BEST_EFFORT + 1)].fill(0);
     for at in (0..STREAMS).map(entry) {
-        record[at] = 0;
-        record[at + 7] = 0;
+        record[at + RESERVED] = NO;
+        record[at + BOUND] = NO;
     }
-    Reply::granted(share(link as u16), 0)
+    Ok(Reply::granted(share(link as u16), 0))
 }
 
 /// Reserve(s, P): 1, 5, 6, 7, 8, then the step.
-fn reserve(port: &mut [u8], memory: &mut [u8], stream: u8, permitted: u32) -> Reply {
-    let (record, _) = match lent(port, memory) {
-        Ok(both) => both,
-        Err(refusal) => return refusal,
-    };
-    if record[0] != 1 {
-        return Reply::refused(1);
-    }
-    if stream as usize >= STREAMS {
-        return Reply::refused(5);
-    }
+fn reserve(record: &mut Record, stream: u8, permitted: u32) -> Result<Reply, u8> {
+    refuse(1, record[OPEN] != YES)?;
+    refuse(5, stream as usize >= STREAMS)?;
     let at = entry(stream as usize);
-    if record[at] == 1 {
-        return Reply::refused(6);
-    }
-    if permitted < LEAST_CHARGE {
-        return Reply::refused(7);
-    }
-    let free = share(two(record, 6)) as u64;
+    refuse(6, record[at + RESERVED] == YES)?;
+    refuse(7, permitted < LEAST_CHARGE)?;
+    let free = share(two(record, LINK)) as u64;
     let sum = permitted_sum(record) as u64 + permitted as u64;
-    if sum > free {
-        return Reply::refused(8);
-    }
-    record[at] = 1;
-    record[at + 1] = CURRENT;
-    put_two(record, at + 2, permitted as u16);
-    put_two(record, at + 4, permitted as u16);
-    Reply::granted((free - sum) as u32, 0)
+    refuse(8, sum > free)?;
+    record[at + RESERVED] = YES;
+    record[at + PLACE] = CURRENT;
+    put_two(record, at + LEFT, permitted as u16);
+    put_two(record, at + PERMITTED, permitted as u16);
+    Ok(Reply::granted((free - sum) as u32, 0))
 }
 
 /// Arrive(s, a, tag): 1, 5, 12, 13, then the step.
 #[inline]
-pub fn arrive(port: &mut [u8], memory: &mut [u8], stream: u8, charge: u32, tag: u32) -> Reply {
-    let (record, memory) = match lent(port, memory) {
-        Ok(both) => both,
-        Err(refusal) => return refusal,
-    };
-    if record[0] != 1 {
-        return Reply::refused(1);
-    }
-    if stream as usize >= STREAMS {
-        return Reply::refused(5);
-    }
+fn arrive(record: &mut Record, memory: &mut Memory, stream: u8, charge: u32, tag: u32) -> Result<Reply, u8> {
+    refuse(1, record[OPEN] != YES)?;
+    refuse(5, stream as usize >= STREAMS)?;
     let at = entry(stream as usize);
-    if record[at] != 1 {
-        return Reply::refused(12);
-    }
-    if !(LEAST_CHARGE..=GREATEST_CHARGE).contains(&charge) {
-        return Reply::refused(13);
-    }
+    refuse(12, record[at + RESERVED] != YES)?;
+    refuse(13, !(LEAST_CHARGE..=GREATEST_CHARGE).contains(&charge))?;
     let charge = charge as u16;
-    let permitted = two(record, at + 4);
-    let (mut place, mut left) = (record[at + 1], two(record, at + 2));
+    let permitted = two(record, at + PERMITTED);
+    let (mut place, mut left) = (record[at + PLACE], two(record, at + LEFT));
     while charge > left {
         if place >= LAST {
-            record[at + 1] = LAST;
-            put_two(record, at + 2, 0);
-            return Reply::refused(14);
+            record[at + PLACE] = LAST;
+            put_two(record, at + LEFT, 0);
+            return Err(14);
         }
         place += 1;
         left = permitted;
@@ -201,73 +181,67 @@ pub fn arrive(port: &mut [u8], memory: &mut [u8], stream: u8, charge: u32, tag: 
         place += 1;
         left = permitted;
     }
-    let queue = role(record, joined);
-    let (start, count) = (two(record, ring(queue)), two(record, ring(queue) + 2));
-    if count as usize >= PLACES {
-        return Reply::refused(20);
-    }
-    record[at + 1] = place;
-    put_two(record, at + 2, left);
-    put_two(record, ring(queue) + 2, count + 1);
+    join(record, memory, role(record, joined), (stream, charge, tag))?;
+    record[at + PLACE] = place;
+    put_two(record, at + LEFT, left);
+    Ok(Reply::granted(joined as u32, left as u32))
+}
+
+/// A frame (stream, charge, tag) joins a queue, unless 256 wait there (20).
+#[inline]
+fn join(record: &mut Record, memory: &mut Memory, queue: usize, (stream, charge, tag): (u8, u16, u32)) -> Result<(), u8> {
+    let (start, count) = ring(record, queue);
+    refuse(20, count as usize >= PLACES)?;
+    put_two(record, layout::count(queue), count + 1);
     let frame = frame_at(queue, start, count as usize);
-    put_two(memory, frame, stream as u16);
-    put_two(memory, frame + 2, charge);
-    put_four(memory, frame + 4, tag);
-    Reply::granted(joined as u32, left as u32)
+    put_two(memory, frame + layout::FRAME_STREAM, stream as u16);
+    put_two(memory, frame + layout::FRAME_CHARGE, charge);
+    put_four(memory, frame + layout::FRAME_TAG, tag);
+    Ok(())
 }
 
 /// Tick: 1, then the step.
 #[inline]
-pub fn tick(port: &mut [u8], memory: &mut [u8]) -> Reply {
-    let (record, memory) = match lent(port, memory) {
-        Ok(both) => both,
-        Err(refusal) => return refusal,
-    };
-    if record[0] != 1 {
-        return Reply::refused(1);
-    }
+fn tick(record: &mut Record, memory: &mut Memory) -> Result<Reply, u8> {
+    refuse(1, record[OPEN] != YES)?;
     let prior = role(record, 0);
-    let (start, count) = (two(record, ring(prior)), two(record, ring(prior) + 2));
-    let octets = (0..count as usize).map(|i| two(memory, frame_at(prior, start, i) + 2) as u32).sum();
-    put_four(record, ring(prior), 0);
-    record[1] = role(record, CURRENT) as u8;
+    let (start, count) = ring(record, prior);
+    let octets = (0..count as usize).map(|i| two(memory, frame_at(prior, start, i) + layout::FRAME_CHARGE) as u32).sum();
+    put_four(record, layout::start(prior), 0);
+    record[PRIOR] = role(record, CURRENT) as u8;
     for at in (0..STREAMS).map(entry) {
-        if record[at] != 1 {
+        if record[at + RESERVED] != YES {
             continue;
         }
-        if record[at + 1] <= CURRENT {
-            record[at + 1] = CURRENT;
-            record.copy_within(at + 4..at + 6, at + 2);
+        if record[at + PLACE] <= CURRENT {
+            record[at + PLACE] = CURRENT;
+            let permitted = two(record, at + PERMITTED);
+            put_two(record, at + LEFT, permitted);
         } else {
-            record[at + 1] -= 1;
+            record[at + PLACE] -= 1;
         }
     }
-    Reply::granted(count as u32, octets)
+    Ok(Reply::granted(count as u32, octets))
 }
 
 /// Transmit: 1, then the step.
 #[inline]
-pub fn transmit(port: &mut [u8], memory: &mut [u8]) -> Reply {
-    let (record, memory) = match lent(port, memory) {
-        Ok(both) => both,
-        Err(refusal) => return refusal,
-    };
-    if record[0] != 1 {
-        return Reply::refused(1);
-    }
+fn transmit(record: &mut Record, memory: &mut Memory) -> Result<Reply, u8> {
+    refuse(1, record[OPEN] != YES)?;
     for queue in [role(record, 0), role(record, CURRENT), BEST_EFFORT] {
-        let (start, count) = (two(record, ring(queue)), two(record, ring(queue) + 2));
+        let (start, count) = ring(record, queue);
         if count == 0 {
             continue;
         }
         let frame = frame_at(queue, start, 0);
-        put_two(record, ring(queue), ((start as usize + 1) % PLACES) as u16);
-        put_two(record, ring(queue) + 2, count - 1);
+        put_two(record, layout::start(queue), ((start as usize + 1) % PLACES) as u16);
+        put_two(record, layout::count(queue), count - 1);
         if queue == BEST_EFFORT {
-            let waits = four(record, 8).saturating_sub(two(memory, frame + 2) as u32);
-            put_four(record, 8, waits);
+            let waits = four(record, WAITS).saturating_sub(two(memory, frame + layout::FRAME_CHARGE) as u32);
+            put_four(record, WAITS, waits);
         }
-        return Reply::granted(two(memory, frame) as u32, four(memory, frame + 4));
+        let (stream, tag) = (two(memory, frame + layout::FRAME_STREAM), four(memory, frame + layout::FRAME_TAG));
+        return Ok(Reply::granted(stream as u32, tag));
     }
-    Reply::granted(NOTHING, 0)
+    Ok(Reply::granted(NOTHING, 0))
 }

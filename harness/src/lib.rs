@@ -5,4 +5,5 @@ pub mod call;
 pub mod comparing;
 pub mod exports;
 pub mod in_place;
+pub mod layout;
 pub mod model;

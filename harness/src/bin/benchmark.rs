@@ -5,22 +5,23 @@ use std::hint::black_box;
 use std::time::Instant;
 
 use harness::call::{Call, Reply};
-use harness::{exports, in_place};
-
-const RECORD_LENGTH: usize = 1_088;
-const MEMORY_LENGTH: usize = 10_240;
+use harness::model::octets::{MEMORY_OCTETS, RECORD_OCTETS};
+use harness::model::port::{BEST_EFFORT, BEST_EFFORT_STREAM, LAST, LEAST_CHARGE, LINKS, MARK_YES, QUEUES, QUEUE_PLACES, STREAMS};
+use harness::{exports, in_place, layout};
 
 /// How often each batch is measured; the figure is the median.
 const ROUNDS: usize = 1_001;
 
 /// L and K of both ports: the greatest share, 21,504 octets, is 256 frames of the least charge.
-const LINK: u32 = 23_046;
+const LINK: u32 = *LINKS.end();
 const DELAY: u32 = 16;
-const LEAST_CHARGE: u32 = 84;
 
-/// What 84 octets take on a link of 1 and of 10 Gbit/s, in nanoseconds.
-const FRAME_AT_ONE_GIGABIT: f64 = 672.0;
-const FRAME_AT_TEN_GIGABIT: f64 = 67.2;
+/// How many arrivals or transmits a batch has.
+const BATCH: usize = 64;
+
+/// What a frame of 84 octets takes on a link of 1 and of 10 Gbit/s, in nanoseconds: one arrive and one transmit must not take longer.
+const ONE_GIGABIT: f64 = 672.0;
+const TEN_GIGABIT: f64 = 67.2;
 
 /// A port as it stands before a batch of calls.
 #[derive(Clone)]
@@ -46,9 +47,9 @@ struct Figures {
 fn main() {
     println!("nanoseconds for one call, median of {ROUNDS} rounds");
     println!("{:<34}{:>9}{:>9}{:>9}{:>14}{:>14}", "", "call", "quick", "Rust", "call / Rust", "quick / Rust");
-    report("4 streams", &[few_arrive(), few_transmit(), few_tick()]);
-    report("64 bound streams, full queues", &[full_arrive(), full_transmit(), full_tick(), full_idle_tick()]);
-    println!("a frame of 84 octets takes {FRAME_AT_ONE_GIGABIT} ns at 1 Gbit/s and {FRAME_AT_TEN_GIGABIT} ns at 10 Gbit/s");
+    report("4 streams", &few(4));
+    report("64 bound streams, full queues", &full());
+    println!("for one arrive and one transmit of 84 octets a link leaves {ONE_GIGABIT} ns at 1 Gbit/s and {TEN_GIGABIT} ns at 10 Gbit/s");
 }
 
 /// Measures the batches of one port and prints a line for each, and what one arrive and one transmit, the first two, take together.
@@ -114,7 +115,7 @@ fn run(batch: &Batch, side: fn(&Call, &mut [u8], &mut [u8]) -> Reply) -> (Vec<Re
 
 /// An open port with this many streams, which share the link evenly.
 fn opened(streams: u8) -> Port {
-    let mut port = Port { record: vec![0; RECORD_LENGTH], memory: vec![0; MEMORY_LENGTH] };
+    let mut port = Port { record: vec![0; RECORD_OCTETS], memory: vec![0; MEMORY_OCTETS] };
     let share = exports::call(&Call::Open { link: LINK, delay: DELAY }, &mut port.record, &mut port.memory).first;
     for stream in 0..streams {
         let call = Call::Reserve { stream, permitted: share / streams as u32 };
@@ -131,60 +132,60 @@ fn after(mut port: Port, calls: &[Call]) -> Port {
     port
 }
 
-/// 64 arrivals of the least charge, on the streams in turn.
-fn arrivals(streams: u32) -> Vec<Call> {
-    (0..64).map(|i| Call::Arrive { stream: (i % streams) as u8, charge: LEAST_CHARGE, tag: i }).collect()
+/// A batch of arrivals of the least charge, on so many streams in turn.
+fn arrivals(streams: usize) -> Vec<Call> {
+    (0..BATCH).map(|i| Call::Arrive { stream: (i % streams) as u8, charge: LEAST_CHARGE, tag: i as u32 }).collect()
 }
 
-fn few_arrive() -> Batch {
-    Batch { what: "arrive", port: opened(4), calls: arrivals(4) }
+/// The batches of a port with few streams, whose queues are nearly empty.
+fn few(streams: u8) -> [Batch; 3] {
+    let arrivals = arrivals(streams.into());
+    let arrived = after(opened(streams), &arrivals);
+    [
+        Batch { what: "arrive", port: opened(streams), calls: arrivals },
+        Batch { what: "transmit", port: arrived, calls: vec![Call::Transmit; BATCH] },
+        Batch { what: "tick, nothing to purge", port: opened(streams), calls: vec![Call::Tick; BATCH] },
+    ]
 }
 
-fn few_transmit() -> Batch {
-    Batch { what: "transmit", port: after(opened(4), &arrivals(4)), calls: vec![Call::Transmit; 64] }
+/// The batches of a port with all streams bound, whose queues are full or become so.
+fn full() -> [Batch; 4] {
+    let purged = after(bound(QUEUE_PLACES), &[Call::Tick; 4]);
+    [
+        Batch { what: "arrive, 1,216 to 1,280 frames", port: bound(QUEUE_PLACES - BATCH), calls: arrivals(STREAMS) },
+        Batch { what: "transmit, 1,280 to 1,216 frames", port: bound(QUEUE_PLACES), calls: vec![Call::Transmit; BATCH] },
+        Batch { what: "tick, 256 frames purged", port: bound(QUEUE_PLACES), calls: vec![Call::Tick; 4] },
+        Batch { what: "tick, nothing to purge", port: purged, calls: vec![Call::Tick; BATCH] },
+    ]
 }
 
-fn few_tick() -> Batch {
-    Batch { what: "tick, nothing to purge", port: opened(4), calls: vec![Call::Tick; 64] }
-}
-
-/// A port with 64 bound streams at last, 256 frames in each queue but the last of the four reserved ones, and in that as many as are said.
-fn full(in_last: u16) -> Port {
-    let mut port = opened(64);
-    for stream in 0..64 {
-        let entry = 64 + 16 * stream;
-        port.record[entry + 1] = 3;
-        port.record[entry + 7] = 1;
-        port.record[entry + 9] = 1;
-        port.record[entry + 15] = stream as u8;
+/// A port with every stream bound and at last, 256 frames in each queue but the last of the reserved ones, and in that as many as are said.
+fn bound(in_last: usize) -> Port {
+    let mut port = opened(STREAMS as u8);
+    for stream in 0..STREAMS {
+        let entry = layout::entry(stream);
+        port.record[entry + layout::PLACE] = LAST;
+        port.record[entry + layout::BOUND] = MARK_YES;
+        layout::put_two(&mut port.record, entry + layout::VID, 1);
+        layout::put_two(&mut port.record, entry + layout::BINDING_END - 2, stream as u32);
     }
-    for queue in 0..5 {
-        let count = if queue == 3 { in_last } else { 256 };
-        port.record[16 + 4 * queue + 1] = 100;
-        port.record[16 + 4 * queue + 2..16 + 4 * queue + 4].copy_from_slice(&count.to_be_bytes());
+    for queue in 0..QUEUES {
+        let count = if queue == LAST.into() { in_last } else { QUEUE_PLACES };
+        fill(&mut port, queue, count);
     }
-    for (i, frame) in port.memory.chunks_exact_mut(8).enumerate() {
-        frame[1] = if i < 1_024 { i as u8 % 64 } else { 255 };
-        frame[3] = LEAST_CHARGE as u8;
-    }
-    let waits = 256 * LEAST_CHARGE;
-    port.record[8..12].copy_from_slice(&waits.to_be_bytes());
+    layout::put_four(&mut port.record, layout::WAITS, QUEUE_PLACES as u32 * LEAST_CHARGE);
     port
 }
 
-fn full_arrive() -> Batch {
-    Batch { what: "arrive, 1,216 to 1,280 frames", port: full(192), calls: arrivals(64) }
-}
-
-fn full_transmit() -> Batch {
-    Batch { what: "transmit, 1,280 to 1,216 frames", port: full(256), calls: vec![Call::Transmit; 64] }
-}
-
-fn full_tick() -> Batch {
-    Batch { what: "tick, 256 frames purged", port: full(256), calls: vec![Call::Tick; 4] }
-}
-
-fn full_idle_tick() -> Batch {
-    let purged = after(full(256), &[Call::Tick; 4]);
-    Batch { what: "tick, nothing to purge", port: purged, calls: vec![Call::Tick; 64] }
+/// So many frames of the least charge in a queue, from a start in its middle, so that they wrap.
+fn fill(port: &mut Port, queue: usize, count: usize) {
+    let start = QUEUE_PLACES / 2;
+    layout::put_two(&mut port.record, layout::start(queue), start as u32);
+    layout::put_two(&mut port.record, layout::count(queue), count as u32);
+    for ahead in 0..count {
+        let frame = layout::frame(queue, start, ahead);
+        let stream = if queue == BEST_EFFORT { BEST_EFFORT_STREAM } else { (ahead % STREAMS) as u32 };
+        layout::put_two(&mut port.memory, frame + layout::FRAME_STREAM, stream);
+        layout::put_two(&mut port.memory, frame + layout::FRAME_CHARGE, LEAST_CHARGE);
+    }
 }

@@ -169,7 +169,7 @@ fn program(faults: &[Fault]) -> String {
     };
     let arms: String = faults.iter().map(arm).collect();
     [
-        "pub use harness::call;\nuse harness::comparing::{program, sides::Outside};\n\n",
+        "pub use harness::{call, layout};\nuse harness::comparing::{program, sides::Outside};\n\n",
         &modules,
         "\nfn main() -> std::process::ExitCode {\n    let words: Vec<String> = std::env::args().skip(1).collect();\n",
         "    let outside = match words[0].as_str() {\n",

@@ -1,8 +1,8 @@
 //! For each clause of refusal 19 the smallest changes of a fit record that break it alone, at its boundary.
 
 use crate::comparing::fit::{any_count, any_start, Octets};
-use crate::comparing::layout::{self, four, permitted_sum, put_four, put_two, two};
 use crate::comparing::random::Random;
+use crate::layout::{self, four, permitted_sum, put_four, put_two, two};
 use crate::model::fitness::Clause;
 use crate::model::port::{BEST_EFFORT, LARGEST_CHARGE, LEAST_PERMITTED, LINKS, QUEUES, QUEUE_PLACES, RESERVED_QUEUES, STREAMS, VIDS};
 

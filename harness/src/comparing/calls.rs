@@ -6,8 +6,8 @@ use std::ops::RangeInclusive;
 use crate::call::Call;
 use crate::comparing::compared::Step;
 use crate::comparing::fit::no_mark;
-use crate::comparing::layout::{self, is_reserved, permitted_sum, two};
 use crate::comparing::random::Random;
+use crate::layout::{self, is_reserved, permitted_sum, two};
 use crate::model::octets::RECORD_OCTETS;
 use crate::model::port::{CHARGES, DELAYS, LARGEST_CHARGE, LEAST_CHARGE, LEAST_PERMITTED, LINKS, MARK_YES, STREAMS};
 

@@ -6,10 +6,10 @@ use std::fmt;
 use crate::call::{Call, Reply};
 use crate::comparing::coverage::prior_waits;
 use crate::comparing::fenced::{lend_pair, Edge};
-use crate::comparing::layout;
 use crate::comparing::lent::{Lend, Lent};
 use crate::comparing::sides::{Play, Side};
 use crate::comparing::test::Run;
+use crate::layout;
 
 /// What is done to a lent port: a call, or the host writes an octet of the record.
 #[derive(Clone, Copy, Debug)]

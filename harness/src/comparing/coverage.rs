@@ -4,7 +4,7 @@ use std::collections::BTreeMap;
 use std::fmt;
 
 use crate::call::{Call, Reply};
-use crate::comparing::layout;
+use crate::layout;
 use crate::model::port::{BEST_EFFORT, BEST_EFFORT_STREAM, CURRENT, LAST, NOTHING, QUEUE_PLACES, RESERVED_QUEUES, STREAMS};
 
 /// One kind of thing that can happen.

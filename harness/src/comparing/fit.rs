@@ -1,7 +1,7 @@
 //! Random records that are fit, each with its memory: open or closed, with content that no list from an opening reaches.
 
-use crate::comparing::layout::{self, put_four, put_two, two};
 use crate::comparing::random::Random;
+use crate::layout::{self, put_four, put_two, two};
 use crate::model::octets::{MEMORY_OCTETS, RECORD_OCTETS};
 use crate::model::port::{
     share, BEST_EFFORT, BEST_EFFORT_STREAM, CHARGES, CURRENT, DELAYS, LAST, LEAST_PERMITTED, LINKS, MARK_YES, QUEUES, QUEUE_PLACES,

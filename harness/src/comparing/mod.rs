@@ -7,7 +7,6 @@ pub mod coverage;
 pub mod fenced;
 pub mod fences;
 pub mod fit;
-pub mod layout;
 pub mod lent;
 pub mod lists;
 pub mod program;

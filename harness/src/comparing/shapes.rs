@@ -1,8 +1,8 @@
 //! Shapes of records that need not be fit, and lengths that need not be right.
 
 use crate::comparing::fit::Octets;
-use crate::comparing::layout;
 use crate::comparing::random::Random;
+use crate::layout;
 use crate::model::octets::{MEMORY_OCTETS, RECORD_OCTETS};
 use crate::model::port::{MARK_YES, QUEUES, STREAMS};
 

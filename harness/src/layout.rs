@@ -55,21 +55,25 @@ pub const FRAME_TAG: usize = 4;
 const FRAMES_END: usize = 10_240;
 
 /// Where the start of a queue stands in the record.
+#[inline]
 pub fn start(queue: usize) -> usize {
     QUEUE_ENTRIES + QUEUE_ENTRY * queue
 }
 
 /// Where the count of a queue stands in the record.
+#[inline]
 pub fn count(queue: usize) -> usize {
     start(queue) + 2
 }
 
 /// Where the entry of a stream stands in the record.
+#[inline]
 pub fn entry(stream: usize) -> usize {
     STREAM_ENTRIES + STREAM_ENTRY * stream
 }
 
 /// Where the frame stands in memory that is so many places ahead of a queue's start.
+#[inline]
 pub fn frame(queue: usize, start: usize, ahead: usize) -> usize {
     FRAME * (QUEUE_PLACES * queue + (start + ahead) % QUEUE_PLACES)
 }
