@@ -1,7 +1,7 @@
 /*
  * A host that relays two frames over an epoch's end: it opens a port, reserves a stream, takes two frames of which the second has to wait for the
- * next epoch, and sends them. The set-up goes through the calls that test the whole record; after the granted Open this host alone writes the
- * record, so the traffic goes through the calls that scan nothing, whose replies are the same.
+ * next epoch, and sends them. The set-up goes through the calls that test the whole record. After the granted Open nothing but these calls writes
+ * the record and the memory, so the traffic goes through the calls that scan nothing, whose replies are then the same.
  */
 #include <stdio.h>
 #include <stdlib.h>

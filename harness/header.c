@@ -23,27 +23,32 @@ static const struct sort sorts[] = {
       bunnysolder_tick_unscanned, bunnysolder_transmit_unscanned },
 };
 
+/* What the two reply numbers hold before a call. */
+#define UNWRITTEN 0xA5A55A5Au
+
 static uint8_t port[BUNNYSOLDER_RECORD_LENGTH];
 static uint8_t memory[BUNNYSOLDER_MEMORY_LENGTH];
 static uint32_t first, second;
 static int wrong;
 
-/* Holds a reply against what it is to be. */
+/* Holds a reply against what it is to be, and makes the two numbers ready to show whether the next call writes them. */
 static void replies(const char *call, uint8_t refusal, uint8_t number, uint32_t one, uint32_t two)
 {
-    if (refusal == number && first == one && second == two)
-        return;
-    printf("  %s replies %u %u %u, not %u %u %u\n", call, refusal, first, second, number, one, two);
-    wrong++;
+    if (refusal != number || first != one || second != two) {
+        printf("  %s replies %u %u %u, not %u %u %u\n", call, refusal, first, second, number, one, two);
+        wrong++;
+    }
+    first = second = UNWRITTEN;
 }
 
-/* Document 01's sample, and a refusal of each call, on a port never opened. */
+/* Document 01's sample with a refusal of each call in between, on a port never opened. */
 static void sample(const struct sort *s)
 {
     const size_t p = sizeof port, m = sizeof memory;
 
     memset(port, 0, p);
     memset(memory, 0, m);
+    first = second = UNWRITTEN;
     replies("transmit", s->transmit(port, p, memory, m, &first, &second), BUNNYSOLDER_CLOSED, 0, 0);
     replies("open", s->open(port, p, memory, m, 23047, 1, &first, &second), BUNNYSOLDER_LINK_RANGE, 0, 0);
     replies("open", s->open(port, p, memory, m, 2142, 1, &first, &second), BUNNYSOLDER_GRANTED, 600, 0);

@@ -1,5 +1,6 @@
 /*
- * The calls of a paternoster port, for a host that lends it a record and a memory for frames.
+ * The calls of a paternoster port, for a host that lends it a record and a memory for frames. The rule of the port, and the numbers of its
+ * refusals, are those of the project's document 01, and are proved to be.
  *
  * What is lent. `port` is the port record: BUNNYSOLDER_RECORD_LENGTH octets or more. `memory` holds the waiting frames:
  * BUNNYSOLDER_MEMORY_LENGTH octets or more. Octets past these lengths are neither read nor written. Both may hold anything: a call tests what
@@ -12,12 +13,12 @@
  * written; a refusal leaves two zeros there, and record and memory as they were. BUNNYSOLDER_DISCARD alone also moves its stream: to place
  * last, with nothing left. Of the refusals that apply the first in the order given at each function is returned.
  *
- * Two sorts. Each call is there twice. bunnysolder_NAME tests the whole record and its waiting frames (19) before anything else, which takes
- * the longer the more frames wait. bunnysolder_NAME_unscanned scans nothing: of 18 and 19 it asks only the two lengths, and then does the same. On
- * every record that is fit (one that 19 does not refuse) the two are equal in reply, record and memory, and leave it fit. So a host
- * that opens its port by a granted bunnysolder_open, which refuses a record that is not fit, and alone writes record and memory from then on, gets
- * the same from both sorts for good. On a record that is not fit an unscanned call still ends, and reads and writes nothing but record and
- * memory, but its reply is not document 01's.
+ * Two sorts. Each call is there twice. bunnysolder_NAME tests the whole record and its waiting frames (19) before its own refusals, which takes the
+ * longer the more frames wait and the more streams are bound. bunnysolder_NAME_unscanned scans nothing: of 18 and 19 it asks only the two lengths,
+ * and then does the same. On every record that is fit (one that 19 does not refuse) the two are equal in reply, record and memory, and leave it fit;
+ * and a granted Open of either sort leaves a fit record. So a host that opens its port by a granted Open, lets nothing but these calls write record
+ * and memory from then on, and always lends the two together, gets the same from both sorts. On a record that is not fit an unscanned call
+ * still ends, and reads and writes nothing but record and memory, but its reply and what it leaves need not be those of document 01.
  */
 #ifndef BUNNYSOLDER_H
 #define BUNNYSOLDER_H
@@ -46,7 +47,7 @@ enum bunnysolder_refusal {
     BUNNYSOLDER_SHARE_EXCEEDED = 8,    /* the sum of P would be above the share */
     BUNNYSOLDER_NOT_RESERVED = 12,     /* the stream is not reserved */
     BUNNYSOLDER_CHARGE_RANGE = 13,     /* the charge is outside 84 to 1,542 */
-    BUNNYSOLDER_DISCARD = 14,          /* the frame fits at no place of its stream */
+    BUNNYSOLDER_DISCARD = 14,          /* the frame fits neither at its stream's place nor at a later one */
     BUNNYSOLDER_SHORT_MEMORY = 18,     /* the memory is shorter than BUNNYSOLDER_MEMORY_LENGTH */
     BUNNYSOLDER_UNFIT_RECORD = 19,     /* the record is unfit, or shorter than BUNNYSOLDER_RECORD_LENGTH */
     BUNNYSOLDER_QUEUE_FULL = 20        /* the chosen queue holds 256 frames; never met in a list of calls from a granted Open */

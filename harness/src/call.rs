@@ -22,12 +22,12 @@ pub struct Reply {
 
 impl Reply {
     /// A call that is not refused replies 0 and its two numbers.
-    pub fn granted(first: u32, second: u32) -> Reply {
+    pub const fn granted(first: u32, second: u32) -> Reply {
         Reply { refusal: 0, first, second }
     }
 
     /// A refusal replies its number and two zeros.
-    pub fn refused(refusal: u8) -> Reply {
+    pub const fn refused(refusal: u8) -> Reply {
         Reply { refusal, first: 0, second: 0 }
     }
 }

@@ -1,7 +1,8 @@
 //! Where each field of a port stands in the octets of record and memory, how it is read and written, and what it is called in a report.
 //! Numbers stand high octet first.
 
-use crate::model::port::{BEST_EFFORT, MARK_YES, QUEUE_PLACES, STREAMS};
+use crate::model::octets::{MEMORY_OCTETS, RECORD_OCTETS};
+use crate::model::port::{BEST_EFFORT, MARK_YES, QUEUES, QUEUE_PLACES, STREAMS};
 
 /// The open mark in the record, one octet.
 pub const OPEN: usize = 0;
@@ -18,13 +19,11 @@ const QUEUE_ENTRIES: usize = 16;
 /// The octets of a queue's entry: start, then count.
 const QUEUE_ENTRY: usize = 4;
 /// Where the entries of the queues end in the record.
-const QUEUE_ENTRIES_END: usize = 36;
+const QUEUE_ENTRIES_END: usize = QUEUE_ENTRIES + QUEUE_ENTRY * QUEUES;
 /// Where the entries of the streams begin in the record.
 const STREAM_ENTRIES: usize = 64;
 /// The octets of a stream's entry.
 const STREAM_ENTRY: usize = 16;
-/// Where the entries of the streams end in the record.
-const STREAM_ENTRIES_END: usize = 1_088;
 
 /// The reserved mark in a stream's entry, one octet.
 pub const RESERVED: usize = 0;
@@ -51,29 +50,27 @@ pub const FRAME_STREAM: usize = 0;
 pub const FRAME_CHARGE: usize = 2;
 /// The tag at a frame's place, four octets.
 pub const FRAME_TAG: usize = 4;
-/// Where the memory of the five queues ends.
-const FRAMES_END: usize = 10_240;
 
 /// Where the start of a queue stands in the record.
-#[inline]
+#[inline(always)]
 pub fn start(queue: usize) -> usize {
     QUEUE_ENTRIES + QUEUE_ENTRY * queue
 }
 
 /// Where the count of a queue stands in the record.
-#[inline]
+#[inline(always)]
 pub fn count(queue: usize) -> usize {
     start(queue) + 2
 }
 
 /// Where the entry of a stream stands in the record.
-#[inline]
+#[inline(always)]
 pub fn entry(stream: usize) -> usize {
     STREAM_ENTRIES + STREAM_ENTRY * stream
 }
 
 /// Where the frame stands in memory that is so many places ahead of a queue's start.
-#[inline]
+#[inline(always)]
 pub fn frame(queue: usize, start: usize, ahead: usize) -> usize {
     FRAME * (QUEUE_PLACES * queue + (start + ahead) % QUEUE_PLACES)
 }
@@ -119,8 +116,8 @@ pub fn record_field(at: usize) -> String {
         LINK..=7 => "L".into(),
         WAITS..=11 => "W".into(),
         QUEUE_ENTRIES..QUEUE_ENTRIES_END => queue_field(at - QUEUE_ENTRIES),
-        STREAM_ENTRIES..STREAM_ENTRIES_END => stream_field(at - STREAM_ENTRIES),
-        STREAM_ENTRIES_END.. => "past the record".into(),
+        STREAM_ENTRIES..RECORD_OCTETS => stream_field(at - STREAM_ENTRIES),
+        RECORD_OCTETS.. => "past the record".into(),
         _ => "spare".into(),
     }
 }
@@ -148,7 +145,7 @@ fn stream_field(at: usize) -> String {
 
 /// What an octet of the memory belongs to, for a report.
 pub fn memory_field(at: usize) -> String {
-    if at >= FRAMES_END {
+    if at >= MEMORY_OCTETS {
         return "past the memory".into();
     }
     let field = match at % FRAME {

@@ -1,6 +1,6 @@
 -- A fit record stays fit through every call, refused or not; so on a list of calls the quick calls reply as the calls do. Assumes nothing.
 use Prim.Native.Nat.{ℕ}
-use mathlib.Core.Path.{_≡_, refl, sym, ap₂, subst}
+use mathlib.Core.Path.{_≡_, refl, _∙_, sym, ap, ap₂, subst}
 use mathlib.Core.Bool.{true}
 use mathlib.Core.Logic.{⊎-elim}
 use mathlib.Core.List.{List, [], _∷_}
@@ -15,6 +15,8 @@ use Rattle.sending.specs.Sending.{transmitStep}
 use Rattle.gates.specs.Refusals.{openRefusal, reserveRefusal, arriveRefusal, closedRefusal}
 use Rattle.gates.specs.Gated.{gated, opens, reserves, arrives, ticks, transmits}
 use Rattle.gates.proofs.GateLaws.{grants, refuses, open-allowed, reserve-allowed, arrive-allowed}
+use Rattle.port.specs.Quick.{lengthRefusal, quickOpen}
+use Rattle.port.proofs.LengthLaws.{long-enough}
 use Rattle.port_laws.specs.Lists.{Call, opening, reserving, arriving, ticking, transmitting, called, quicklyCalled, replies}
 use Rattle.port_laws.proofs.OpenFit.{open-fits}
 use Rattle.port_laws.proofs.ReserveFit.{reserve-fits}
@@ -67,6 +69,25 @@ stays-fit (reserving s permitted) p m fit = gated-fits (lentRefusal p m) p m (re
 stays-fit (arriving s charge tag) p m fit = gated-fits (lentRefusal p m) p m (arrives p m s charge tag) fit (λ e. arrives-fit p m fit e s charge tag)
 stays-fit ticking p m fit = gated-fits (lentRefusal p m) p m (ticks p m) fit (λ e. ticks-fit p m fit)
 stays-fit transmitting p m fit = gated-fits (lentRefusal p m) p m (transmits p m) fit (λ e. transmits-fit p m fit)
+
+-- a gated call that is granted was let through
+let-through : (g : ℕ) (p m : List ℕ) (done : Outcome) → gated g p m done .reply .refusal ≡ 0 → g ≡ 0
+let-through g p m done e =
+    ⊎-elim
+    (λ (zero : g ≡ 0). zero)
+    (λ (some : g ≡ 0 → ⊥). absurd (some (sym (ap (λ (o : Outcome). o .reply .refusal) (refuses g p m done some)) ∙ e)))
+    (eq-or-not g 0)
+
+-- a granted quick Open leaves a fit record, whatever it was given
+pub granted-open-fits : (p m : List ℕ) (link delay : ℕ) → quickOpen p m link delay .reply .refusal ≡ 0 → LeavesFit (quickOpen p m link delay)
+granted-open-fits p m link delay e =
+    let done = openStep p m link delay in
+    let lent = let-through (lengthRefusal p m) p m (opens p m link delay) e in
+    let passed = grants (lengthRefusal p m) p m (opens p m link delay) lent in
+    let allowed = let-through (openRefusal p link delay) p m done (sym (ap (λ (o : Outcome). o .reply .refusal) passed) ∙ e) in
+    let a = open-allowed p link delay allowed in
+    subst LeavesFit (sym (passed ∙ grants (openRefusal p link delay) p m done allowed))
+    (open-fits p m link delay (long-enough p m lent .long-record) (a .link-fits) (a .delay-fits))
 
 -- every list of calls: the quick calls reply as the calls do
 pub quick-replies : (cs : List Call) (p m : List ℕ) → recordFits p m ≡ true → replies quicklyCalled cs p m ≡ replies called cs p m

@@ -5,8 +5,8 @@ use std::hint::black_box;
 use std::time::Instant;
 
 use harness::call::{Call, Reply};
-use harness::model::octets::{MEMORY_OCTETS, RECORD_OCTETS};
-use harness::model::port::{BEST_EFFORT, BEST_EFFORT_STREAM, LAST, LEAST_CHARGE, LINKS, MARK_YES, QUEUES, QUEUE_PLACES, STREAMS};
+use harness::comparing::fit::Octets;
+use harness::model::port::{BEST_EFFORT, BEST_EFFORT_STREAM, LAST, LEAST_CHARGE, LINKS, QUEUES, QUEUE_PLACES, STREAMS};
 use harness::{exports, in_place, layout};
 
 /// How often each batch is measured; the figure is the median.
@@ -23,17 +23,10 @@ const BATCH: usize = 64;
 const ONE_GIGABIT: f64 = 672.0;
 const TEN_GIGABIT: f64 = 67.2;
 
-/// A port as it stands before a batch of calls.
-#[derive(Clone)]
-struct Port {
-    record: Vec<u8>,
-    memory: Vec<u8>,
-}
-
 /// One batch: what is measured, the port that it starts from, and its calls.
 struct Batch {
     what: &'static str,
-    port: Port,
+    port: Octets,
     calls: Vec<Call>,
 }
 
@@ -83,7 +76,7 @@ fn measured(batch: &Batch) -> Figures {
 
 /// The time of one call: the whole batch's on a fresh copy of its port, shared out.
 fn nanoseconds(batch: &Batch, side: impl Fn(&Call, &mut [u8], &mut [u8]) -> Reply) -> f64 {
-    let Port { mut record, mut memory } = batch.port.clone();
+    let Octets { mut record, mut memory } = batch.port.clone();
     let calls = black_box(&batch.calls[..]);
     let began = Instant::now();
     for call in calls {
@@ -108,14 +101,14 @@ fn same_on_all_sides(batch: &Batch) {
 
 /// The replies of the batch on one side, and the record and memory after it.
 fn run(batch: &Batch, side: fn(&Call, &mut [u8], &mut [u8]) -> Reply) -> (Vec<Reply>, Vec<u8>, Vec<u8>) {
-    let Port { mut record, mut memory } = batch.port.clone();
+    let Octets { mut record, mut memory } = batch.port.clone();
     let replies = batch.calls.iter().map(|call| side(call, &mut record, &mut memory)).collect();
     (replies, record, memory)
 }
 
 /// An open port with this many streams, which share the link evenly.
-fn opened(streams: u8) -> Port {
-    let mut port = Port { record: vec![0; RECORD_OCTETS], memory: vec![0; MEMORY_OCTETS] };
+fn opened(streams: u8) -> Octets {
+    let mut port = Octets::zero();
     let share = exports::call(&Call::Open { link: LINK, delay: DELAY }, &mut port.record, &mut port.memory).first;
     for stream in 0..streams {
         let call = Call::Reserve { stream, permitted: share / streams as u32 };
@@ -125,7 +118,7 @@ fn opened(streams: u8) -> Port {
 }
 
 /// The port after calls.
-fn after(mut port: Port, calls: &[Call]) -> Port {
+fn after(mut port: Octets, calls: &[Call]) -> Octets {
     for call in calls {
         exports::call(call, &mut port.record, &mut port.memory);
     }
@@ -160,14 +153,11 @@ fn full() -> [Batch; 4] {
 }
 
 /// A port with every stream bound and at last, 256 frames in each queue but the last of the reserved ones, and in that as many as are said.
-fn bound(in_last: usize) -> Port {
+fn bound(in_last: usize) -> Octets {
     let mut port = opened(STREAMS as u8);
     for stream in 0..STREAMS {
-        let entry = layout::entry(stream);
-        port.record[entry + layout::PLACE] = LAST;
-        port.record[entry + layout::BOUND] = MARK_YES;
-        layout::put_two(&mut port.record, entry + layout::VID, 1);
-        layout::put_two(&mut port.record, entry + layout::BINDING_END - 2, stream as u32);
+        port.record[layout::entry(stream) + layout::PLACE] = LAST;
+        port.put_binding(stream, &[0, 1, 0, 0, 0, 0, 0, stream as u8]);
     }
     for queue in 0..QUEUES {
         let count = if queue == LAST.into() { in_last } else { QUEUE_PLACES };
@@ -178,7 +168,7 @@ fn bound(in_last: usize) -> Port {
 }
 
 /// So many frames of the least charge in a queue, from a start in its middle, so that they wrap.
-fn fill(port: &mut Port, queue: usize, count: usize) {
+fn fill(port: &mut Octets, queue: usize, count: usize) {
     let start = QUEUE_PLACES / 2;
     layout::put_two(&mut port.record, layout::start(queue), start as u32);
     layout::put_two(&mut port.record, layout::count(queue), count as u32);

@@ -1,12 +1,12 @@
-//! Holds the proved calls against the outside program: `compare [lists] [records] [quick] [--seed N] [--size PERCENT] [--first-failure]`.
+//! Holds the proved calls against the outside program. The words of its command line are in `comparing::program`.
 
 use std::env;
 use std::process::ExitCode;
 
 use harness::comparing::program;
-use harness::comparing::sides::Outside;
+use harness::comparing::sides::Sides;
 
 fn main() -> ExitCode {
     let words: Vec<String> = env::args().skip(1).collect();
-    program::run(&words, Outside::SOUND)
+    program::run(&words, Sides::SOUND)
 }

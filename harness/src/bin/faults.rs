@@ -1,8 +1,8 @@
-//! Sees the comparing tests catch. Writes a package in which each module is a copy of the outside program with one fault, seeded by an edit of
-//! faults/; builds it once; sees every kind of test pass over the sound outside program; and runs over each fault the kinds that its edit names. A
-//! fault that such a kind does not find is a failure.
+//! Sees the comparing tests catch. Writes a package in which each module is a copy of one side with one fault, seeded by an edit of faults/; builds
+//! it once; sees every test pass over the sound sides; and runs over each fault what its edit names: kinds of test, or single tests. Where
+//! one of these does not find it, that is a failure.
 //!
-//! `faults` prints, for each fault, the kinds that found it; `faults --all` runs every kind on every fault. The last line is the total.
+//! `faults` prints, for each fault, what found it; `faults --all` also runs every kind on every fault. The last line is the total.
 
 use std::env;
 use std::fs;
@@ -11,6 +11,7 @@ use std::process::{Command, ExitCode, Stdio};
 use std::sync::atomic::{AtomicUsize, Ordering};
 use std::thread;
 
+use harness::comparing::program::named;
 use harness::comparing::test::KINDS;
 
 /// How many faults are tried at a time.
@@ -22,9 +23,19 @@ const SIZE: &str = "10";
 /// The name under which the package has the outside program without a fault.
 const SOUND: &str = "sound";
 
-/// What a fault is seeded in: the field of the outside program that it replaces, and the module that is copied for it.
-const MODEL: (&str, &str) = ("model", "model");
-const IN_PLACE: (&str, &str) = ("in_place", "in_place.rs");
+/// What a fault can be seeded in: the file or folder that is copied for it, its module, and the functions of the module that stand for a side.
+struct Part {
+    copied: &'static str,
+    module: &'static str,
+    plays: &'static [(&'static str, &'static str)],
+}
+
+/// The independent model, the quick calls in plain Rust, and the exports as a host declares and calls them.
+const PARTS: [Part; 3] = [
+    Part { copied: "model", module: "model", plays: &[("model", "call")] },
+    Part { copied: "in_place.rs", module: "in_place", plays: &[("in_place", "call")] },
+    Part { copied: "exports.rs", module: "exports", plays: &[("exports", "call"), ("quick", "unscanned")] },
+];
 
 /// The manifest of the package: quick to build, and a sum that overflows stops it.
 const MANIFEST: &str = r#"[package]
@@ -42,11 +53,12 @@ debug = false
 [workspace]
 "#;
 
-/// One seeded fault: its name, what is wrong, the kinds of test that must find it, and the edits that make it.
+/// One seeded fault: its name, what is wrong, the kinds of test and the tests that must find it, what it is seeded in, and the edits that make it.
 struct Fault {
     name: String,
     what: String,
     found_by: Vec<String>,
+    part: &'static Part,
     edits: Vec<Edit>,
 }
 
@@ -55,18 +67,6 @@ struct Edit {
     file: String,
     old: String,
     new: String,
-}
-
-impl Fault {
-    /// What the fault is seeded in, by the file of its first edit.
-    fn part(&self) -> (&'static str, &'static str) {
-        let in_place = self.edits.iter().any(|edit| edit.file.ends_with(IN_PLACE.1));
-        if in_place {
-            IN_PLACE
-        } else {
-            MODEL
-        }
-    }
 }
 
 fn main() -> ExitCode {
@@ -88,10 +88,10 @@ fn closed(passed: usize, failed: usize, why: &str) -> ExitCode {
     ExitCode::from(u8::from(failed > 0))
 }
 
-/// Tries all faults, a few at a time, once it is seen that the tests find nothing where there is none.
+/// Tries all faults, a few at a time, once it is seen that the tests pass where there is none.
 fn tried(package: &Path, faults: &[Fault], all: bool) -> ExitCode {
-    if let Some((kind, _)) = KINDS.iter().find(|(kind, _)| finds(package, SOUND, kind)) {
-        return closed(0, 1, &format!("the tests of kind {kind} fail with no fault seeded"));
+    if let Some((kind, _)) = KINDS.iter().find(|(kind, _)| status(package, SOUND, kind) != Some(0)) {
+        return closed(0, 1, &format!("the tests of kind {kind} do not pass where no fault is seeded"));
     }
     let next = AtomicUsize::new(0);
     let found = AtomicUsize::new(0);
@@ -107,21 +107,21 @@ fn tried(package: &Path, faults: &[Fault], all: bool) -> ExitCode {
 /// Tries one fault after another that no thread has taken, and counts those that were found as they must be.
 fn try_some(package: &Path, faults: &[Fault], all: bool, next: &AtomicUsize, found: &AtomicUsize) {
     while let Some(fault) = faults.get(next.fetch_add(1, Ordering::Relaxed)) {
-        let must = |kind: &str| fault.found_by.iter().any(|by| by == kind);
-        let run = KINDS.iter().map(|(kind, _)| *kind).filter(|kind| all || must(kind));
-        let finders: Vec<&str> = run.filter(|kind| finds(package, &fault.name, kind)).collect();
-        let missed: Vec<&String> = fault.found_by.iter().filter(|kind| !finders.contains(&kind.as_str())).collect();
-        let verdict = if missed.is_empty() { String::from("ok") } else { format!("NOT FOUND by {missed:?}") };
-        println!("fault {}: {verdict}: found by {finders:?}: {}", fault.name, fault.what);
+        let mut words: Vec<&str> = fault.found_by.iter().map(String::as_str).collect();
+        words.extend(KINDS.iter().map(|(kind, _)| *kind).filter(|kind| all && !fault.found_by.iter().any(|by| by == kind)));
+        let (finders, others): (Vec<&str>, Vec<&str>) = words.into_iter().partition(|word| status(package, &fault.name, word) == Some(1));
+        let missed: Vec<&str> = others.into_iter().filter(|word| fault.found_by.iter().any(|by| by == word)).collect();
+        let verdict = if missed.is_empty() { String::from("ok") } else { format!("NOT FOUND by {}", missed.join(" ")) };
+        println!("fault {}: {verdict}: found by {}: {}", fault.name, finders.join(" "), fault.what);
         found.fetch_add(usize::from(missed.is_empty()), Ordering::Relaxed);
     }
 }
 
-/// Whether a kind of test fails over a fault, which its exit status 1 says; a run that ends in any other way finds nothing.
-fn finds(package: &Path, fault: &str, kind: &str) -> bool {
+/// How a kind of test, or a test, ends over a fault: 0 where it passes, 1 where it fails, anything else where it could not be run.
+fn status(package: &Path, fault: &str, word: &str) -> Option<i32> {
     let mut seeded = Command::new(package.join("target/debug/seeded"));
-    seeded.args([fault, kind, "--size", SIZE, "--first-failure"]).stdout(Stdio::null()).stderr(Stdio::null());
-    seeded.status().is_ok_and(|status| status.code() == Some(1))
+    seeded.args([fault, word, "--size", SIZE, "--first-failure"]).stdout(Stdio::null()).stderr(Stdio::null());
+    seeded.status().ok()?.code()
 }
 
 /// Writes the package anew and builds it.
@@ -136,7 +136,7 @@ fn built(harness: &Path, package: &Path, faults: &[Fault]) -> Result<(), String>
     write(&package.join("Cargo.toml"), MANIFEST)?;
     write(&source.join("main.rs"), &program(faults))?;
     let mut cargo = Command::new(env::var_os("CARGO").unwrap_or("cargo".into()));
-    cargo.args(["build", "--quiet", "--offline"]).current_dir(package).env("RUSTFLAGS", "-A warnings");
+    cargo.args(["build", "--quiet", "--offline", "--target-dir", "target"]).current_dir(package).env("RUSTFLAGS", "-A warnings");
     let output = cargo.output().map_err(|why| format!("cargo does not run: {why}"))?;
     match output.status.success() {
         true => Ok(()),
@@ -144,10 +144,9 @@ fn built(harness: &Path, package: &Path, faults: &[Fault]) -> Result<(), String>
     }
 }
 
-/// A copy of the part of the outside program that a fault is seeded in, with the fault.
+/// A copy of what a fault is seeded in, with the fault.
 fn seeded(harness: &Path, copy: &Path, fault: &Fault) -> Result<(), String> {
-    let (_, part) = fault.part();
-    copy_all(&harness.join("src").join(part), &copy.join(part))?;
+    copy_all(&harness.join("src").join(fault.part.copied), &copy.join(fault.part.copied))?;
     for edit in &fault.edits {
         let path = copy.join(&edit.file);
         let text = fs::read_to_string(&path).map_err(|why| format!("{}: {why}", edit.file))?;
@@ -161,23 +160,27 @@ fn seeded(harness: &Path, copy: &Path, fault: &Fault) -> Result<(), String> {
 
 /// The program over the copies: its first word names a fault, the others are those of `compare`.
 fn program(faults: &[Fault]) -> String {
-    let module = |fault: &Fault| format!("mod {} {{\n    pub mod {};\n}}\n", fault.name, fault.part().0);
+    let module = |fault: &Fault| format!("mod {} {{\n    pub mod {};\n}}\n", fault.name, fault.part.module);
     let modules: String = faults.iter().map(module).collect();
-    let arm = |fault: &Fault| {
-        let (name, part) = (&fault.name, fault.part().0);
-        format!("        \"{name}\" => Outside {{ {part}: {name}::{part}::call, ..Outside::SOUND }},\n")
-    };
     let arms: String = faults.iter().map(arm).collect();
     [
-        "pub use harness::{call, layout};\nuse harness::comparing::{program, sides::Outside};\n\n",
+        "pub use harness::{call, layout, model};\nuse harness::comparing::{program, sides::Sides};\n\n",
         &modules,
         "\nfn main() -> std::process::ExitCode {\n    let words: Vec<String> = std::env::args().skip(1).collect();\n",
-        "    let outside = match words[0].as_str() {\n",
+        "    let sides = match words[0].as_str() {\n",
         &arms,
-        &format!("        \"{SOUND}\" => Outside::SOUND,\n"),
-        "        other => panic!(\"{other} is no fault\"),\n    };\n    program::run(&words[1..], outside)\n}\n",
+        &format!("        \"{SOUND}\" => Sides::SOUND,\n"),
+        "        other => panic!(\"{other} is no fault\"),\n    };\n    program::run(&words[1..], sides)\n}\n",
     ]
     .concat()
+}
+
+/// The arm of the program for a fault: the sound sides, but for what the fault is seeded in.
+fn arm(fault: &Fault) -> String {
+    let (name, part) = (&fault.name, fault.part);
+    let play = |(side, function): &(&str, &str)| format!("{side}: {name}::{}::{function}, ", part.module);
+    let plays: String = part.plays.iter().map(play).collect();
+    format!("        \"{name}\" => Sides {{ {plays}..Sides::SOUND }},\n")
 }
 
 /// Copies a file, or a folder with what is in it.
@@ -202,31 +205,31 @@ fn write(path: &Path, text: &str) -> Result<(), String> {
 /// The faults of a folder, by name.
 fn read_faults(folder: &Path) -> Result<Vec<Fault>, String> {
     let entries = fs::read_dir(folder).map_err(|why| format!("{}: {why}", folder.display()))?;
-    let mut paths: Vec<PathBuf> = entries.filter_map(|entry| entry.ok().map(|entry| entry.path())).collect();
+    let paths: Result<Vec<PathBuf>, _> = entries.map(|entry| entry.map(|entry| entry.path())).collect();
+    let mut paths = paths.map_err(|why| format!("{}: {why}", folder.display()))?;
     paths.sort();
-    paths.iter().map(|path| read_fault(path)).collect()
+    paths.iter().map(|path| read_fault(path).map_err(|why| format!("{}: {why}", path.display()))).collect()
 }
 
-/// A fault as its file has it: '#' what is wrong, '# found by:' the kinds, 'file:', and pairs of 'old:' and 'new:'.
+/// A fault as its file has it: '#' what is wrong, '# found by:' the kinds and tests, 'file:', and pairs of 'old:' and 'new:'.
 fn read_fault(path: &Path) -> Result<Fault, String> {
-    let text = fs::read_to_string(path).map_err(|why| format!("{}: {why}", path.display()))?;
-    let name = path.file_stem().unwrap_or_default().to_string_lossy().into_owned();
-    let mut fault = Fault { name, what: String::new(), found_by: Vec::new(), edits: Vec::new() };
-    let (mut file, mut old) = (String::new(), String::new());
+    let text = fs::read_to_string(path).map_err(|why| why.to_string())?;
+    let (mut what, mut file, mut old) = ("", "", "");
+    let (mut found_by, mut edits) = (Vec::new(), Vec::new());
     for line in text.lines() {
         let (word, rest) = line.split_once(": ").unwrap_or((line, ""));
         match word {
-            "# found by" => fault.found_by = rest.split(' ').map(String::from).collect(),
-            "file" => file = String::from(rest),
-            "old" => old = String::from(rest),
-            "new" => fault.edits.push(Edit { file: file.clone(), old: old.clone(), new: String::from(rest) }),
-            _ if line.starts_with("# ") => fault.what = String::from(&line[2..]),
-            _ => return Err(format!("{}: '{line}' is no line of a fault", path.display())),
+            "# found by" => found_by = rest.split(' ').map(String::from).collect(),
+            "file" => file = rest,
+            "old" => old = rest,
+            "new" => edits.push(Edit { file: file.into(), old: old.into(), new: rest.into() }),
+            _ => what = line.strip_prefix("# ").ok_or_else(|| format!("'{line}' is no line of a fault"))?,
         }
     }
-    let known = |kind: &String| KINDS.iter().any(|(word, _)| word == kind);
-    if fault.edits.is_empty() || fault.found_by.is_empty() || !fault.found_by.iter().all(known) {
-        return Err(format!("{}: it names no edit, or no kind of test that there is", path.display()));
+    if edits.is_empty() || found_by.is_empty() || !found_by.iter().all(|word| named(word).is_some()) {
+        return Err(String::from("it names no edit, or no kind of test or test that there is"));
     }
-    Ok(fault)
+    let part = PARTS.iter().find(|part| file.starts_with(part.copied)).ok_or_else(|| format!("no fault can be seeded in {file}"))?;
+    let name = path.file_stem().unwrap_or_default().to_string_lossy().into_owned();
+    Ok(Fault { name, what: what.into(), found_by, part, edits })
 }

@@ -41,13 +41,13 @@ struct Player {
 impl Player {
     /// A side that gets copies with guards around them.
     fn guarded(side: Side, run: &Run, record: &[u8], memory: &[u8]) -> Player {
-        Player { side, play: run.outside.play(side), record: Box::new(Lent::new(record)), memory: Box::new(Lent::new(memory)) }
+        Player { side, play: run.sides.play(side), record: Box::new(Lent::new(record)), memory: Box::new(Lent::new(memory)) }
     }
 
     /// A side that gets copies against fences.
     fn fenced(side: Side, run: &Run, record: &[u8], memory: &[u8], edges: [Edge; 2]) -> Player {
         let (record, memory) = lend_pair(record, memory, edges);
-        Player { side, play: run.outside.play(side), record: Box::new(record), memory: Box::new(memory) }
+        Player { side, play: run.sides.play(side), record: Box::new(record), memory: Box::new(memory) }
     }
 
     /// Plays a call on what was lent.

@@ -7,29 +7,31 @@ use std::sync::Mutex;
 use std::thread;
 use std::time::Instant;
 
-use crate::comparing::sides::Outside;
-use crate::comparing::test::{Kind, Run, Test, KINDS};
-use crate::comparing::{fences, lists, quick, records, sample};
+use crate::comparing::sides::Sides;
+use crate::comparing::test::{Run, Test, KINDS};
+use crate::comparing::tests;
 
 /// How the program is called.
-const USAGE: &str = "usage: compare [lists] [records] [quick] [--seed N] [--size PERCENT] [--first-failure]";
+const USAGE: &str = "usage: compare [lists] [records] [quick] [TEST..] [--seed N] [--size PERCENT, at least 10] [--first-failure]";
 /// The seed of a run that names none.
 const DEFAULT_SEED: u64 = 1;
 /// The size of a run that names none.
 const DEFAULT_PERCENT: usize = 100;
 /// How many tests run at a time.
 const THREADS: usize = 2;
+/// The least size: below it a test does not see enough of what it is for.
+const LEAST_PERCENT: usize = 10;
 /// The exit status after a wrong word on the command line.
 const WRONG_WORDS: u8 = 2;
 
 /// What the command line asks for.
 struct Wanted {
-    kinds: Vec<Kind>,
+    tests: Vec<Test>,
     seed: u64,
     percent: usize,
     /// No further test is begun after one that failed.
     first_failure: bool,
-    outside: Outside,
+    sides: Sides,
 }
 
 /// How far the tests are: the next one to begin, the next one to print, and the lines that wait for an earlier test's.
@@ -42,9 +44,9 @@ struct Progress {
     failed: usize,
 }
 
-/// Runs the tests that the words ask for against an outside program.
-pub fn run(words: &[String], outside: Outside) -> ExitCode {
-    let Some(wanted) = wanted(words, outside) else {
+/// Runs the tests that the words ask for with the sides as given.
+pub fn run(words: &[String], sides: Sides) -> ExitCode {
+    let Some(wanted) = wanted(words, sides) else {
         eprintln!("{USAGE}");
         return ExitCode::from(WRONG_WORDS);
     };
@@ -54,42 +56,47 @@ pub fn run(words: &[String], outside: Outside) -> ExitCode {
 }
 
 /// Reads the command line, or nothing if a word of it is wrong.
-fn wanted(words: &[String], outside: Outside) -> Option<Wanted> {
-    let mut wanted = Wanted { kinds: Vec::new(), seed: DEFAULT_SEED, percent: DEFAULT_PERCENT, first_failure: false, outside };
+fn wanted(words: &[String], sides: Sides) -> Option<Wanted> {
+    let mut wanted = Wanted { tests: Vec::new(), seed: DEFAULT_SEED, percent: DEFAULT_PERCENT, first_failure: false, sides };
     let mut words = words.iter();
     while let Some(word) = words.next() {
         match word.as_str() {
             "--seed" => wanted.seed = words.next()?.parse().ok()?,
-            "--size" => wanted.percent = words.next()?.parse().ok().filter(|&percent| percent > 0)?,
+            "--size" => wanted.percent = words.next()?.parse().ok().filter(|&percent| percent >= LEAST_PERCENT)?,
             "--first-failure" => wanted.first_failure = true,
-            kind => wanted.kinds.push(KINDS.iter().find(|(name, _)| *name == kind)?.1),
+            kind_or_test => wanted.tests.extend(named(kind_or_test)?),
         }
     }
-    if wanted.kinds.is_empty() {
-        wanted.kinds = KINDS.map(|(_, kind)| kind).to_vec();
+    if wanted.tests.is_empty() {
+        wanted.tests = tests::all();
     }
     Some(wanted)
 }
 
+/// The tests of a kind, or the one test, that a word names, if it names any.
+pub fn named(word: &str) -> Option<Vec<Test>> {
+    let kind = KINDS.iter().find(|(name, _)| *name == word).map(|(_, kind)| *kind);
+    let tests: Vec<Test> = tests::all().into_iter().filter(|test| Some(test.kind) == kind || test.name == word).collect();
+    Some(tests).filter(|tests| !tests.is_empty())
+}
+
 /// Runs the wanted tests on a few threads.
 fn run_all(wanted: &Wanted) -> Progress {
-    let all = [&sample::TESTS[..], &lists::TESTS, &records::TESTS, &quick::TESTS, &fences::TESTS].concat();
-    let tests: Vec<Test> = all.into_iter().filter(|test| wanted.kinds.contains(&test.kind)).collect();
-    let progress = Mutex::new(Progress { waiting: vec![None; tests.len()], ..Progress::default() });
+    let progress = Mutex::new(Progress { waiting: vec![None; wanted.tests.len()], ..Progress::default() });
     thread::scope(|scope| {
         for _ in 0..THREADS {
-            scope.spawn(|| run_some(&tests, wanted, &progress));
+            scope.spawn(|| run_some(wanted, &progress));
         }
     });
     progress.into_inner().expect("no thread panics with the progress in hand")
 }
 
 /// Runs one test after another that no thread has begun.
-fn run_some(tests: &[Test], wanted: &Wanted, progress: &Mutex<Progress>) {
+fn run_some(wanted: &Wanted, progress: &Mutex<Progress>) {
     let in_hand = || progress.lock().expect("no thread panics with the progress in hand");
     loop {
-        let Some(number) = in_hand().begin(tests.len(), wanted.first_failure) else { return };
-        let (line, passed) = run_one(&tests[number], wanted);
+        let Some(number) = in_hand().begin(wanted.tests.len(), wanted.first_failure) else { return };
+        let (line, passed) = run_one(&wanted.tests[number], wanted);
         in_hand().end(number, line, passed);
     }
 }
@@ -118,7 +125,7 @@ impl Progress {
 
 /// Runs one test, its line and whether it passed; a panic is a failure.
 fn run_one(test: &Test, wanted: &Wanted) -> (String, bool) {
-    let mut run = Run::new(test.name, wanted.seed, wanted.percent, wanted.outside);
+    let mut run = Run::new(test.name, wanted.seed, wanted.percent, wanted.sides);
     let began = Instant::now();
     let ended = catch_unwind(AssertUnwindSafe(|| (test.body)(&mut run)));
     let failure = match ended {

@@ -21,22 +21,25 @@ pub enum Side {
     InPlace,
 }
 
-/// The outside program, sound or with a fault that was seeded in it to see the tests catch.
+/// How each side plays a call. Another function may stand for the outside program, or for what a host declares of the exports, with a fault that
+/// was seeded in it to see the tests catch.
 #[derive(Clone, Copy)]
-pub struct Outside {
+pub struct Sides {
+    pub exports: Play,
+    pub quick: Play,
     pub model: Play,
     pub in_place: Play,
 }
 
-impl Outside {
-    /// The outside program as it is.
-    pub const SOUND: Outside = Outside { model: model::call, in_place: in_place::call };
+impl Sides {
+    /// The sides without a fault.
+    pub const SOUND: Sides = Sides { exports: exports::call, quick: exports::unscanned, model: model::call, in_place: in_place::call };
 
     /// How a side plays a call.
     pub fn play(&self, side: Side) -> Play {
         match side {
-            Side::Exports => exports::call,
-            Side::Quick => exports::unscanned,
+            Side::Exports => self.exports,
+            Side::Quick => self.quick,
             Side::Model => self.model,
             Side::InPlace => self.in_place,
         }

@@ -5,7 +5,7 @@ use std::fmt;
 use crate::call::{Call, Reply};
 use crate::comparing::coverage::{Coverage, Seen};
 use crate::comparing::random::Random;
-use crate::comparing::sides::Outside;
+use crate::comparing::sides::Sides;
 
 /// The kinds of tests.
 #[derive(Clone, Copy, Debug, PartialEq, Eq)]
@@ -31,8 +31,8 @@ pub struct Run {
     seed: u64,
     percent: usize,
     test: &'static str,
-    /// The outside program that the proved calls are held against.
-    pub outside: Outside,
+    /// How each side plays a call.
+    pub sides: Sides,
     /// How many lists and records were begun, and how many calls were compared.
     pub lists: u64,
     pub records: u64,
@@ -44,9 +44,9 @@ pub struct Run {
 }
 
 impl Run {
-    /// A run of a test with a seed, at so many percent of its size, against an outside program.
-    pub fn new(test: &'static str, seed: u64, percent: usize, outside: Outside) -> Run {
-        Run { seed, percent, test, outside, lists: 0, records: 0, calls: 0, coverage: Coverage::default(), place: String::new() }
+    /// A run of a test with a seed, at so many percent of its size, with the sides as given.
+    pub fn new(test: &'static str, seed: u64, percent: usize, sides: Sides) -> Run {
+        Run { seed, percent, test, sides, lists: 0, records: 0, calls: 0, coverage: Coverage::default(), place: String::new() }
     }
 
     /// A number of lists or records at the size of this run, at least one.

@@ -1,4 +1,5 @@
-//! The sample output and cases C1 to C11 of document 01, its refusals, and which octets each call writes.
+//! The model's own tests: cases of document 01 with what they leave in the record, its refusals, and which octets each call writes. The sample and
+//! all cases are played in `comparing::tests::sample`.
 
 use super::fitness::{unfit, Clause};
 use super::*;
@@ -114,20 +115,6 @@ impl Lent {
     }
 }
 
-/// "The entire output" of document 01.
-#[test]
-fn sample_output() {
-    let mut lent = Lent::zeroed();
-    assert_eq!(lent.open(2_142, 1), (0, 600, 0));
-    assert_eq!(lent.reserve(5, 200), (0, 400, 0));
-    assert_eq!(lent.arrive(120, 7), (0, 1, 80));
-    assert_eq!(lent.arrive(100, 8), (0, 2, 100));
-    assert_eq!(lent.transmit(), (0, 5, 7));
-    assert_eq!(lent.transmit(), (0, 254, 0));
-    assert_eq!(lent.tick(), (0, 0, 0));
-    assert_eq!(lent.transmit(), (0, 5, 8));
-}
-
 /// C1, C2 and the ends of K.
 #[test]
 fn c1_c2_link_ends() {
@@ -172,16 +159,6 @@ fn c5_exact_fit_advances() {
     let mut lent = Lent::of_the_cases();
     assert_eq!(lent.arrive(200, 1), (0, 1, 200));
     assert_eq!(lent.place(), (2, 200));
-}
-
-/// C6 and C7.
-#[test]
-fn c6_c7_small_frames() {
-    let mut lent = Lent::of_the_cases();
-    assert_eq!(lent.arrive(120, 7), (0, 1, 80));
-    assert_eq!(lent.arrive(100, 8), (0, 2, 100));
-    assert_eq!(lent.arrive(90, 9), (0, 2, 10));
-    assert_eq!(lent.arrive(84, 10), (0, 3, 116));
 }
 
 /// C8 and C9: an exact fit at last does not advance.

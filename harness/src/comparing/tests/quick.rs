@@ -3,11 +3,11 @@
 use crate::comparing::broken;
 use crate::comparing::compared::Compared;
 use crate::comparing::coverage::Seen;
-use crate::comparing::lists::{an_open_port, any_port, any_profile, play, ring_profile, Plan};
 use crate::comparing::shapes::{any_fit, any_open, extreme, SHAPES};
 use crate::comparing::sides::Side;
 use crate::comparing::test::{Kind, Run, Test};
-use crate::comparing::tried::{try_each_call, try_lengths, try_shape};
+use crate::comparing::tests::each_call::{try_each_call, try_lengths, try_shape};
+use crate::comparing::tests::lists::{an_open_port, any_port, any_profile, play, ring_profile, Plan};
 use crate::model::refusal::*;
 
 /// The tests of this kind, but for those between fences.

@@ -16,16 +16,6 @@ pub const TESTS: [Test; 2] = [
 /// A call and its reply as the document states it.
 type Stated = (Call, Reply);
 
-/// A granted call's reply.
-const fn granted(first: u32, second: u32) -> Reply {
-    Reply { refusal: 0, first, second }
-}
-
-/// A refused call's reply.
-const fn refused(refusal: u8) -> Reply {
-    Reply { refusal, first: 0, second: 0 }
-}
-
 /// Open(L, 1).
 const fn open(link: u32, reply: Reply) -> Stated {
     (Call::Open { link, delay: 1 }, reply)
@@ -42,53 +32,66 @@ const fn arrive(charge: u32, tag: u32, reply: Reply) -> Stated {
 }
 
 /// Open of the cases: L 2,142.
-const OPEN: Stated = open(2_142, granted(600, 0));
+const OPEN: Stated = open(2_142, Reply::granted(600, 0));
 /// Reserve of the cases: P 200.
-const RESERVE: Stated = reserve(5, 200, granted(400, 0));
+const RESERVE: Stated = reserve(5, 200, Reply::granted(400, 0));
 /// A tick that purges nothing.
-const TICK: Stated = (Call::Tick, granted(0, 0));
+const TICK: Stated = (Call::Tick, Reply::granted(0, 0));
 
 /// The sample output's eight calls.
 const SAMPLE: [Stated; 8] = [
     OPEN,
     RESERVE,
-    arrive(120, 7, granted(1, 80)),
-    arrive(100, 8, granted(2, 100)),
-    (Call::Transmit, granted(5, 7)),
-    (Call::Transmit, granted(254, 0)),
+    arrive(120, 7, Reply::granted(1, 80)),
+    arrive(100, 8, Reply::granted(2, 100)),
+    (Call::Transmit, Reply::granted(5, 7)),
+    (Call::Transmit, Reply::granted(254, 0)),
     TICK,
-    (Call::Transmit, granted(5, 8)),
+    (Call::Transmit, Reply::granted(5, 8)),
 ];
 
 /// C1 to C11, those of one number with each their own list.
 const CASES: [(&str, &[Stated]); 13] = [
-    ("C1, 1,625", &[open(1_625, refused(LINK_OUTSIDE))]),
-    ("C1, 1,626", &[open(1_626, granted(84, 0))]),
-    ("C2, 23,046", &[open(23_046, granted(21_504, 0))]),
-    ("C2, 23,047", &[open(23_047, refused(LINK_OUTSIDE))]),
-    ("C3", &[OPEN, reserve(5, 83, refused(PERMITTED_BELOW)), reserve(5, 84, granted(516, 0))]),
-    ("C4", &[OPEN, RESERVE, reserve(6, 401, refused(SHARE_EXCEEDED)), reserve(6, 400, granted(0, 0))]),
-    ("C5", &[OPEN, RESERVE, arrive(200, 1, granted(1, 200)), arrive(84, 2, granted(2, 116))]),
-    ("C6", &[OPEN, RESERVE, arrive(120, 1, granted(1, 80)), arrive(100, 2, granted(2, 100))]),
+    ("C1, 1,625", &[open(1_625, Reply::refused(LINK_OUTSIDE))]),
+    ("C1, 1,626", &[open(1_626, Reply::granted(84, 0))]),
+    ("C2, 23,046", &[open(23_046, Reply::granted(21_504, 0))]),
+    ("C2, 23,047", &[open(23_047, Reply::refused(LINK_OUTSIDE))]),
+    ("C3", &[OPEN, reserve(5, 83, Reply::refused(PERMITTED_BELOW)), reserve(5, 84, Reply::granted(516, 0))]),
+    ("C4", &[OPEN, RESERVE, reserve(6, 401, Reply::refused(SHARE_EXCEEDED)), reserve(6, 400, Reply::granted(0, 0))]),
+    ("C5", &[OPEN, RESERVE, arrive(200, 1, Reply::granted(1, 200)), arrive(84, 2, Reply::granted(2, 116))]),
+    ("C6", &[OPEN, RESERVE, arrive(120, 1, Reply::granted(1, 80)), arrive(100, 2, Reply::granted(2, 100))]),
     (
         "C7",
         &[
             OPEN,
             RESERVE,
-            arrive(120, 1, granted(1, 80)),
-            arrive(100, 2, granted(2, 100)),
-            arrive(90, 3, granted(2, 10)),
-            arrive(84, 4, granted(3, 116)),
+            arrive(120, 1, Reply::granted(1, 80)),
+            arrive(100, 2, Reply::granted(2, 100)),
+            arrive(90, 3, Reply::granted(2, 10)),
+            arrive(84, 4, Reply::granted(3, 116)),
         ],
     ),
-    ("C8", &[OPEN, RESERVE, THRICE[0], THRICE[1], THRICE[2], arrive(84, 4, refused(DISCARD))]),
-    ("C9", &[OPEN, RESERVE, THRICE[0], THRICE[1], THRICE[2], arrive(84, 4, refused(DISCARD)), TICK, arrive(84, 5, granted(3, 116))]),
-    ("C10", &[OPEN, RESERVE, arrive(201, 1, refused(DISCARD)), arrive(84, 2, refused(DISCARD))]),
-    ("C11", &[OPEN, RESERVE, arrive(83, 1, refused(CHARGE_OUTSIDE)), arrive(1_543, 2, refused(CHARGE_OUTSIDE))]),
+    ("C8", &[OPEN, RESERVE, THRICE[0], THRICE[1], THRICE[2], arrive(84, 4, Reply::refused(DISCARD))]),
+    (
+        "C9",
+        &[
+            OPEN,
+            RESERVE,
+            THRICE[0],
+            THRICE[1],
+            THRICE[2],
+            arrive(84, 4, Reply::refused(DISCARD)),
+            TICK,
+            arrive(84, 5, Reply::granted(3, 116)),
+        ],
+    ),
+    ("C10", &[OPEN, RESERVE, arrive(201, 1, Reply::refused(DISCARD)), arrive(84, 2, Reply::refused(DISCARD))]),
+    ("C11", &[OPEN, RESERVE, arrive(83, 1, Reply::refused(CHARGE_OUTSIDE)), arrive(1_543, 2, Reply::refused(CHARGE_OUTSIDE))]),
 ];
 
 /// "200 three times: current, next, last".
-const THRICE: [Stated; 3] = [arrive(200, 1, granted(1, 200)), arrive(200, 2, granted(2, 200)), arrive(200, 3, granted(3, 0))];
+const THRICE: [Stated; 3] =
+    [arrive(200, 1, Reply::granted(1, 200)), arrive(200, 2, Reply::granted(2, 200)), arrive(200, 3, Reply::granted(3, 0))];
 
 /// The sample output of document 01.
 fn document_sample(run: &mut Run) -> Result<(), String> {

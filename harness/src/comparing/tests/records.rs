@@ -9,7 +9,7 @@ use crate::comparing::fit::Octets;
 use crate::comparing::shapes::{any_fit, any_open, near_fit, sparse, zeros_and_ones};
 use crate::comparing::sides::Side;
 use crate::comparing::test::{Kind, Run, Test};
-use crate::comparing::tried::{try_lengths, try_shape};
+use crate::comparing::tests::each_call::{try_lengths, try_shape};
 use crate::model::fitness::unfit;
 use crate::model::refusal::*;
 

@@ -6,7 +6,7 @@ use crate::comparing::fenced::{lend_pair, Edge, EDGES};
 use crate::comparing::lent::Lend;
 use crate::comparing::sides::Side;
 use crate::comparing::test::{Kind, Run, Test};
-use crate::comparing::tried::try_lengths;
+use crate::comparing::tests::each_call::try_lengths;
 use crate::model::octets::{MEMORY_OCTETS, RECORD_OCTETS};
 
 /// The tests between fences.
