@@ -30,48 +30,58 @@ struct Batch {
     calls: Vec<Call>,
 }
 
-/// The median nanoseconds of one call of a batch on each side.
-struct Figures {
-    call: f64,
-    quick: f64,
-    rust: f64,
+/// The nanoseconds of one call of a batch on each side: one figure for each round, or their medians.
+#[derive(Default)]
+struct Figures<F> {
+    call: F,
+    quick: F,
+    rust: F,
 }
 
 fn main() {
+    let (few, full) = (few(4), full());
+    let batches: Vec<&Batch> = few.iter().chain(&full).collect();
+    let medians = measured(&batches);
     println!("nanoseconds for one call, median of {ROUNDS} rounds");
     println!("{:<34}{:>9}{:>9}{:>9}{:>14}{:>14}", "", "call", "quick", "Rust", "call / Rust", "quick / Rust");
-    report("4 streams", &few(4));
-    report("64 bound streams, full queues", &full());
+    report("4 streams", &few, &medians[..few.len()]);
+    report("64 bound streams, full queues", &full, &medians[few.len()..]);
     println!("for one arrive and one transmit of 84 octets a link leaves {ONE_GIGABIT} ns at 1 Gbit/s and {TEN_GIGABIT} ns at 10 Gbit/s");
 }
 
-/// Measures the batches of one port and prints a line for each, and what one arrive and one transmit, the first two, take together.
-fn report(port: &str, batches: &[Batch]) {
+/// Prints a line for each batch of one port, and what one arrive and one transmit, the first two, take together.
+fn report(port: &str, batches: &[Batch], medians: &[Figures<f64>]) {
     println!("{port}");
-    let figures: Vec<Figures> = batches.iter().map(measured).collect();
-    for (batch, f) in batches.iter().zip(&figures) {
+    for (batch, f) in batches.iter().zip(medians) {
         line(batch.what, f);
     }
-    let pair = |of: fn(&Figures) -> f64| of(&figures[0]) + of(&figures[1]);
+    let pair = |of: fn(&Figures<f64>) -> f64| of(&medians[0]) + of(&medians[1]);
     line("arrive and transmit, one frame", &Figures { call: pair(|f| f.call), quick: pair(|f| f.quick), rust: pair(|f| f.rust) });
 }
 
 /// One line of the table.
-fn line(what: &str, f: &Figures) {
+fn line(what: &str, f: &Figures<f64>) {
     let (call, quick) = (f.call / f.rust, f.quick / f.rust);
     println!("  {:<32}{:>9.1}{:>9.1}{:>9.1}{:>14.1}{:>14.2}", what, f.call, f.quick, f.rust, call, quick);
 }
 
-/// The batch on the three sides in turn, round by round, so that what else the machine does meets all three.
-fn measured(batch: &Batch) -> Figures {
-    same_on_all_sides(batch);
-    let (mut call, mut quick, mut rust) = (Vec::new(), Vec::new(), Vec::new());
-    for _ in 0..ROUNDS {
-        call.push(nanoseconds(batch, exports::call));
-        quick.push(nanoseconds(batch, exports::unscanned));
-        rust.push(nanoseconds(batch, in_place::call));
+/// The medians of all batches. In each round every batch is run on the three sides in turn, so that what else the machine does meets all alike.
+fn measured(batches: &[&Batch]) -> Vec<Figures<f64>> {
+    let mut figures: Vec<Figures<Vec<f64>>> = batches.iter().map(|_| Figures::default()).collect();
+    for batch in batches {
+        same_on_all_sides(batch);
     }
-    Figures { call: median(call), quick: median(quick), rust: median(rust) }
+    for _ in 0..ROUNDS {
+        batches.iter().zip(&mut figures).for_each(|(batch, f)| round(batch, f));
+    }
+    figures.into_iter().map(|f| Figures { call: median(f.call), quick: median(f.quick), rust: median(f.rust) }).collect()
+}
+
+/// One round of one batch.
+fn round(batch: &Batch, f: &mut Figures<Vec<f64>>) {
+    f.call.push(nanoseconds(batch, exports::call));
+    f.quick.push(nanoseconds(batch, exports::unscanned));
+    f.rust.push(nanoseconds(batch, in_place::call));
 }
 
 /// The time of one call: the whole batch's on a fresh copy of its port, shared out.
