@@ -27,7 +27,7 @@ static void arrive(uint32_t charge, uint32_t tag)
     static const char *const places[] = { "", "current", "next", "last" };
 
     granted("arrive", bunnysolder_arrive_unscanned(port, sizeof port, memory, sizeof memory, 5, charge, tag, &first, &second));
-    printf("arrive: frame %u joins %s, %u octets left there\n", tag, places[first], second);
+    printf("arrive: frame %u joins %s, and its stream has %u octets left at its place\n", tag, places[first], second);
 }
 
 /* The link can send. */

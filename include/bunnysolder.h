@@ -1,6 +1,6 @@
 /*
- * The calls of a paternoster port, for a host that lends it a record and a memory for frames. The rule of the port, and the numbers of its
- * refusals, are those of the project's document 01, and are proved to be.
+ * The calls of a paternoster port, for a host that lends it a record and a memory for frames. The rule of the port and the numbers of its
+ * refusals are those of the project's document 01; each function is proved to meet the definition that was drawn from it.
  *
  * What is lent. `port` is the port record: BUNNYSOLDER_RECORD_LENGTH octets or more. `memory` holds the waiting frames:
  * BUNNYSOLDER_MEMORY_LENGTH octets or more. Octets past these lengths are neither read nor written. Both may hold anything: a call tests what
@@ -18,7 +18,7 @@
  * and then does the same. On every record that is fit (one that 19 does not refuse) the two are equal in reply, record and memory, and leave it fit;
  * and a granted Open of either sort leaves a fit record. So a host that opens its port by a granted Open, lets nothing but these calls write record
  * and memory from then on, and always lends the two together, gets the same from both sorts. On a record that is not fit an unscanned call
- * still ends, and reads and writes nothing but record and memory, but its reply and what it leaves need not be those of document 01.
+ * still ends, and reads and writes nothing but record, memory and the two numbers, but its reply and what it leaves need not be document 01's.
  */
 #ifndef BUNNYSOLDER_H
 #define BUNNYSOLDER_H
@@ -50,7 +50,7 @@ enum bunnysolder_refusal {
     BUNNYSOLDER_DISCARD = 14,          /* the frame fits neither at its stream's place nor at a later one */
     BUNNYSOLDER_SHORT_MEMORY = 18,     /* the memory is shorter than BUNNYSOLDER_MEMORY_LENGTH */
     BUNNYSOLDER_UNFIT_RECORD = 19,     /* the record is unfit, or shorter than BUNNYSOLDER_RECORD_LENGTH */
-    BUNNYSOLDER_QUEUE_FULL = 20        /* the chosen queue holds 256 frames; never met in a list of calls from a granted Open */
+    BUNNYSOLDER_QUEUE_FULL = 20        /* the chosen queue holds 256 frames; by document 01 never met in a list from opening */
 };
 
 /* The first reply number of Arrive: the queue that the frame has joined. */

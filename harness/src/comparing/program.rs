@@ -1,5 +1,5 @@
-//! The program over the tests: plays those of the kinds that are named, or all. It prints a line for each test, then how many passed and failed as
-//! the last line. Status 0 says that all passed, 1 that one failed, 2 that a word of the command line is wrong.
+//! The program over the tests: plays those of the kinds, and the single tests, that are named, or all. It prints a line for each test, then how
+//! many passed and failed as the last line. Status 0 says that all passed, 1 that one failed, 2 that a word of the command line is wrong.
 
 use std::panic::{catch_unwind, AssertUnwindSafe};
 use std::process::ExitCode;
