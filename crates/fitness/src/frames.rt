@@ -11,7 +11,7 @@ ghost use Rattle.record.specs.Layout.{Whole, memoryLength};
 ghost use Rattle.fitness.specs.Clauses.{frameStreamFits, frameFits, framesFit};
 
 // The stream of a best-effort frame.
-const BEST_EFFORT_STREAM: u16 = 255;
+pub const BEST_EFFORT_STREAM: u16 = 255;
 
 // Whether a frame of this stream may wait in the queue of this number.
 fn frame_stream_fits(number: u8, stream: u16) -> bool

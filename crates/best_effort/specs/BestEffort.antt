@@ -1,0 +1,26 @@
+-- Best effort(a, tag).
+use Prim.Native.Nat.{ℕ, _+_, _<_}
+use mathlib.Core.List.{List}
+use Rattle.stream.specs.Replies.{granted}
+use Rattle.queue.specs.declared.Frame.{Frame}
+use Rattle.queue.specs.Ring.{placeCount, joinedMemory, joinedQueue}
+use Rattle.record.specs.Layout.{bestEffort}
+use Rattle.record.specs.Head.{waitsAt, withWaits, queueAt, withQueue}
+use Rattle.fitness.specs.Clauses.{bestEffortStream}
+use Rattle.steps.specs.Outcome.{Outcome, outcome}
+
+-- what the step asks of the record: a free place in best effort, and a W that is a number of 32 bits with the charge in it
+abbrev pub HasRoom : List ℕ → ℕ → Type 0
+HasRoom p a = (queueAt p bestEffort .count < placeCount) × (waitsAt p + a < 4294967296)
+
+-- "A frame is (stream, charge, tag), its stream 255 in best effort"
+abbrev pub bestEffortFrame : ℕ → ℕ → Frame
+bestEffortFrame a tag = record { stream = bestEffortStream; charge = a; tag = tag }
+
+-- Best effort(a, tag): the frame joins, and W, "the sum of charges waiting there", rises by its charge; "best effort: W after, 0"
+unfoldable pub bestEffortStep : List ℕ → List ℕ → ℕ → ℕ → Outcome
+bestEffortStep p m a tag =
+    outcome
+    (granted (waitsAt p + a) 0)
+    (withWaits (withQueue p bestEffort (joinedQueue (queueAt p bestEffort))) (waitsAt p + a))
+    (joinedMemory m bestEffort (queueAt p bestEffort) (bestEffortFrame a tag))

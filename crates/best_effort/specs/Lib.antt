@@ -1,0 +1,2 @@
+-- The step of Best effort(a, tag): document 01, "Steps".
+pub mod BestEffort
