@@ -6,13 +6,14 @@ use mathlib.Core.List.{List}
 use native.Mathlib.Omega.{arith}
 use lib.Dec.{leb, ltb}
 use borrow.Author.Tests.{eq-eqb, ne-eqb, leb-false, ltb-false, not-false}
-use Rattle.record.specs.Layout.{streamCount}
-use Rattle.record.specs.Head.{openAt, linkAt}
+use Rattle.queue.specs.Ring.{placeCount}
+use Rattle.record.specs.Layout.{bestEffort, streamCount}
+use Rattle.record.specs.Head.{openAt, linkAt, waitsAt, queueAt}
 use Rattle.record.specs.Entry.{streamAt}
 use Rattle.ranges.specs.Ranges.{chargeFits, shareOf, linkFits, delayFits, permittedFits}
 use Rattle.fitness.specs.Clauses.{permittedSum}
 use Rattle.steps.specs.Outcome.{Outcome, refused}
-use Rattle.gates.specs.Refusals.{openRefusal, reserveRefusal, arriveRefusal}
+use Rattle.gates.specs.Refusals.{openRefusal, reserveRefusal, arriveRefusal, bestEffortLimit, bestEffortRefusal}
 use Rattle.gates.specs.Gated.{gated}
 
 module _ (g : ℕ) (p m : List ℕ) (done : Outcome) where
@@ -89,4 +90,26 @@ arrive-allowed p s charge e =
       stream = leb-false streamCount s (b .0);
       reserved = not-false (streamAt p s .reserved) (c .0);
       charge-fits = not-false (chargeFits charge) (d .0);
+    }
+
+pub record BestEffortAllowed (p : List ℕ) (charge : ℕ) : Type 0 where
+  pub opened : openAt p ≡ true
+  pub charge-fits : chargeFits charge ≡ true
+  pub free : queueAt p bestEffort .count < placeCount
+  pub limit : waitsAt p + charge ≤ bestEffortLimit p
+
+pub best-effort-allowed : (p : List ℕ) (charge : ℕ) → bestEffortRefusal p charge ≡ 0 → BestEffortAllowed p charge
+unfolding bestEffortRefusal
+best-effort-allowed p charge e =
+    let above : ℕ = cond (ltb (bestEffortLimit p) (waitsAt p + charge)) 16 0 in
+    let full : ℕ = cond (leb placeCount (queueAt p bestEffort .count)) 15 above in
+    let a = past (not (openAt p)) 1 (cond (not (chargeFits charge)) 13 full) (omega arith) e in
+    let b = past (not (chargeFits charge)) 13 full (omega arith) (a .1) in
+    let c = past (leb placeCount (queueAt p bestEffort .count)) 15 above (omega arith) (b .1) in
+    let d = past (ltb (bestEffortLimit p) (waitsAt p + charge)) 16 0 (omega arith) (c .1) in
+    record {
+      opened = not-false (openAt p) (a .0);
+      charge-fits = not-false (chargeFits charge) (b .0);
+      free = leb-false placeCount (queueAt p bestEffort .count) (c .0);
+      limit = ltb-false (bestEffortLimit p) (waitsAt p + charge) (d .0);
     }

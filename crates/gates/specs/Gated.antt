@@ -8,7 +8,8 @@ use Rattle.opening.specs.Opening.{openStep, reserveStep}
 use Rattle.arriving.specs.Arriving.{arriveStep}
 use Rattle.ticking.specs.Ticking.{tickStep}
 use Rattle.sending.specs.Sending.{transmitStep}
-use Rattle.gates.specs.Refusals.{openRefusal, reserveRefusal, arriveRefusal, closedRefusal}
+use Rattle.best_effort.specs.BestEffort.{bestEffortStep}
+use Rattle.gates.specs.Refusals.{openRefusal, reserveRefusal, arriveRefusal, closedRefusal, bestEffortRefusal}
 
 -- a refusal, which leaves record and memory as they are, or what is done where there is none
 abbrev pub gated : ℕ → List ℕ → List ℕ → Outcome → Outcome
@@ -33,3 +34,7 @@ ticks p m = gated (closedRefusal p) p m (tickStep p m)
 -- Transmit
 abbrev pub transmits : List ℕ → List ℕ → Outcome
 transmits p m = gated (closedRefusal p) p m (transmitStep p m)
+
+-- Best effort(a, tag)
+abbrev pub joinsBestEffort : List ℕ → List ℕ → ℕ → ℕ → Outcome
+joinsBestEffort p m charge tag = gated (bestEffortRefusal p charge) p m (bestEffortStep p m charge tag)

@@ -1,11 +1,12 @@
 -- What each call refuses of a record and memory that are long enough, in document 01's order: "Checks run 18, 19, 1 (for Open: 2), 17, then upward by
 -- number, except that 12 follows 5". A gate is the number of the first refusal that applies, or 0.
-use Prim.Native.Nat.{ℕ, _+_}
+use Prim.Native.Nat.{ℕ, _+_, _-_, _*_}
 use mathlib.Core.Bool.{not, cond}
 use mathlib.Core.List.{List}
 use lib.Dec.{leb, ltb}
-use Rattle.record.specs.Layout.{streamCount}
-use Rattle.record.specs.Head.{openAt, linkAt}
+use Rattle.queue.specs.Ring.{placeCount}
+use Rattle.record.specs.Layout.{bestEffort, streamCount}
+use Rattle.record.specs.Head.{openAt, delayAt, linkAt, waitsAt, queueAt}
 use Rattle.record.specs.Entry.{streamAt}
 use Rattle.ranges.specs.Ranges.{chargeFits, shareOf, linkFits, delayFits, permittedFits}
 use Rattle.fitness.specs.Clauses.{permittedSum}
@@ -37,3 +38,15 @@ arriveRefusal p s charge =
 -- Tick and Transmit
 unfoldable pub closedRefusal : List ℕ → ℕ
 closedRefusal p = cond (not (openAt p)) 1 0
+
+-- the most octets that may wait in best effort: "K × (L − R)"
+abbrev pub bestEffortLimit : List ℕ → ℕ
+bestEffortLimit p = delayAt p * (linkAt p - permittedSum p)
+
+-- Best effort: "13 charge outside 84 to 1,542; [..] 15 256 best-effort frames waiting; 16 W + a above K × (L − R)"
+unfoldable pub bestEffortRefusal : List ℕ → ℕ → ℕ
+bestEffortRefusal p charge =
+    cond (not (openAt p)) 1
+    (cond (not (chargeFits charge)) 13
+    (cond (leb placeCount (queueAt p bestEffort .count)) 15
+    (cond (ltb (bestEffortLimit p) (waitsAt p + charge)) 16 0)))

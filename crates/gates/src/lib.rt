@@ -7,7 +7,7 @@ ghost use Prim.Native.Nat.{_≤_};
 ghost use lib.ListN.{length};
 ghost use Rattle.record.specs.Layout.{Whole, memoryLength};
 ghost use Rattle.steps.specs.Outcome.{outcome};
-ghost use Rattle.gates.specs.Gated.{opens, reserves, arrives, ticks, transmits};
+ghost use Rattle.gates.specs.Gated.{opens, reserves, arrives, ticks, transmits, joinsBestEffort};
 
 // Open.
 pub fn open_port(port: &mut [u8], memory: &[u8], link: u32, delay: u32) -> Reply
@@ -67,4 +67,16 @@ pub fn transmit(port: &mut [u8], memory: &[u8]) -> Reply
         return steps::refused(refusal);
     }
     sending::transmit(port, memory)
+}
+
+// Best effort.
+pub fn best_effort(port: &mut [u8], memory: &mut [u8], charge: u32, tag: u32) -> Reply
+    requires { ⌜ Whole (now port) × (memoryLength ≤ length (now memory)) ⌝ }
+    ensures { λ r. ⌜ outcome r (now (port .exit)) (now (memory .exit)) ≡ joinsBestEffort (now (port .entry)) (now (memory .entry)) charge tag ⌝ }
+{
+    let refusal = refusals::best_effort(port, charge);
+    if refusal != 0 {
+        return steps::refused(refusal);
+    }
+    best_effort::join(port, memory, charge as u16, tag)
 }

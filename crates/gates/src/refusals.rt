@@ -1,8 +1,9 @@
 // What each call refuses of a record and memory that are long enough: the number of the first refusal that applies, or 0.
 ghost use mathlib.Core.Path.{_≡_};
-ghost use Prim.Native.Nat.{_<_};
+ghost use Prim.Native.Nat.{_+_, _<_};
 ghost use Rattle.record.specs.Layout.{Whole};
-ghost use Rattle.gates.specs.Refusals.{openRefusal, reserveRefusal, arriveRefusal, closedRefusal};
+ghost use Rattle.record.specs.Head.{waitsAt};
+ghost use Rattle.gates.specs.Refusals.{openRefusal, reserveRefusal, arriveRefusal, closedRefusal, bestEffortLimit, bestEffortRefusal};
 
 // Document 01's numbers.
 const CLOSED: u8 = 1;
@@ -24,6 +25,10 @@ const SHARE_EXCEEDED: u8 = 8;
 const NOT_RESERVED: u8 = 12;
 
 const CHARGE_RANGE: u8 = 13;
+
+const BEST_EFFORT_FULL: u8 = 15;
+
+const LIMIT_EXCEEDED: u8 = 16;
 
 // The refusal of Open.
 pub(crate) fn open_port(port: &[u8], link: u32, delay: u32) -> u8
@@ -93,6 +98,40 @@ pub(crate) fn closed(port: &[u8]) -> u8
 {
     if !record::head::is_open(port) {
         return CLOSED;
+    }
+    0
+}
+
+// The most octets that may wait in best effort: K times what of L is not reserved.
+fn best_effort_limit(port: &[u8]) -> u32
+    requires { ⌜ Whole (now port) ⌝ }
+    ensures { λ r. ⌜ r ≡ bestEffortLimit (now (port .entry)) ⌝ }
+{
+    let link = record::head::link(port) as u32;
+    let taken = fitness::streams::permitted_sum(port);
+    if link < taken {
+        return 0;
+    }
+    record::head::delay(port) as u32 * (link - taken)
+}
+
+// The refusal of Best effort. Where it refuses nothing, W with the charge is a number of 32 bits, since the limit is.
+pub(crate) fn best_effort(port: &[u8], charge: u32) -> u8
+    requires { ⌜ Whole (now port) ⌝ }
+    ensures { λ r. ⌜ (r ≡ bestEffortRefusal (now (port .entry)) charge) × (r ≡ 0 → waitsAt (now (port .entry)) + charge < 4294967296) ⌝ }
+{
+    if !record::head::is_open(port) {
+        return CLOSED;
+    }
+    if !ranges::charge_fits(charge) {
+        return CHARGE_RANGE;
+    }
+    if queue::PLACES <= record::head::queue_at(port, record::BEST_EFFORT).count {
+        return BEST_EFFORT_FULL;
+    }
+    let sum = record::head::waits(port) as u64 + charge as u64;
+    if (best_effort_limit(port) as u64) < sum {
+        return LIMIT_EXCEEDED;
     }
     0
 }
