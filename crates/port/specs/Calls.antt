@@ -3,7 +3,7 @@ use Prim.Native.Nat.{ℕ}
 use mathlib.Core.List.{List}
 use Rattle.fitness.specs.Fit.{lentRefusal}
 use Rattle.steps.specs.Outcome.{Outcome}
-use Rattle.gates.specs.Gated.{gated, opens, reserves, arrives, ticks, transmits}
+use Rattle.gates.specs.Gated.{gated, opens, reserves, arrives, ticks, transmits, joinsBestEffort}
 
 -- Open(L, K)
 abbrev pub openCall : List ℕ → List ℕ → ℕ → ℕ → Outcome
@@ -24,3 +24,7 @@ tickCall p m = gated (lentRefusal p m) p m (ticks p m)
 -- Transmit
 abbrev pub transmitCall : List ℕ → List ℕ → Outcome
 transmitCall p m = gated (lentRefusal p m) p m (transmits p m)
+
+-- Best effort(a, tag)
+abbrev pub bestEffortCall : List ℕ → List ℕ → ℕ → ℕ → Outcome
+bestEffortCall p m charge tag = gated (lentRefusal p m) p m (joinsBestEffort p m charge tag)

@@ -7,7 +7,7 @@ use lib.ListN.{length}
 use lib.Dec.{ltb}
 use Rattle.record.specs.Layout.{recordLength, memoryLength}
 use Rattle.steps.specs.Outcome.{Outcome}
-use Rattle.gates.specs.Gated.{gated, opens, reserves, arrives, ticks, transmits}
+use Rattle.gates.specs.Gated.{gated, opens, reserves, arrives, ticks, transmits, joinsBestEffort}
 
 -- 18 where the memory is too short, 19 where the record is
 unfoldable pub lengthRefusal : List ℕ → List ℕ → ℕ
@@ -32,3 +32,7 @@ quickTick p m = gated (lengthRefusal p m) p m (ticks p m)
 -- Transmit
 abbrev pub quickTransmit : List ℕ → List ℕ → Outcome
 quickTransmit p m = gated (lengthRefusal p m) p m (transmits p m)
+
+-- Best effort(a, tag)
+abbrev pub quickBestEffort : List ℕ → List ℕ → ℕ → ℕ → Outcome
+quickBestEffort p m charge tag = gated (lengthRefusal p m) p m (joinsBestEffort p m charge tag)

@@ -5,7 +5,7 @@ pub mod quick;
 use stream::Reply;
 ghost use mathlib.Core.Path.{_≡_};
 ghost use Rattle.steps.specs.Outcome.{outcome};
-ghost use Rattle.port.specs.Calls.{openCall, reserveCall, arriveCall, tickCall, transmitCall};
+ghost use Rattle.port.specs.Calls.{openCall, reserveCall, arriveCall, tickCall, transmitCall, bestEffortCall};
 
 // Open(L, K).
 pub fn open_port(port: &mut [u8], memory: &[u8], link: u32, delay: u32) -> Reply
@@ -60,4 +60,15 @@ pub fn transmit(port: &mut [u8], memory: &[u8]) -> Reply
         return steps::refused(refusal);
     }
     gates::transmit(port, memory)
+}
+
+// Best effort(a, tag).
+pub fn best_effort(port: &mut [u8], memory: &mut [u8], charge: u32, tag: u32) -> Reply
+    ensures { λ r. ⌜ outcome r (now (port .exit)) (now (memory .exit)) ≡ bestEffortCall (now (port .entry)) (now (memory .entry)) charge tag ⌝ }
+{
+    let refusal = fitness::refusal(port, memory);
+    if refusal != 0 {
+        return steps::refused(refusal);
+    }
+    gates::best_effort(port, memory, charge, tag)
 }

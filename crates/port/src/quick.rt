@@ -2,7 +2,7 @@
 use stream::Reply;
 ghost use mathlib.Core.Path.{_≡_};
 ghost use Rattle.steps.specs.Outcome.{outcome};
-ghost use Rattle.port.specs.Quick.{lengthRefusal, quickOpen, quickReserve, quickArrive, quickTick, quickTransmit};
+ghost use Rattle.port.specs.Quick.{lengthRefusal, quickOpen, quickReserve, quickArrive, quickTick, quickTransmit, quickBestEffort};
 
 // The refusal of a memory or record that is too short, or 0.
 fn lengths(port: &[u8], memory: &[u8]) -> u8
@@ -70,4 +70,15 @@ pub fn transmit(port: &mut [u8], memory: &[u8]) -> Reply
         return steps::refused(refusal);
     }
     gates::transmit(port, memory)
+}
+
+// Best effort(a, tag).
+pub fn best_effort(port: &mut [u8], memory: &mut [u8], charge: u32, tag: u32) -> Reply
+    ensures { λ r. ⌜ outcome r (now (port .exit)) (now (memory .exit)) ≡ quickBestEffort (now (port .entry)) (now (memory .entry)) charge tag ⌝ }
+{
+    let refusal = lengths(port, memory);
+    if refusal != 0 {
+        return steps::refused(refusal);
+    }
+    gates::best_effort(port, memory, charge, tag)
 }
