@@ -15,12 +15,14 @@ struct sort {
     uint8_t (*arrive)(uint8_t *, size_t, uint8_t *, size_t, uint8_t, uint32_t, uint32_t, uint32_t *, uint32_t *);
     uint8_t (*tick)(uint8_t *, size_t, const uint8_t *, size_t, uint32_t *, uint32_t *);
     uint8_t (*transmit)(uint8_t *, size_t, const uint8_t *, size_t, uint32_t *, uint32_t *);
+    uint8_t (*best_effort)(uint8_t *, size_t, uint8_t *, size_t, uint32_t, uint32_t, uint32_t *, uint32_t *);
 };
 
 static const struct sort sorts[] = {
-    { "the calls", bunnysolder_open, bunnysolder_reserve, bunnysolder_arrive, bunnysolder_tick, bunnysolder_transmit },
+    { "the calls", bunnysolder_open, bunnysolder_reserve, bunnysolder_arrive, bunnysolder_tick, bunnysolder_transmit,
+      bunnysolder_best_effort },
     { "the unscanned calls", bunnysolder_open_unscanned, bunnysolder_reserve_unscanned, bunnysolder_arrive_unscanned,
-      bunnysolder_tick_unscanned, bunnysolder_transmit_unscanned },
+      bunnysolder_tick_unscanned, bunnysolder_transmit_unscanned, bunnysolder_best_effort_unscanned },
 };
 
 /* What the two reply numbers hold before a call. */
@@ -41,7 +43,7 @@ static void replies(const char *call, uint8_t refusal, uint8_t number, uint32_t 
     first = second = UNWRITTEN;
 }
 
-/* Document 01's sample with a refusal of each call in between, on a port never opened. */
+/* Document 01's sample with a refusal of each call in between, then its case C12, on a port never opened. */
 static void sample(const struct sort *s)
 {
     const size_t p = sizeof port, m = sizeof memory;
@@ -61,6 +63,10 @@ static void sample(const struct sort *s)
     replies("tick", s->tick(port, p, memory, m, &first, &second), BUNNYSOLDER_GRANTED, 0, 0);
     replies("transmit", s->transmit(port, p, memory, m, &first, &second), BUNNYSOLDER_GRANTED, 5, 8);
     replies("arrive", s->arrive(port, p, memory, m, 5, 201, 9, &first, &second), BUNNYSOLDER_DISCARD, 0, 0);
+    replies("best effort", s->best_effort(port, p, memory, m, 1542, 10, &first, &second), BUNNYSOLDER_GRANTED, 1542, 0);
+    replies("best effort", s->best_effort(port, p, memory, m, 400, 11, &first, &second), BUNNYSOLDER_GRANTED, 1942, 0);
+    replies("best effort", s->best_effort(port, p, memory, m, 84, 12, &first, &second), BUNNYSOLDER_LIMIT_EXCEEDED, 0, 0);
+    replies("transmit", s->transmit(port, p, memory, m, &first, &second), BUNNYSOLDER_GRANTED, BUNNYSOLDER_BEST_EFFORT, 10);
     replies("tick", s->tick(port, p, memory, m - 1, &first, &second), BUNNYSOLDER_SHORT_MEMORY, 0, 0);
 }
 

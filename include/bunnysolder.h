@@ -48,6 +48,8 @@ enum bunnysolder_refusal {
     BUNNYSOLDER_NOT_RESERVED = 12,     /* the stream is not reserved */
     BUNNYSOLDER_CHARGE_RANGE = 13,     /* the charge is outside 84 to 1,542 */
     BUNNYSOLDER_DISCARD = 14,          /* the frame fits neither at its stream's place nor at a later one */
+    BUNNYSOLDER_BEST_EFFORT_FULL = 15, /* 256 best-effort frames are waiting */
+    BUNNYSOLDER_LIMIT_EXCEEDED = 16,   /* W, with the charge in it, would be above K x (L - R) */
     BUNNYSOLDER_SHORT_MEMORY = 18,     /* the memory is shorter than BUNNYSOLDER_MEMORY_LENGTH */
     BUNNYSOLDER_UNFIT_RECORD = 19,     /* the record is unfit, or shorter than BUNNYSOLDER_RECORD_LENGTH */
     BUNNYSOLDER_QUEUE_FULL = 20        /* the chosen queue holds 256 frames; by document 01 never met in a list from opening */
@@ -80,7 +82,7 @@ uint8_t bunnysolder_reserve_unscanned(uint8_t *port, size_t port_length, const u
 /*
  * Arrive(s, a, tag): a frame arrives on the stream. `charge` is a, the octets that it costs on the wire: its length without check sequence plus
  * 24. `tag` is the host's own number for it. Replies the queue that the frame has joined (enum bunnysolder_place) and the octets left to
- * the stream at its place afterwards. Refusals: 18 19 1 5 12 13, then 14 or 20. Of all calls this one alone writes the memory.
+ * the stream at its place afterwards. Refusals: 18 19 1 5 12 13, then 14 or 20. Of all calls this one and Best effort alone write the memory.
  */
 uint8_t bunnysolder_arrive(uint8_t *port, size_t port_length, uint8_t *memory, size_t memory_length,
                            uint8_t stream, uint32_t charge, uint32_t tag, uint32_t *first, uint32_t *second);
@@ -103,6 +105,16 @@ uint8_t bunnysolder_transmit(uint8_t *port, size_t port_length, const uint8_t *m
                              uint32_t *first, uint32_t *second);
 uint8_t bunnysolder_transmit_unscanned(uint8_t *port, size_t port_length, const uint8_t *memory, size_t memory_length,
                                        uint32_t *first, uint32_t *second);
+
+/*
+ * Best effort(a, tag): a frame of no stream arrives. `charge` is a and `tag` the host's own number for it, as in Arrive. It waits until neither
+ * prior nor current has a frame. Replies W, the sum of the charges that wait in best effort, with this one in it, and 0. R is the sum of the
+ * reserved streams' P; a later Reserve may leave W above K x (L - R), and that is no fault. Refusals: 18 19 1 13 15 16.
+ */
+uint8_t bunnysolder_best_effort(uint8_t *port, size_t port_length, uint8_t *memory, size_t memory_length,
+                                uint32_t charge, uint32_t tag, uint32_t *first, uint32_t *second);
+uint8_t bunnysolder_best_effort_unscanned(uint8_t *port, size_t port_length, uint8_t *memory, size_t memory_length,
+                                          uint32_t charge, uint32_t tag, uint32_t *first, uint32_t *second);
 
 #ifdef __cplusplus
 }

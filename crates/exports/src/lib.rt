@@ -4,7 +4,7 @@ pub mod unscanned;
 
 ghost use mathlib.Core.Path.{_≡_};
 ghost use Rattle.steps.specs.Outcome.{outcome};
-ghost use Rattle.port.specs.Calls.{openCall, reserveCall, arriveCall, tickCall, transmitCall};
+ghost use Rattle.port.specs.Calls.{openCall, reserveCall, arriveCall, tickCall, transmitCall, bestEffortCall};
 ghost use Rattle.exports.specs.Handed.{handed};
 
 // Open(L, K).
@@ -89,6 +89,24 @@ pub extern "C" fn bunnysolder_transmit(
     ensures { λ r. ⌜ outcome (handed r (now (first .exit)) (now (second .exit))) (now (port .exit)) (now (memory .entry)) ≡ transmitCall (now (port .entry)) (now (memory .entry)) ⌝ }
 {
     let reply = port::transmit(port, memory);
+    *first = reply.first;
+    *second = reply.second;
+    reply.refusal
+}
+
+// Best effort(a, tag).
+#[no_mangle]
+pub extern "C" fn bunnysolder_best_effort(
+    port: &mut [u8],
+    memory: &mut [u8],
+    charge: u32,
+    tag: u32,
+    first: &mut u32,
+    second: &mut u32,
+) -> u8
+    ensures { λ r. ⌜ outcome (handed r (now (first .exit)) (now (second .exit))) (now (port .exit)) (now (memory .exit)) ≡ bestEffortCall (now (port .entry)) (now (memory .entry)) charge tag ⌝ }
+{
+    let reply = port::best_effort(port, memory, charge, tag);
     *first = reply.first;
     *second = reply.second;
     reply.refusal

@@ -2,7 +2,7 @@
 // name.
 ghost use mathlib.Core.Path.{_≡_};
 ghost use Rattle.steps.specs.Outcome.{outcome};
-ghost use Rattle.port.specs.Quick.{quickOpen, quickReserve, quickArrive, quickTick, quickTransmit};
+ghost use Rattle.port.specs.Quick.{quickOpen, quickReserve, quickArrive, quickTick, quickTransmit, quickBestEffort};
 ghost use Rattle.exports.specs.Handed.{handed};
 
 // Open(L, K); nothing is scanned.
@@ -87,6 +87,24 @@ pub extern "C" fn bunnysolder_transmit_unscanned(
     ensures { λ r. ⌜ outcome (handed r (now (first .exit)) (now (second .exit))) (now (port .exit)) (now (memory .entry)) ≡ quickTransmit (now (port .entry)) (now (memory .entry)) ⌝ }
 {
     let reply = port::quick::transmit(port, memory);
+    *first = reply.first;
+    *second = reply.second;
+    reply.refusal
+}
+
+// Best effort(a, tag); nothing is scanned.
+#[no_mangle]
+pub extern "C" fn bunnysolder_best_effort_unscanned(
+    port: &mut [u8],
+    memory: &mut [u8],
+    charge: u32,
+    tag: u32,
+    first: &mut u32,
+    second: &mut u32,
+) -> u8
+    ensures { λ r. ⌜ outcome (handed r (now (first .exit)) (now (second .exit))) (now (port .exit)) (now (memory .exit)) ≡ quickBestEffort (now (port .entry)) (now (memory .entry)) charge tag ⌝ }
+{
+    let reply = port::quick::best_effort(port, memory, charge, tag);
     *first = reply.first;
     *second = reply.second;
     reply.refusal
