@@ -1,4 +1,4 @@
--- C1 to C11 hold of the calls' definitions. Assumes nothing.
+-- C1 to C12 hold of the calls' definitions. Assumes nothing.
 use mathlib.Core.Path.{_≡_, refl}
 use mathlib.Core.List.{map}
 use Rattle.port_laws.specs.Cases.{cases, repliesTo}
@@ -16,8 +16,9 @@ use Rattle.opening.specs.Opening.{openedRecord}
 use Rattle.arriving.specs.Arriving.{arriveStep}
 use Rattle.ticking.specs.Ticking.{tickedRecord, tickStep}
 use Rattle.sending.specs.Sending.{transmitStep}
-use Rattle.gates.specs.Refusals.{openRefusal, reserveRefusal, arriveRefusal, closedRefusal}
+use Rattle.best_effort.specs.BestEffort.{bestEffortStep}
+use Rattle.gates.specs.Refusals.{openRefusal, reserveRefusal, arriveRefusal, closedRefusal, bestEffortRefusal}
 
 pub cases-hold : map repliesTo cases ≡ map (λ c. c .expected) cases
-unfolding allTo sumTo listTo iterate twoOf fourOf eightOf attempt arriveOf tickOf frameAt withFrame joinedMemory frontOf waiting openAt withOpen priorAt withPrior delayAt withDelay linkAt withLink waitsAt withWaits queueAt withQueue streamAt withStream withPlace boundAt vidAt pairAt dropped recordFits lentRefusal roleAt openedRecord arriveStep tickedRecord tickStep transmitStep openRefusal reserveRefusal arriveRefusal closedRefusal
+unfolding allTo sumTo listTo iterate twoOf fourOf eightOf attempt arriveOf tickOf frameAt withFrame joinedMemory frontOf waiting openAt withOpen priorAt withPrior delayAt withDelay linkAt withLink waitsAt withWaits queueAt withQueue streamAt withStream withPlace boundAt vidAt pairAt dropped recordFits lentRefusal roleAt openedRecord arriveStep tickedRecord tickStep transmitStep bestEffortStep openRefusal reserveRefusal arriveRefusal closedRefusal bestEffortRefusal
 cases-hold = refl

@@ -6,6 +6,7 @@ pub mod ReserveFit
 pub mod ArriveFit
 pub mod TickFit
 pub mod SendFit
+pub mod BestEffortFit
 pub mod QuickLaws
 pub mod StayLaws
 pub mod CasesHold

@@ -8,10 +8,10 @@ use lib.Dec.{ltb}
 use borrow.Author.Tests.{le-ltb}
 use Rattle.record.specs.Layout.{recordLength, memoryLength}
 use Rattle.fitness.specs.Fit.{recordFits, lentRefusal}
-use Rattle.gates.specs.Gated.{gated, opens, reserves, arrives, ticks, transmits}
+use Rattle.gates.specs.Gated.{gated, opens, reserves, arrives, ticks, transmits, joinsBestEffort}
 use Rattle.port.specs.Quick.{lengthRefusal}
 use Rattle.fitness.proofs.FitLaws.{fit-record}
-use Rattle.port_laws.specs.Lists.{Call, opening, reserving, arriving, ticking, transmitting, called, quicklyCalled}
+use Rattle.port_laws.specs.Lists.{Call, opening, reserving, arriving, ticking, transmitting, joiningBestEffort, called, quicklyCalled}
 
 -- the lengths alone refuse what 18 and 19 refuse
 pub same-refusal : (p m : List ℕ) → recordFits p m ≡ true → lengthRefusal p m ≡ lentRefusal p m
@@ -27,3 +27,4 @@ quick-call (reserving s permitted) p m fit = ap (λ (g : ℕ). gated g p m (rese
 quick-call (arriving s charge tag) p m fit = ap (λ (g : ℕ). gated g p m (arrives p m s charge tag)) (same-refusal p m fit)
 quick-call ticking p m fit = ap (λ (g : ℕ). gated g p m (ticks p m)) (same-refusal p m fit)
 quick-call transmitting p m fit = ap (λ (g : ℕ). gated g p m (transmits p m)) (same-refusal p m fit)
+quick-call (joiningBestEffort charge tag) p m fit = ap (λ (g : ℕ). gated g p m (joinsBestEffort p m charge tag)) (same-refusal p m fit)

@@ -35,9 +35,9 @@ module _ (p m : List ℕ) (fit : Fit p m) where
   sent-fits q b some = fits-queue p m fit m q (sentQueue (queueAt p q)) (sent-waits q (omega arith) some) (λ r y o. refl) b
 
   -- best effort: W falls by the charge of the frame that is sent
-  best-effort-fits : (queueAt p bestEffort .count ≡ 0 → ⊥)
+  sent-best-effort-fits : (queueAt p bestEffort .count ≡ 0 → ⊥)
       → Fit (withWaits (withQueue p bestEffort (sentQueue (queueAt p bestEffort))) (waitsAt p - frontOf m bestEffort (queueAt p bestEffort) .charge)) m
-  best-effort-fits some =
+  sent-best-effort-fits some =
       let x = queueAt p bestEffort in
       fits-best-effort p m fit m (sentQueue x) (waitsAt p - frontOf m bestEffort x .charge)
       (sent-waits bestEffort (omega arith) some)
@@ -54,5 +54,5 @@ transmit-fits p m h =
     first-cases p m prior current (queueAt p prior) (queueAt p current) (queueAt p bestEffort) (λ o. recordFits (o .port) (o .memory) ≡ true)
     (λ i. record-fit _ m (sent-fits p m fit prior (role-below p priorRole) i))
     (λ i j. record-fit _ m (sent-fits p m fit current (role-below p currentRole) j))
-    (λ i j k. record-fit _ m (best-effort-fits p m fit k))
+    (λ i j k. record-fit _ m (sent-best-effort-fits p m fit k))
     (λ i j k. h)

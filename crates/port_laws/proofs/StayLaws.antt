@@ -12,17 +12,19 @@ use Rattle.opening.specs.Opening.{openStep, reserveStep}
 use Rattle.arriving.specs.Arriving.{arriveStep}
 use Rattle.ticking.specs.Ticking.{tickStep}
 use Rattle.sending.specs.Sending.{transmitStep}
-use Rattle.gates.specs.Refusals.{openRefusal, reserveRefusal, arriveRefusal, closedRefusal}
-use Rattle.gates.specs.Gated.{gated, opens, reserves, arrives, ticks, transmits}
-use Rattle.gates.proofs.GateLaws.{grants, refuses, open-allowed, reserve-allowed, arrive-allowed}
+use Rattle.best_effort.specs.BestEffort.{bestEffortStep}
+use Rattle.gates.specs.Refusals.{openRefusal, reserveRefusal, arriveRefusal, closedRefusal, bestEffortRefusal}
+use Rattle.gates.specs.Gated.{gated, opens, reserves, arrives, ticks, transmits, joinsBestEffort}
+use Rattle.gates.proofs.GateLaws.{grants, refuses, open-allowed, reserve-allowed, arrive-allowed, best-effort-allowed}
 use Rattle.port.specs.Quick.{lengthRefusal, quickOpen}
 use Rattle.port.proofs.LengthLaws.{long-enough}
-use Rattle.port_laws.specs.Lists.{Call, opening, reserving, arriving, ticking, transmitting, called, quicklyCalled, replies}
+use Rattle.port_laws.specs.Lists.{Call, opening, reserving, arriving, ticking, transmitting, joiningBestEffort, called, quicklyCalled, replies}
 use Rattle.port_laws.proofs.OpenFit.{open-fits}
 use Rattle.port_laws.proofs.ReserveFit.{reserve-fits}
 use Rattle.port_laws.proofs.ArriveFit.{arrive-fits}
 use Rattle.port_laws.proofs.TickFit.{tick-fits}
 use Rattle.port_laws.proofs.SendFit.{transmit-fits}
+use Rattle.port_laws.proofs.BestEffortFit.{best-effort-fits}
 use Rattle.port_laws.proofs.QuickLaws.{quick-call}
 
 -- the record that a call leaves is fit for the memory that it leaves
@@ -62,6 +64,12 @@ module _ (p m : List ℕ) (fit : recordFits p m ≡ true) where
   transmits-fit : LeavesFit (transmits p m)
   transmits-fit = gated-fits (closedRefusal p) p m (transmitStep p m) fit (λ e. transmit-fits p m fit)
 
+  joins-best-effort-fit : lentRefusal p m ≡ 0 → (charge tag : ℕ) → LeavesFit (joinsBestEffort p m charge tag)
+  joins-best-effort-fit lent charge tag =
+      gated-fits (bestEffortRefusal p charge) p m (bestEffortStep p m charge tag) fit
+      (λ e. let a = best-effort-allowed p charge e in
+      best-effort-fits p m charge tag (lent-fit p m lent .0) fit (a .charge-fits) (a .free))
+
 -- every call
 pub stays-fit : (c : Call) (p m : List ℕ) → recordFits p m ≡ true → LeavesFit (called c p m)
 stays-fit (opening link delay) p m fit = gated-fits (lentRefusal p m) p m (opens p m link delay) fit (λ e. opens-fit p m fit link delay)
@@ -69,6 +77,7 @@ stays-fit (reserving s permitted) p m fit = gated-fits (lentRefusal p m) p m (re
 stays-fit (arriving s charge tag) p m fit = gated-fits (lentRefusal p m) p m (arrives p m s charge tag) fit (λ e. arrives-fit p m fit e s charge tag)
 stays-fit ticking p m fit = gated-fits (lentRefusal p m) p m (ticks p m) fit (λ e. ticks-fit p m fit)
 stays-fit transmitting p m fit = gated-fits (lentRefusal p m) p m (transmits p m) fit (λ e. transmits-fit p m fit)
+stays-fit (joiningBestEffort charge tag) p m fit = gated-fits (lentRefusal p m) p m (joinsBestEffort p m charge tag) fit (λ e. joins-best-effort-fit p m fit e charge tag)
 
 -- a gated call that is granted was let through
 let-through : (g : ℕ) (p m : List ℕ) (done : Outcome) → gated g p m done .reply .refusal ≡ 0 → g ≡ 0

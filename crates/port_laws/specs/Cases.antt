@@ -1,4 +1,4 @@
--- Document 01's cases C1 to C11, each as calls on a port never opened, and what they reply. Stream 5 with P = 200, L = 2,142, K = 1, unless said
+-- Document 01's cases C1 to C12, each as calls on a port never opened, and what they reply. Stream 5 with P = 200, L = 2,142, K = 1, unless said
 -- otherwise.
 use Prim.Native.Nat.{ℕ}
 use mathlib.Core.List.{List, [], _∷_, _++_}
@@ -6,7 +6,7 @@ use lib.ListN.{replicate}
 use Rattle.stream.specs.declared.Reply.{Reply}
 use Rattle.stream.specs.Replies.{granted, refusedBy}
 use Rattle.record.specs.Layout.{recordLength, memoryLength}
-use Rattle.port_laws.specs.Lists.{Call, opening, reserving, arriving, ticking, transmitting, called, replies}
+use Rattle.port_laws.specs.Lists.{Call, opening, reserving, arriving, ticking, transmitting, joiningBestEffort, called, replies}
 
 -- "A port starts closed, its queues empty and no stream reserved"
 abbrev pub freshRecord : List ℕ
@@ -84,8 +84,15 @@ c10 = continued reserved (arriving 5 201 1 ∷ arriving 5 84 2 ∷ []) (refusedB
 abbrev pub c11 : Case
 c11 = continued reserved (arriving 5 83 1 ∷ arriving 5 1543 2 ∷ []) (refusedBy 13 ∷ refusedBy 13 ∷ [])
 
+-- "C12 best effort 1,542, then 400: W 1,942; then 84: 16"
+abbrev pub c12 : Case
+c12 =
+    continued reserved
+    (joiningBestEffort 1542 1 ∷ joiningBestEffort 400 2 ∷ joiningBestEffort 84 3 ∷ [])
+    (granted 1542 0 ∷ granted 1942 0 ∷ refusedBy 16 ∷ [])
+
 abbrev pub cases : List Case
-cases = c1 ∷ c2 ∷ c3 ∷ c4 ∷ c5 ∷ c6 ∷ sample ∷ c7 ∷ c8 ∷ c9 ∷ c10 ∷ c11 ∷ []
+cases = c1 ∷ c2 ∷ c3 ∷ c4 ∷ c5 ∷ c6 ∷ sample ∷ c7 ∷ c8 ∷ c9 ∷ c10 ∷ c11 ∷ c12 ∷ []
 
 -- what the calls reply to a case
 abbrev pub repliesTo : Case → List Reply

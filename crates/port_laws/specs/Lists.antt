@@ -3,16 +3,17 @@ use Prim.Native.Nat.{ℕ}
 use mathlib.Core.List.{List, [], _∷_}
 use Rattle.stream.specs.declared.Reply.{Reply}
 use Rattle.steps.specs.Outcome.{Outcome}
-use Rattle.port.specs.Calls.{openCall, reserveCall, arriveCall, tickCall, transmitCall}
-use Rattle.port.specs.Quick.{quickOpen, quickReserve, quickArrive, quickTick, quickTransmit}
+use Rattle.port.specs.Calls.{openCall, reserveCall, arriveCall, tickCall, transmitCall, bestEffortCall}
+use Rattle.port.specs.Quick.{quickOpen, quickReserve, quickArrive, quickTick, quickTransmit, quickBestEffort}
 
--- a call with its arguments: Open(L, K), Reserve(s, P), Arrive(s, a, tag), Tick, Transmit
+-- a call with its arguments: Open(L, K), Reserve(s, P), Arrive(s, a, tag), Tick, Transmit, Best effort(a, tag)
 pub data Call : Type 0 where
   opening : ℕ → ℕ → Call
   reserving : ℕ → ℕ → Call
   arriving : ℕ → ℕ → ℕ → Call
   ticking : Call
   transmitting : Call
+  joiningBestEffort : ℕ → ℕ → Call
 
 -- what a call leaves of a record and a memory
 abbrev pub called : Call → List ℕ → List ℕ → Outcome
@@ -21,6 +22,7 @@ called (reserving s permitted) p m = reserveCall p m s permitted
 called (arriving s charge tag) p m = arriveCall p m s charge tag
 called ticking p m = tickCall p m
 called transmitting p m = transmitCall p m
+called (joiningBestEffort charge tag) p m = bestEffortCall p m charge tag
 
 -- the same by the quick calls
 abbrev pub quicklyCalled : Call → List ℕ → List ℕ → Outcome
@@ -29,6 +31,7 @@ quicklyCalled (reserving s permitted) p m = quickReserve p m s permitted
 quicklyCalled (arriving s charge tag) p m = quickArrive p m s charge tag
 quicklyCalled ticking p m = quickTick p m
 quicklyCalled transmitting p m = quickTransmit p m
+quicklyCalled (joiningBestEffort charge tag) p m = quickBestEffort p m charge tag
 
 -- the replies of a list of calls, by whichever sort of call
 abbrev pub replies : (Call → List ℕ → List ℕ → Outcome) → List Call → List ℕ → List ℕ → List Reply
