@@ -80,7 +80,7 @@ stays-fit transmitting p m fit = gated-fits (lentRefusal p m) p m (transmits p m
 stays-fit (joiningBestEffort charge tag) p m fit = gated-fits (lentRefusal p m) p m (joinsBestEffort p m charge tag) fit (λ e. joins-best-effort-fit p m fit e charge tag)
 
 -- a gated call that is granted was let through
-let-through : (g : ℕ) (p m : List ℕ) (done : Outcome) → gated g p m done .reply .refusal ≡ 0 → g ≡ 0
+pub let-through : (g : ℕ) (p m : List ℕ) (done : Outcome) → gated g p m done .reply .refusal ≡ 0 → g ≡ 0
 let-through g p m done e =
     ⊎-elim
     (λ (zero : g ≡ 0). zero)

@@ -1,0 +1,143 @@
+-- What the record and the memory hold of a view: the streams, the queues by their roles, and best effort. Assumes nothing.
+use Prim.Native.Nat.{ℕ, zero, suc, _+_, _-_, _%_, _≤_, _<_}
+use mathlib.Core.Bool.{Bool, true, false, not, cond}
+use mathlib.Core.Path.{_≡_, refl, sym, ap, ap₂, subst, _∙_}
+use mathlib.Core.Logic.{_⊎_, inl, inr, ⊎-elim}
+use mathlib.Core.List.{List, [], _∷_, _++_}
+use native.Mathlib.Omega.{arith}
+use borrow.Author.Tests.{lt-ltb, le-ltb, lt-leb, le-leb, eq-eqb, ne-eqb}
+use lib.ListN.{length}
+use lib.Dec.{ltb, leb, eqb}
+use Rattle.lists.specs.Turns.{sumTo}
+use Rattle.lists.proofs.TurnLaws.{sumTo-same}
+use Rattle.lists.proofs.Order.{le-or-lt, eq-or-not}
+use Rattle.stream.specs.declared.Stream.{Stream}
+use Rattle.queue.specs.declared.Frame.{Frame}
+use Rattle.queue.specs.Waiting.{waiting}
+use Rattle.record.specs.Layout.{Whole, queueCount, bestEffort, streamCount, memoryLength}
+use Rattle.record.specs.Head.{openAt, priorAt, linkAt, queueAt}
+use Rattle.record.specs.Entry.{streamAt}
+use Rattle.record.proofs.KeepLaws.{Keeps}
+use Rattle.ranges.specs.Ranges.{chargeFits}
+use Rattle.fitness.specs.Clauses.{permittedOf as reservedP, permittedSum}
+use Rattle.fitness.specs.Fit.{recordFits}
+use Rattle.fitness.proofs.FitLaws.{Fit, fit-record}
+use Rattle.steps.specs.Roles.{roleAt}
+use Rattle.gates.specs.Refusals.{arriveRefusal}
+use Rattle.port_laws.specs.Lists.{Call}
+use Rattle.guarantee.specs.Events.{Marked, reserved, bestEffort as sentBestEffort}
+use Rattle.guarantee.proofs.Run.{View, free, permittedOf, ownRefusal}
+use Rattle.guarantee.proofs.Tied.{Tied}
+
+-- a stream of the record as it is seen: free where it is not reserved, or is none of the port's
+abbrev pub seen : Stream → Stream
+seen x = cond (x .reserved) x free
+
+abbrev pub seenAt : List ℕ → ℕ → Stream
+seenAt p s = cond (ltb s streamCount) (seen (streamAt p s)) free
+
+-- the frames of the queue in a role
+abbrev pub inRole : List ℕ → List ℕ → ℕ → List Frame
+inRole p m role = waiting m (roleAt p role) (queueAt p (roleAt p role))
+
+-- record p, memory m and the memory k of the marked calls hold the view v; `best` are the frames in best effort
+pub record Holds (all : List Call) (link : ℕ) (p m k : List ℕ) (v : View) (best : List Marked) : Type 0 where
+  pub fit : recordFits p m ≡ true
+  pub fit-marked : recordFits p k ≡ true
+  pub long : memoryLength ≤ length m
+  pub long-marked : memoryLength ≤ length k
+  pub opened : openAt p ≡ true
+  pub octets : linkAt p ≡ link
+  pub streams : (s : ℕ) → v .stream s ≡ seenAt p s
+  pub queues : (role : ℕ) → role < queueCount → Tied all reserved (inRole p m role) (inRole p k role) (v .queue role)
+  pub above : (role : ℕ) → queueCount ≤ role → v .queue role ≡ []
+  pub waits : Tied all sentBestEffort (waiting m bestEffort (queueAt p bestEffort)) (waiting k bestEffort (queueAt p bestEffort)) best
+
+-- a stream of the port is seen as it is in the record, any other as free
+pub seen-below : (p : List ℕ) (s : ℕ) → s < streamCount → seenAt p s ≡ seen (streamAt p s)
+seen-below p s b = rw (lt-ltb s streamCount b)
+
+pub seen-above : (p : List ℕ) (s : ℕ) → streamCount ≤ s → seenAt p s ≡ free
+seen-above p s a = rw (le-ltb s streamCount a)
+
+-- the sum of P
+seen-permitted : (x : Stream) → seen x .permitted ≡ reservedP x
+seen-permitted x = told (x .reserved)
+  where
+    told : (b : Bool) → cond b x free .permitted ≡ cond b (x .permitted) 0
+    told true = refl
+    told false = refl
+
+pub seen-sum : (p : List ℕ) (v : View) → ((s : ℕ) → v .stream s ≡ seenAt p s) → permittedOf v ≡ permittedSum p
+seen-sum p v streams =
+    sumTo-same _ _ streamCount (λ s b. ap (λ (x : Stream). x .permitted) (streams s ∙ seen-below p s b) ∙ seen-permitted (streamAt p s))
+
+-- whether a stream is reserved
+pub seen-reserved : (x : Stream) → seen x .reserved ≡ x .reserved
+seen-reserved x = told (x .reserved) refl
+  where
+    told : (b : Bool) → x .reserved ≡ b → cond b x free .reserved ≡ b
+    told true e = e
+    told false e = refl
+
+pub seen-as-is : (x : Stream) → x .reserved ≡ true → seen x ≡ x
+seen-as-is x e = rw e
+
+pub seen-free : (x : Stream) → x .reserved ≡ false → seen x ≡ free
+seen-free x e = rw e
+
+-- so the refusals of an arrival are those that its own stream gives
+pub own-refusal : (p : List ℕ) (s a : ℕ) → openAt p ≡ true → arriveRefusal p s a ≡ ownRefusal s (seenAt p s) a
+unfolding arriveRefusal
+own-refusal p s a opened =
+    ⊎-elim
+    (λ (above : streamCount ≤ s). rw (opened, le-leb streamCount s above))
+    (λ (below : s < streamCount). rw (opened, lt-leb streamCount s below, seen-below p s below, seen-reserved (streamAt p s)))
+    (le-or-lt streamCount s)
+
+-- another role is another queue
+pub role-apart : (p : List ℕ) (r s : ℕ) → r < queueCount → s < queueCount → (r ≡ s → ⊥) → roleAt p r ≡ roleAt p s → ⊥
+unfolding roleAt
+role-apart p r s a b apart e = apart (omega arith)
+
+pub role-same : (p q : List ℕ) (role : ℕ) → priorAt q ≡ priorAt p → roleAt q role ≡ roleAt p role
+unfolding roleAt
+role-same p q role e = ap (λ (n : ℕ). (n + role) % queueCount) e
+
+-- a role's frames are as they were where its queue is
+pub role-kept : (p q m : List ℕ) (role : ℕ) → priorAt q ≡ priorAt p → queueAt q (roleAt p role) ≡ queueAt p (roleAt p role) → inRole q m role ≡ inRole p m role
+role-kept p q m role prior queue = rw (role-same p q role prior, queue)
+
+-- the streams of a view with stream s changed
+abbrev pub changed : View → ℕ → Stream → ℕ → Stream
+changed v s x i = cond (eqb i s) x (v .stream i)
+
+pub changed-here : (v : View) (s : ℕ) (x : Stream) → changed v s x s ≡ x
+changed-here v s x = rw (eq-eqb s s refl)
+
+pub changed-else : (v : View) (s : ℕ) (x : Stream) (i : ℕ) → (i ≡ s → ⊥) → changed v s x i ≡ v .stream i
+changed-else v s x i o = rw (ne-eqb i s o)
+
+-- the record with a reserved stream written is seen so
+pub changed-seen : (p q : List ℕ) (v : View) (s : ℕ) (x : Stream) → s < streamCount → ((i : ℕ) → v .stream i ≡ seenAt p i) → streamAt q s ≡ x → x .reserved ≡ true
+    → ((i : ℕ) → i < streamCount → (i ≡ s → ⊥) → streamAt q i ≡ streamAt p i)
+    → (i : ℕ) → changed v s x i ≡ seenAt q i
+changed-seen p q v s x below streams here is others i =
+    ⊎-elim
+    (λ (e : i ≡ s). rw e (changed-here v s x ∙ sym (seen-below q s below ∙ ap seen here ∙ seen-as-is x is)))
+    (λ (o : i ≡ s → ⊥). changed-else v s x i o ∙ streams i ∙
+    ⊎-elim
+    (λ (above : streamCount ≤ i). seen-above p i above ∙ sym (seen-above q i above))
+    (λ (b : i < streamCount). seen-below p i b ∙ ap seen (sym (others i b o)) ∙ sym (seen-below q i b))
+    (le-or-lt streamCount i))
+    (eq-or-not i s)
+
+-- the record with the same streams is seen the same
+pub same-seen : (p q : List ℕ) (v : View) → ((i : ℕ) → v .stream i ≡ seenAt p i) → ((i : ℕ) → i < streamCount → streamAt q i ≡ streamAt p i)
+    → (i : ℕ) → v .stream i ≡ seenAt q i
+same-seen p q v streams same i =
+    streams i ∙
+    ⊎-elim
+    (λ (above : streamCount ≤ i). seen-above p i above ∙ sym (seen-above q i above))
+    (λ (b : i < streamCount). seen-below p i b ∙ ap seen (sym (same i b)) ∙ sym (seen-below q i b))
+    (le-or-lt streamCount i)

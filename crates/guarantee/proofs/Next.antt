@@ -1,0 +1,89 @@
+-- What is to be shown of each call on a port that holds a view, and the calls that are refused. Assumes nothing.
+use Prim.Native.Nat.{ℕ, _≤_, _<_}
+use mathlib.Core.Bool.{Bool, true, false, not, cond}
+use mathlib.Core.Path.{_≡_, refl, sym, ap}
+use mathlib.Core.Logic.{⊎-elim}
+use mathlib.Core.List.{List, []}
+use native.Mathlib.Omega.{arith}
+use lib.ListN.{length}
+use Rattle.lists.proofs.Order.{eq-or-not}
+use Rattle.stream.specs.declared.Reply.{Reply}
+use Rattle.stream.specs.State.{lastPlace}
+use Rattle.stream.specs.Replies.{refusedBy}
+use Rattle.queue.specs.Waiting.{waiting}
+use Rattle.record.specs.Layout.{queueCount, bestEffort, memoryLength}
+use Rattle.record.specs.Head.{queueAt}
+use Rattle.record.proofs.KeepLaws.{Keeps}
+use Rattle.ranges.specs.Ranges.{shareOf}
+use Rattle.fitness.specs.Fit.{lentRefusal}
+use Rattle.fitness.proofs.FitLaws.{fit-lent}
+use Rattle.steps.specs.Outcome.{Outcome, refused}
+use Rattle.gates.specs.Gated.{gated}
+use Rattle.gates.proofs.GateLaws.{grants, refuses}
+use Rattle.port_laws.specs.Lists.{Call, transmitting}
+use Rattle.guarantee.specs.Events.{Marked, Sent, reserved, bestEffort as sentBestEffort, none, sentBy}
+use Rattle.guarantee.specs.Claims.{replyOfSent}
+use Rattle.guarantee.proofs.Run.{View, Effect}
+use Rattle.guarantee.proofs.Tied.{Tied}
+use Rattle.guarantee.proofs.Held.{seenAt, inRole, Holds}
+
+-- record q, memory m and the memory k of the marked calls hold view w and best effort's frames, of a port that was p before
+pub record Moved (all : List Call) (p q m k : List ℕ) (w : View) (best : List Marked) : Type 0 where
+  pub keeps : Keeps p q
+  pub streams : (s : ℕ) → w .stream s ≡ seenAt q s
+  pub queues : (role : ℕ) → role < queueCount → Tied all reserved (inRole q m role) (inRole q k role) (w .queue role)
+  pub above : (role : ℕ) → queueCount ≤ role → w .queue role ≡ []
+  pub waits : Tied all sentBestEffort (waiting m bestEffort (queueAt q bestEffort)) (waiting k bestEffort (queueAt q bestEffort)) best
+
+-- what call number n leaves: o its outcome, u that of the marked call
+pub record Next (all : List Call) (n link : ℕ) (p m k : List ℕ) (v : View) (c : Call) (o u : Outcome) : Type 0 where
+  pub view : View
+  pub best : List Marked
+  pub effect : Effect lastPlace (shareOf link) n v view (o .reply) (sentBy all c (u .reply)) c
+  pub same : u .port ≡ o .port
+  pub long : length (o .memory) ≡ length m
+  pub long-marked : length (u .memory) ≡ length k
+  pub moved : Moved all p (o .port) (o .memory) (u .memory) view best
+  pub says : c ≡ transmitting → o .reply ≡ replyOfSent (sentBy all c (u .reply))
+  pub not-lent : o .reply .refusal < 18
+
+-- a record keeps what it has
+pub keeps-same : (p : List ℕ) → Keeps p p
+keeps-same p = record { long = refl; opened = refl; delay = refl; link = refl; bound = λ s. refl; vid = λ s. refl; pair = λ s. refl }
+
+-- a gate of numbers below 18 answers one
+pub gate-below : (b : Bool) (number rest : ℕ) → number < 18 → rest < 18 → cond b number rest < 18
+gate-below true number rest h i = h
+gate-below false number rest h i = i
+
+module _ (all : List Call) (n link : ℕ) (p m k : List ℕ) (v : View) (best : List Marked) (h : Holds all link p m k v best) where
+  -- where nothing changes
+  pub unmoved : Moved all p p m k v best
+  unmoved = record { keeps = keeps-same p; streams = h .streams; queues = h .queues; above = h .above; waits = h .waits }
+
+  pub next-refused : (g : ℕ) (c : Call) → g < 18 → (c ≡ transmitting → ⊥) → Effect lastPlace (shareOf link) n v v (refusedBy g) (sentBy all c (refusedBy g)) c
+      → Next all n link p m k v c (refused g p m) (refused g p k)
+  next-refused g c below other effect =
+      record {
+        view = v;
+        best = best;
+        effect = effect;
+        same = refl;
+        long = refl;
+        long-marked = refl;
+        moved = unmoved;
+        says = λ e. absurd (other e);
+        not-lent = below;
+      }
+
+  -- by a call's own refusals, since the port is fit in both memories
+  pub by-gate : (g : ℕ) (c : Call) (o u : Outcome)
+      → ((g ≡ 0 → ⊥) → Next all n link p m k v c (refused g p m) (refused g p k))
+      → (g ≡ 0 → Next all n link p m k v c o u)
+      → Next all n link p m k v c (gated (lentRefusal p m) p m (gated g p m o)) (gated (lentRefusal p k) p k (gated g p k u))
+  by-gate g c o u no-pass pass =
+      rw (grants (lentRefusal p m) p m (gated g p m o) (fit-lent p m (h .long) (h .fit)), grants (lentRefusal p k) p k (gated g p k u) (fit-lent p k (h .long-marked) (h .fit-marked)))
+      (⊎-elim
+      (λ (e : g ≡ 0). rw (grants g p m o e, grants g p k u e) (pass e))
+      (λ (z : g ≡ 0 → ⊥). rw (refuses g p m o z, refuses g p k u z) (no-pass z))
+      (eq-or-not g 0))

@@ -1,0 +1,310 @@
+-- Arrive on a port that holds a view: the frame joins its queue, which is never full, or is discarded, or the call is refused. Assumes nothing.
+use Prim.Native.Nat.{ℕ, _+_, _*_, _≤_, _<_}
+use mathlib.Core.Bool.{Bool, true, false, not, cond}
+use mathlib.Core.Path.{_≡_, refl, sym, ap, subst, _∙_}
+use mathlib.Core.Logic.{⊎-elim}
+use mathlib.Core.List.{List, [], _∷_, _++_}
+use native.Mathlib.Omega.{arith}
+use borrow.Author.Tests.{lt-leb, eq-eqb, ne-eqb}
+use lib.ListN.{length, getD, length-append}
+use lib.Dec.{leb, eqb}
+use Rattle.lists.proofs.Order.{eq-or-not}
+use Rattle.stream.specs.declared.Stream.{Stream}
+use Rattle.stream.specs.declared.Reply.{Reply}
+use Rattle.stream.specs.declared.Arrival.{Arrival}
+use Rattle.stream.specs.declared.Arrival.the-variants.{Joined, Discarded}
+use Rattle.stream.specs.State.{currentPlace, lastPlace, atPlace}
+use Rattle.stream.specs.Steps.{advanced, arriveOf}
+use Rattle.stream.specs.Replies.{granted, refusedBy, replyOf, streamOf}
+use Rattle.stream.proofs.ArriveLaws.{arrive-cases, joined-cases}
+use Rattle.queue.specs.declared.Frame.{Frame}
+use Rattle.queue.specs.declared.Queue.{Queue}
+use Rattle.queue.specs.Ring.{placeCount, joinedMemory, joinedQueue}
+use Rattle.queue.specs.Waiting.{waiting}
+use Rattle.queue.proofs.WaitingLaws.{joins, joins-elsewhere, joins-length, length-waiting}
+use Rattle.record.specs.Layout.{Whole, queueCount, bestEffort, streamCount, memoryLength}
+use Rattle.record.specs.Head.{openAt, priorAt, linkAt, queueAt, withQueue}
+use Rattle.record.specs.Entry.{streamAt, withPlace}
+use Rattle.record.proofs.HeadPairs.{queue-queue, other-queue, prior-queue, stream-queue}
+use Rattle.record.proofs.EntryPairs.{stream-place, other-place, prior-place, queue-place}
+use Rattle.record.proofs.KeepLaws.{keeps-both, keeps-queue, keeps-place}
+use Rattle.ranges.specs.Ranges.{leastCharge, greatestCharge, greatestShare, chargeFits, shareOf}
+use Rattle.ranges.proofs.RangeLaws.{within-bounds}
+use Rattle.fitness.proofs.FitLaws.{fit-record, fit-plan}
+use Rattle.steps.specs.Outcome.{Outcome, outcome, refused}
+use Rattle.steps.specs.Roles.{roleAt}
+use Rattle.steps.specs.Moves.{moved}
+use Rattle.steps.proofs.RoleLaws.{role-below}
+use Rattle.arriving.specs.Arriving.{arrived, arriveStep}
+use Rattle.gates.specs.Refusals.{arriveRefusal}
+use Rattle.gates.proofs.GateLaws.{arrive-allowed}
+use Rattle.port_laws.specs.Lists.{Call, arriving, ticking, transmitting, called}
+use Rattle.guarantee.specs.Events.{Marked, reserved, none, broughtBy, marked}
+use Rattle.guarantee.proofs.Run.{View, octets, ownRefusal, queueAfter, Effect, arrives, refuses-arrival}
+use Rattle.guarantee.proofs.Room.{Sound, octets-most, charged-length, stays-sound}
+use Rattle.guarantee.proofs.Delay.{joins-within}
+use Rattle.guarantee.proofs.Tied.{Tied, plain, numbered, tied-joins, tied-length}
+use Rattle.guarantee.proofs.Held.{Holds, inRole, seenAt, seen-below, seen-as-is, own-refusal, role-apart, role-same, role-kept, changed, changed-here, changed-else, changed-seen}
+use Rattle.guarantee.proofs.Next.{Moved, Next, gate-below, next-refused, by-gate}
+
+-- an arrival moves its stream and changes nothing else of it
+pub arrive-moves : (last : ℕ) (x : Stream) (a : ℕ) → atPlace x (streamOf (arriveOf last x a) .place) (streamOf (arriveOf last x a) .left) ≡ streamOf (arriveOf last x a)
+arrive-moves last x a =
+    arrive-cases last x a (λ z. atPlace x (streamOf z .place) (streamOf z .left) ≡ streamOf z)
+    (λ h. joined-cases last x a (λ z. atPlace x (streamOf z .place) (streamOf z .left) ≡ streamOf z) h (λ _. refl) (λ _ _. refl) (λ _ _. refl))
+    (λ h p q. joined-cases last (advanced x) a (λ z. atPlace x (streamOf z .place) (streamOf z .left) ≡ streamOf z) q (λ _. refl) (λ _ _. refl) (λ _ _. refl))
+    (λ h. refl)
+
+-- the step, where the frame joins a queue that has room, and where it is discarded
+module _ (p m : List ℕ) (s a tag : ℕ) where
+  step-joins : (place : ℕ) (next : Stream) → arriveOf lastPlace (streamAt p s) a ≡ Joined place next → queueAt p (roleAt p place) .count < placeCount
+      → arriveStep p m s a tag
+      ≡ outcome (granted place (next .left)) (withQueue (moved p s next) (roleAt p place) (joinedQueue (queueAt p (roleAt p place))))
+      (joinedMemory m (roleAt p place) (queueAt p (roleAt p place)) (record { stream = s; charge = a; tag = tag }))
+  unfolding arriveStep
+  step-joins place next e room =
+      ap (λ (z : Arrival). arrived p m s (record { stream = s; charge = a; tag = tag }) (replyOf z) z) e
+      ∙ rw (lt-leb placeCount (queueAt p (roleAt p place) .count) room)
+
+  step-discards : (spent : Stream) → arriveOf lastPlace (streamAt p s) a ≡ Discarded spent → arriveStep p m s a tag ≡ outcome (refusedBy 14) (moved p s spent) m
+  unfolding arriveStep
+  step-discards spent e = ap (λ (z : Arrival). arrived p m s (record { stream = s; charge = a; tag = tag }) (replyOf z) z) e
+
+-- the gate's numbers
+arrive-below : (p : List ℕ) (s a : ℕ) → arriveRefusal p s a < 18
+unfolding arriveRefusal
+arrive-below p s a =
+    let thirteen = gate-below (not (chargeFits a)) 13 0 (omega arith) (omega arith) in
+    let twelve = gate-below (not (streamAt p s .reserved)) 12 _ (omega arith) thirteen in
+    let five = gate-below (leb streamCount s) 5 _ (omega arith) twelve in
+    gate-below (not (openAt p)) 1 _ (omega arith) five
+
+-- the record where stream s has moved, and a frame has joined the queue of this number
+module _ (p : List ℕ) (s number : ℕ) (next : Stream) (whole : Whole p) (b : number < queueCount) where
+  abbrev joinedRecord : List ℕ
+  joinedRecord = withQueue (moved p s next) number (joinedQueue (queueAt p number))
+
+  moved-whole : Whole (moved p s next)
+  moved-whole = omega (arith, keeps-place p s (next .place) (next .left) .long)
+
+  joined-prior : priorAt joinedRecord ≡ priorAt p
+  joined-prior = prior-queue (moved p s next) number (joinedQueue (queueAt p number)) ∙ prior-place p s (next .place) (next .left)
+
+  joined-here : queueAt joinedRecord number ≡ joinedQueue (queueAt p number)
+  joined-here = queue-queue (moved p s next) number (joinedQueue (queueAt p number)) moved-whole (omega arith)
+
+  joined-other : (q : ℕ) → q ≤ bestEffort → (q ≡ number → ⊥) → queueAt joinedRecord q ≡ queueAt p q
+  joined-other q c o = other-queue (moved p s next) number (joinedQueue (queueAt p number)) q o ∙ queue-place p s (next .place) (next .left) q (omega arith)
+
+  joined-stream : (i : ℕ) → streamAt joinedRecord i ≡ streamAt (moved p s next) i
+  joined-stream i = stream-queue (moved p s next) number (joinedQueue (queueAt p number)) i (omega arith)
+
+-- the view after an arrival
+abbrev arrivedView : View → ℕ → Marked → Arrival → View
+arrivedView v s f z = record { queue = λ j. queueAfter j f z (v .queue j); stream = changed v s (streamOf z) }
+
+-- a queue that a frame joined, and the others
+after-here : (f : Marked) (place : ℕ) (x : Stream) (fs : List Marked) → queueAfter place f (Joined place x) fs ≡ fs ++ (f ∷ [])
+after-here f place x fs = rw (eq-eqb place place refl)
+
+after-else : (f : Marked) (j place : ℕ) (x : Stream) (fs : List Marked) → (j ≡ place → ⊥) → queueAfter j f (Joined place x) fs ≡ fs
+after-else f j place x fs o = rw (ne-eqb place j (λ e. o (sym e)))
+
+module _ (all : List Call) (n link : ℕ) (p m k : List ℕ) (v : View) (best : List Marked) (h : Holds all link p m k v best) (sound : Sound lastPlace (shareOf link) v)
+    (s a tag : ℕ) (here : getD all n ticking ≡ arriving s a tag) (free-of : arriveRefusal p s a ≡ 0) where
+  abbrev frame : Marked
+  frame = record { stream = s; charge = a; tag = tag; number = n }
+
+  abbrev held : Stream
+  held = streamAt p s
+
+  below : s < streamCount
+  below = arrive-allowed p s a free-of .stream
+
+  fits : chargeFits a ≡ true
+  fits = arrive-allowed p s a free-of .charge-fits
+
+  is-reserved : held .reserved ≡ true
+  is-reserved = arrive-allowed p s a free-of .reserved
+
+  whole : Whole p
+  whole = fit-record p m (h .fit) .long
+
+  -- the view has the stream as it is in the record
+  seen-held : v .stream s ≡ held
+  seen-held = h .streams s ∙ seen-below p s below ∙ seen-as-is held is-reserved
+
+  -- so the stream's rule answers alike, and the call does to the view what it does
+  arrival-effect : (z : Arrival) → arriveOf lastPlace held a ≡ z → Effect lastPlace (shareOf link) n v (arrivedView v s frame z) (replyOf z) none (arriving s a tag)
+  arrival-effect z e =
+      let rule : arriveOf lastPlace (v .stream s) a ≡ z = ap (λ (x : Stream). arriveOf lastPlace x a) seen-held ∙ e in
+      arrives refl
+      (record {
+        allowed = ap (λ (x : Stream). ownRefusal s x a) (h .streams s) ∙ sym (own-refusal p s a (h .opened)) ∙ free-of;
+        below = below;
+        is-reserved = ap (λ (x : Stream). x .reserved) seen-held ∙ is-reserved;
+        fits = fits;
+        reply = ap replyOf (sym rule);
+        queues = λ j. ap (λ (y : Arrival). queueAfter j frame y (v .queue j)) (sym rule);
+        streams = (changed-here v s (streamOf z) ∙ ap streamOf (sym rule), changed-else v s (streamOf z));
+      })
+
+  -- the share is at most the greatest
+  share-most : shareOf link ≤ greatestShare
+  share-most =
+      let plan = fit-plan p (h .opened) (fit-record p m (h .fit) .plan) in
+      omega (arith, within-bounds _ _ (linkAt p) (plan .link) .1, ap shareOf (h .octets))
+
+  module _ (place : ℕ) (next : Stream) (e : arriveOf lastPlace held a ≡ Joined place next) where
+    within-roles : place < queueCount
+    within-roles = omega (arith, joins-within lastPlace (v .stream s) a place next (sound .fit s) (ap (λ (x : Stream). arriveOf lastPlace x a) seen-held ∙ e))
+
+    -- no queue of the share's octets is full, so 20 is not met
+    room : queueAt p (roleAt p place) .count < placeCount
+    room =
+        let w = arrivedView v s frame (Joined place next) in
+        let later = stays-sound lastPlace (shareOf link) n v w (granted place (next .left)) none (arriving s a tag) (omega arith) (arrival-effect (Joined place next) e) sound in
+        let fs = v .queue place in
+        let joined : w .queue place ≡ fs ++ (frame ∷ []) = after-here frame place next fs in
+        omega (
+          arith,
+          octets-most lastPlace (shareOf link) w later place,
+          charged-length (w .queue place) (later .charged place),
+          share-most,
+          ap length joined,
+          length-append fs (frame ∷ []),
+          tied-length all reserved (inRole p m place) (inRole p k place) fs (h .queues place within-roles),
+          length-waiting m (roleAt p place) (queueAt p (roleAt p place)),
+        )
+
+    abbrev number : ℕ
+    number = roleAt p place
+
+    abbrev after : List ℕ
+    after = joinedRecord p s number next whole (role-below p place)
+
+    -- the frames of each role, in either memory
+    here-joins : (l : List ℕ) (f : Frame) → memoryLength ≤ length l → inRole after (joinedMemory l number (queueAt p number) f) place ≡ inRole p l place ++ (f ∷ [])
+    here-joins l f long =
+        rw (role-same p after place (joined-prior p s number next whole (role-below p place)), joined-here p s number next whole (role-below p place))
+        (joins l number (queueAt p number) f room (omega (arith, role-below p place)))
+
+    else-kept : (l : List ℕ) (f : Frame) (role : ℕ) → role < queueCount → (role ≡ place → ⊥)
+        → inRole after (joinedMemory l number (queueAt p number) f) role ≡ inRole p l role
+    else-kept l f role b o =
+        let apart = role-apart p role place b within-roles o in
+        role-kept p after (joinedMemory l number (queueAt p number) f) role (joined-prior p s number next whole (role-below p place))
+        (joined-other p s number next whole (role-below p place) (roleAt p role) (omega (arith, role-below p role)) apart)
+        ∙ joins-elsewhere l number (roleAt p role) (queueAt p number) (queueAt p (roleAt p role)) f apart
+
+    effort-kept : (l : List ℕ) (f : Frame)
+        → waiting (joinedMemory l number (queueAt p number) f) bestEffort (queueAt after bestEffort) ≡ waiting l bestEffort (queueAt p bestEffort)
+    effort-kept l f =
+        let apart : bestEffort ≡ number → ⊥ = λ z. omega (arith, role-below p place) in
+        ap (waiting (joinedMemory l number (queueAt p number) f) bestEffort) (joined-other p s number next whole (role-below p place) bestEffort (omega arith) apart)
+        ∙ joins-elsewhere l number bestEffort (queueAt p number) (queueAt p bestEffort) f apart
+
+    joined-queues : (role : ℕ) → role < queueCount
+        → Tied all reserved (inRole after (joinedMemory m number (queueAt p number) (plain frame)) role)
+        (inRole after (joinedMemory k number (queueAt p number) (numbered frame)) role)
+        (queueAfter role frame (Joined place next) (v .queue role))
+    joined-queues role b =
+        ⊎-elim
+        (λ (same : role ≡ place).
+        rw (same, here-joins m (plain frame) (h .long), here-joins k (numbered frame) (h .long-marked), after-here frame place next (v .queue place))
+        (tied-joins all reserved (inRole p m place) (inRole p k place) (v .queue place) frame (h .queues place within-roles) (ap (broughtBy n) here)))
+        (λ (o : role ≡ place → ⊥).
+        rw (else-kept m (plain frame) role b o, else-kept k (numbered frame) role b o, after-else frame role place next (v .queue role) o) (h .queues role b))
+        (eq-or-not role place)
+
+    -- the stream where its rule has moved it
+    next-held : atPlace held (next .place) (next .left) ≡ next
+    next-held = subst (λ (z : Arrival). atPlace held (streamOf z .place) (streamOf z .left) ≡ streamOf z) e (arrive-moves lastPlace held a)
+
+    next-reserved : next .reserved ≡ true
+    next-reserved = ap (λ (x : Stream). x .reserved) (sym next-held) ∙ is-reserved
+
+    joined-moved : Moved all p after (joinedMemory m number (queueAt p number) (plain frame)) (joinedMemory k number (queueAt p number) (numbered frame))
+        (arrivedView v s frame (Joined place next)) best
+    joined-moved =
+        record {
+          keeps = keeps-both p _ _ (keeps-place p s (next .place) (next .left)) (keeps-queue (moved p s next) number (joinedQueue (queueAt p number)) (omega (arith, role-below p place)));
+          streams =
+              changed-seen p after v s next below (h .streams)
+              (joined-stream p s number next whole (role-below p place) s ∙ stream-place p s (next .place) (next .left) whole below ∙ next-held)
+              next-reserved
+              (λ i c o. joined-stream p s number next whole (role-below p place) i ∙ other-place p s (next .place) (next .left) i o);
+          queues = joined-queues;
+          above = λ role c. after-else frame role place next (v .queue role) (λ z. omega (arith, within-roles)) ∙ h .above role c;
+          waits = rw (effort-kept m (plain frame), effort-kept k (numbered frame)) (h .waits);
+        }
+
+    joined-next : Next all n link p m k v (arriving s a tag) (arriveStep p m s a tag) (arriveStep p k s a n)
+    joined-next =
+        rw (step-joins p m s a tag place next e room, step-joins p k s a n place next e room)
+        (record {
+          view = arrivedView v s frame (Joined place next);
+          best = best;
+          effect = arrival-effect (Joined place next) e;
+          same = refl;
+          long = joins-length m number (queueAt p number) (plain frame);
+          long-marked = joins-length k number (queueAt p number) (numbered frame);
+          moved = joined-moved;
+          says = λ z. absurd (let y : _≡_ {A = ℕ} 0 1 = cc in omega arith);
+          not-lent = omega arith;
+        })
+
+  -- discarded: only the stream moves
+  module _ (spent : Stream) (e : arriveOf lastPlace held a ≡ Discarded spent) where
+    spent-held : atPlace held (spent .place) (spent .left) ≡ spent
+    spent-held = subst (λ (z : Arrival). atPlace held (streamOf z .place) (streamOf z .left) ≡ streamOf z) e (arrive-moves lastPlace held a)
+
+    spent-role : (l : List ℕ) (role : ℕ) → inRole (moved p s spent) l role ≡ inRole p l role
+    spent-role l role =
+        role-kept p (moved p s spent) l role (prior-place p s (spent .place) (spent .left))
+        (queue-place p s (spent .place) (spent .left) (roleAt p role) (omega (arith, role-below p role)))
+
+    discarded-next : Next all n link p m k v (arriving s a tag) (arriveStep p m s a tag) (arriveStep p k s a n)
+    discarded-next =
+        rw (step-discards p m s a tag spent e, step-discards p k s a n spent e)
+        (record {
+          view = arrivedView v s frame (Discarded spent);
+          best = best;
+          effect = arrival-effect (Discarded spent) e;
+          same = refl;
+          long = refl;
+          long-marked = refl;
+          moved =
+              record {
+                keeps = keeps-place p s (spent .place) (spent .left);
+                streams =
+                    changed-seen p (moved p s spent) v s spent below (h .streams) (stream-place p s (spent .place) (spent .left) whole below ∙ spent-held)
+                    (ap (λ (x : Stream). x .reserved) (sym spent-held) ∙ is-reserved)
+                    (λ i c o. other-place p s (spent .place) (spent .left) i o);
+                queues = λ role b. rw (spent-role m role, spent-role k role) (h .queues role b);
+                above = h .above;
+                waits = rw (queue-place p s (spent .place) (spent .left) bestEffort (omega arith)) (h .waits);
+              };
+          says = λ z. absurd (let y : _≡_ {A = ℕ} 0 1 = cc in omega arith);
+          not-lent = omega arith;
+        })
+
+  -- by what the stream's rule says
+  arrive-next : Next all n link p m k v (arriving s a tag) (arriveStep p m s a tag) (arriveStep p k s a n)
+  arrive-next = told (arriveOf lastPlace held a) refl
+    where
+      told : (z : Arrival) → arriveOf lastPlace held a ≡ z → Next all n link p m k v (arriving s a tag) (arriveStep p m s a tag) (arriveStep p k s a n)
+      told (Joined place next) e = joined-next place next e
+      told (Discarded spent) e = discarded-next spent e
+
+module _ (all : List Call) (n link : ℕ) (p m k : List ℕ) (v : View) (best : List Marked) (h : Holds all link p m k v best) (sound : Sound lastPlace (shareOf link) v) where
+  pub next-arrive : (s a tag : ℕ) → getD all n ticking ≡ arriving s a tag
+      → Next all n link p m k v (arriving s a tag) (called (arriving s a tag) p m) (called (marked n (arriving s a tag)) p k)
+  next-arrive s a tag here =
+      let own : arriveRefusal p s a ≡ ownRefusal s (v .stream s) a = own-refusal p s a (h .opened) ∙ ap (λ (x : Stream). ownRefusal s x a) (sym (h .streams s)) in
+      by-gate all n link p m k v best h (arriveRefusal p s a) (arriving s a tag) (arriveStep p m s a tag) (arriveStep p k s a n)
+      (λ z.
+      next-refused all n link p m k v best h (arriveRefusal p s a) (arriving s a tag) (arrive-below p s a)
+      (λ e. let y : _≡_ {A = ℕ} 0 1 = cc in omega arith)
+      (refuses-arrival refl (record { refused = λ e. z (own ∙ e); reply = ap refusedBy own; queues = λ j. refl; streams = λ j. refl })))
+      (arrive-next all n link p m k v best h sound s a tag here)

@@ -1,0 +1,118 @@
+-- Best effort on a port that holds a view, granted or refused. Assumes nothing.
+use Prim.Native.Nat.{ℕ, _+_, _≤_, _<_}
+use mathlib.Core.Bool.{Bool, true, false, not, cond}
+use mathlib.Core.Path.{_≡_, refl, sym, ap, _∙_}
+use mathlib.Core.List.{List, [], _∷_, _++_}
+use native.Mathlib.Omega.{arith}
+use lib.ListN.{length, getD}
+use lib.Dec.{leb, ltb}
+use Rattle.stream.specs.State.{lastPlace}
+use Rattle.queue.specs.declared.Frame.{Frame}
+use Rattle.queue.specs.declared.Queue.{Queue}
+use Rattle.queue.specs.Ring.{placeCount, joinedMemory, joinedQueue}
+use Rattle.queue.specs.Waiting.{waiting}
+use Rattle.queue.proofs.WaitingLaws.{joins, joins-elsewhere, joins-length}
+use Rattle.record.specs.Layout.{Whole, bestEffort, memoryLength}
+use Rattle.record.specs.Head.{openAt, priorAt, waitsAt, withWaits, queueAt, withQueue}
+use Rattle.record.specs.Entry.{streamAt}
+use Rattle.record.proofs.HeadPairs.{queue-waits, prior-waits, stream-waits, queue-queue, other-queue, prior-queue, stream-queue}
+use Rattle.record.proofs.KeepLaws.{keeps-both, keeps-queue, keeps-waits}
+use Rattle.ranges.specs.Ranges.{chargeFits}
+use Rattle.fitness.specs.Clauses.{bestEffortStream}
+use Rattle.fitness.proofs.FitLaws.{fit-record}
+use Rattle.steps.specs.Roles.{roleAt}
+use Rattle.steps.proofs.RoleLaws.{role-below}
+use Rattle.best_effort.specs.BestEffort.{bestEffortFrame, bestEffortStep}
+use Rattle.gates.specs.Refusals.{bestEffortLimit, bestEffortRefusal}
+use Rattle.gates.proofs.GateLaws.{best-effort-allowed}
+use Rattle.port_laws.specs.Lists.{Call, ticking, transmitting, joiningBestEffort, called}
+use Rattle.guarantee.specs.Events.{Marked, bestEffort as sentBestEffort, broughtBy, marked}
+use Rattle.guarantee.proofs.Run.{View, quiet}
+use Rattle.guarantee.proofs.Tied.{Tied, tied-joins}
+use Rattle.guarantee.proofs.Held.{Holds, inRole, role-kept, same-seen}
+use Rattle.guarantee.proofs.Next.{Next, gate-below, next-refused, by-gate}
+
+effort-below : (p : List ℕ) (charge : ℕ) → bestEffortRefusal p charge < 18
+unfolding bestEffortRefusal
+effort-below p charge =
+    let sixteen = gate-below (ltb (bestEffortLimit p) (waitsAt p + charge)) 16 0 (omega arith) (omega arith) in
+    let fifteen = gate-below (leb placeCount (queueAt p bestEffort .count)) 15 _ (omega arith) sixteen in
+    let thirteen = gate-below (not (chargeFits charge)) 13 _ (omega arith) fifteen in
+    gate-below (not (openAt p)) 1 _ (omega arith) thirteen
+
+-- the record after the step
+abbrev effortRecord : List ℕ → ℕ → List ℕ
+effortRecord p a = withWaits (withQueue p bestEffort (joinedQueue (queueAt p bestEffort))) (waitsAt p + a)
+
+module _ (p : List ℕ) (a : ℕ) where
+  effort-prior : priorAt (effortRecord p a) ≡ priorAt p
+  effort-prior = prior-waits (withQueue p bestEffort (joinedQueue (queueAt p bestEffort))) (waitsAt p + a) ∙ prior-queue p bestEffort (joinedQueue (queueAt p bestEffort))
+
+  effort-other : (q : ℕ) → (q ≡ bestEffort → ⊥) → queueAt (effortRecord p a) q ≡ queueAt p q
+  effort-other q o =
+      queue-waits (withQueue p bestEffort (joinedQueue (queueAt p bestEffort))) (waitsAt p + a) q ∙ other-queue p bestEffort (joinedQueue (queueAt p bestEffort)) q o
+
+  effort-queue : Whole p → queueAt (effortRecord p a) bestEffort ≡ joinedQueue (queueAt p bestEffort)
+  effort-queue whole =
+      queue-waits (withQueue p bestEffort (joinedQueue (queueAt p bestEffort))) (waitsAt p + a) bestEffort
+      ∙ queue-queue p bestEffort (joinedQueue (queueAt p bestEffort)) whole (omega arith)
+
+  effort-stream : (s : ℕ) → streamAt (effortRecord p a) s ≡ streamAt p s
+  effort-stream s =
+      stream-waits (withQueue p bestEffort (joinedQueue (queueAt p bestEffort))) (waitsAt p + a) s
+      ∙ stream-queue p bestEffort (joinedQueue (queueAt p bestEffort)) s (omega arith)
+
+  -- a role's frames stay, whatever frame joins best effort
+  effort-role : (m : List ℕ) (f : Frame) (role : ℕ) → inRole (effortRecord p a) (joinedMemory m bestEffort (queueAt p bestEffort) f) role ≡ inRole p m role
+  effort-role m f role =
+      let apart : roleAt p role ≡ bestEffort → ⊥ = λ e. omega (arith, role-below p role) in
+      role-kept p (effortRecord p a) (joinedMemory m bestEffort (queueAt p bestEffort) f) role effort-prior (effort-other (roleAt p role) apart)
+      ∙ joins-elsewhere m bestEffort (roleAt p role) (queueAt p bestEffort) (queueAt p (roleAt p role)) f apart
+
+  -- and the frame is the last in best effort
+  effort-joins : (m : List ℕ) (f : Frame) → Whole p → memoryLength ≤ length m → queueAt p bestEffort .count < placeCount
+      → waiting (joinedMemory m bestEffort (queueAt p bestEffort) f) bestEffort (queueAt (effortRecord p a) bestEffort)
+      ≡ waiting m bestEffort (queueAt p bestEffort) ++ (f ∷ [])
+  effort-joins m f whole long room =
+      ap (waiting (joinedMemory m bestEffort (queueAt p bestEffort) f) bestEffort) (effort-queue whole)
+      ∙ joins m bestEffort (queueAt p bestEffort) f room (omega arith)
+
+module _ (all : List Call) (n link : ℕ) (p m k : List ℕ) (v : View) (best : List Marked) (h : Holds all link p m k v best) where
+  effort-next : (a tag : ℕ) → getD all n ticking ≡ joiningBestEffort a tag → bestEffortRefusal p a ≡ 0
+      → Next all n link p m k v (joiningBestEffort a tag) (bestEffortStep p m a tag) (bestEffortStep p k a n)
+  unfolding bestEffortStep
+  effort-next a tag here e =
+      let d = best-effort-allowed p a e in
+      let x = queueAt p bestEffort in
+      let f : Marked = record { stream = bestEffortStream; charge = a; tag = tag; number = n } in
+      let whole = fit-record p m (h .fit) .long in
+      record {
+        view = v;
+        best = best ++ (f ∷ []);
+        effect = quiet tt refl (λ j. refl) (λ j. refl);
+        same = refl;
+        long = joins-length m bestEffort x (bestEffortFrame a tag);
+        long-marked = joins-length k bestEffort x (bestEffortFrame a n);
+        moved =
+            record {
+              keeps = keeps-both p _ _ (keeps-queue p bestEffort (joinedQueue x) (omega arith)) (keeps-waits (withQueue p bestEffort (joinedQueue x)) (waitsAt p + a));
+              streams = same-seen p (effortRecord p a) v (h .streams) (λ i b. effort-stream p a i);
+              queues = λ role b. rw (effort-role p a m (bestEffortFrame a tag) role, effort-role p a k (bestEffortFrame a n) role) (h .queues role b);
+              above = h .above;
+              waits =
+                  rw (effort-joins p a m (bestEffortFrame a tag) whole (h .long) (d .free), effort-joins p a k (bestEffortFrame a n) whole (h .long-marked) (d .free))
+                  (tied-joins all sentBestEffort (waiting m bestEffort x) (waiting k bestEffort x) best f (h .waits) (ap (broughtBy n) here));
+            };
+        says = λ z. absurd (let y : _≡_ {A = ℕ} 0 1 = cc in omega arith);
+        not-lent = omega arith;
+      }
+
+  pub next-best-effort : (a tag : ℕ) → getD all n ticking ≡ joiningBestEffort a tag
+      → Next all n link p m k v (joiningBestEffort a tag) (called (joiningBestEffort a tag) p m) (called (marked n (joiningBestEffort a tag)) p k)
+  next-best-effort a tag here =
+      by-gate all n link p m k v best h (bestEffortRefusal p a) (joiningBestEffort a tag) (bestEffortStep p m a tag) (bestEffortStep p k a n)
+      (λ z.
+      next-refused all n link p m k v best h (bestEffortRefusal p a) (joiningBestEffort a tag) (effort-below p a)
+      (λ e. let y : _≡_ {A = ℕ} 0 1 = cc in omega arith)
+      (quiet tt refl (λ j. refl) (λ j. refl)))
+      (effort-next a tag here)

@@ -1,0 +1,105 @@
+-- Reserve on a port that holds a view, granted or refused; and Open, which an open port refuses. Assumes nothing.
+use Prim.Native.Nat.{ℕ, _+_, _≤_, _<_}
+use mathlib.Core.Bool.{Bool, true, false, not, cond}
+use mathlib.Core.Path.{_≡_, refl, sym, ap, _∙_}
+use mathlib.Core.List.{List}
+use native.Mathlib.Omega.{arith}
+use lib.Dec.{leb, ltb, eqb}
+use Rattle.stream.specs.declared.Stream.{Stream}
+use Rattle.stream.specs.State.{lastPlace, reserveOf}
+use Rattle.stream.specs.Replies.{refusedBy}
+use Rattle.queue.specs.Waiting.{waiting}
+use Rattle.record.specs.Layout.{queueCount, bestEffort, allQueues, streamCount}
+use Rattle.record.specs.Head.{openAt, linkAt, queueAt}
+use Rattle.record.specs.Entry.{streamAt, withStream}
+use Rattle.record.proofs.EntryPairs.{stream-stream, other-stream, prior-stream, queue-stream}
+use Rattle.record.proofs.KeepLaws.{keeps-stream}
+use Rattle.ranges.specs.Ranges.{shareOf, linkFits, delayFits, permittedFits}
+use Rattle.fitness.specs.Clauses.{permittedSum}
+use Rattle.fitness.proofs.FitLaws.{fit-record}
+use Rattle.steps.specs.Roles.{roleAt}
+use Rattle.steps.proofs.RoleLaws.{role-below}
+use Rattle.opening.specs.Opening.{openStep, reserveStep}
+use Rattle.gates.specs.Refusals.{openRefusal, reserveRefusal}
+use Rattle.gates.proofs.GateLaws.{reserve-allowed}
+use Rattle.port_laws.specs.Lists.{Call, opening, reserving, transmitting, called}
+use Rattle.guarantee.specs.Events.{Marked, marked}
+use Rattle.guarantee.proofs.Run.{View, free, quiet, refuses-reservation, reserves}
+use Rattle.guarantee.proofs.Held.{seenAt, Holds, seen-below, seen-free, seen-sum, role-kept, changed, changed-here, changed-else, changed-seen}
+use Rattle.guarantee.proofs.Next.{Next, gate-below, next-refused, by-gate}
+
+-- the gates' numbers
+reserve-below : (p : List ℕ) (s permitted : ℕ) → reserveRefusal p s permitted < 18
+unfolding reserveRefusal
+reserve-below p s permitted =
+    let eight = gate-below (ltb (shareOf (linkAt p)) (permittedSum p + permitted)) 8 0 (omega arith) (omega arith) in
+    let seven = gate-below (not (permittedFits permitted)) 7 _ (omega arith) eight in
+    let six = gate-below (streamAt p s .reserved) 6 _ (omega arith) seven in
+    let five = gate-below (leb streamCount s) 5 _ (omega arith) six in
+    gate-below (not (openAt p)) 1 _ (omega arith) five
+
+open-taken : (p : List ℕ) (link delay : ℕ) → openAt p ≡ true → openRefusal p link delay ≡ 2
+unfolding openRefusal
+open-taken p link delay opened = rw opened
+
+module _ (all : List Call) (n link : ℕ) (p m k : List ℕ) (v : View) (best : List Marked) (h : Holds all link p m k v best) where
+  -- Reserve, granted
+  reserve-next : (s permitted : ℕ) → reserveRefusal p s permitted ≡ 0
+      → Next all n link p m k v (reserving s permitted) (reserveStep p m s permitted) (reserveStep p k s permitted)
+  reserve-next s permitted e =
+      let a = reserve-allowed p s permitted e in
+      let q = withStream p s (reserveOf permitted) in
+      let whole = fit-record p m (h .fit) .long in
+      let w : View = record { queue = v .queue; stream = changed v s (reserveOf permitted) } in
+      record {
+        view = w;
+        best = best;
+        effect =
+            reserves {permitted = permitted} refl
+            (record {
+              accepted = refl;
+              below = a .stream;
+              was-free = h .streams s ∙ seen-below p s (a .stream) ∙ seen-free (streamAt p s) (a .free);
+              within-share = omega (arith, a .share, seen-sum p v (h .streams), ap shareOf (h .octets));
+              queues = λ j. refl;
+              streams = (changed-here v s (reserveOf permitted), changed-else v s (reserveOf permitted));
+            });
+        same = refl;
+        long = refl;
+        long-marked = refl;
+        moved =
+            record {
+              keeps = keeps-stream p s (reserveOf permitted);
+              streams =
+                  changed-seen p q v s (reserveOf permitted) (a .stream) (h .streams) (stream-stream p s (reserveOf permitted) whole (a .stream)) refl
+                  (λ i b o. other-stream p s (reserveOf permitted) i o);
+              queues = λ role b.
+                  let there = queue-stream p s (reserveOf permitted) (roleAt p role) (omega (arith, role-below p role)) in
+                  rw (role-kept p q m role (prior-stream p s (reserveOf permitted)) there, role-kept p q k role (prior-stream p s (reserveOf permitted)) there)
+                  (h .queues role b);
+              above = h .above;
+              waits = rw (queue-stream p s (reserveOf permitted) bestEffort (omega arith)) (h .waits);
+            };
+        says = λ z. absurd (let y : _≡_ {A = ℕ} 0 1 = cc in omega arith);
+        not-lent = omega arith;
+      }
+
+  pub next-reserve : (s permitted : ℕ) → Next all n link p m k v (reserving s permitted) (called (reserving s permitted) p m) (called (marked n (reserving s permitted)) p k)
+  next-reserve s permitted =
+      by-gate all n link p m k v best h (reserveRefusal p s permitted) (reserving s permitted) (reserveStep p m s permitted) (reserveStep p k s permitted)
+      (λ z.
+      next-refused all n link p m k v best h (reserveRefusal p s permitted) (reserving s permitted) (reserve-below p s permitted)
+      (λ e. let y : _≡_ {A = ℕ} 0 1 = cc in omega arith)
+      (refuses-reservation z refl (λ j. refl) (λ j. refl)))
+      (reserve-next s permitted)
+
+  -- Open, refused
+  pub next-open : (l d : ℕ) → Next all n link p m k v (opening l d) (called (opening l d) p m) (called (marked n (opening l d)) p k)
+  next-open l d =
+      let two = open-taken p l d (h .opened) in
+      by-gate all n link p m k v best h (openRefusal p l d) (opening l d) (openStep p m l d) (openStep p k l d)
+      (λ z.
+      next-refused all n link p m k v best h (openRefusal p l d) (opening l d) (omega (arith, two))
+      (λ e. let y : _≡_ {A = ℕ} 0 1 = cc in omega arith)
+      (quiet tt refl (λ j. refl) (λ j. refl)))
+      (λ z. absurd (omega (arith, two)))

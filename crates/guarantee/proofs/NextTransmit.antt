@@ -1,0 +1,241 @@
+-- Transmit on a port that holds a view: it sends the oldest frame of prior, of current or of best effort, or nothing. Assumes nothing.
+use Prim.Native.Nat.{ℕ, zero, suc, _+_, _-_, _≤_, _<_}
+use mathlib.Core.Bool.{Bool, true, false, cond}
+use mathlib.Core.Path.{_≡_, refl, sym, ap, ap₂, subst, _∙_}
+use mathlib.Core.Logic.{⊎-elim}
+use mathlib.Core.List.{List, [], _∷_, _++_}
+use native.Mathlib.Omega.{arith}
+use borrow.Author.Tests.{eq-eqb, ne-eqb}
+use lib.ListN.{length, getD}
+use lib.Dec.{eqb}
+use Rattle.lists.proofs.Order.{eq-or-not}
+use Rattle.stream.specs.declared.Reply.{Reply}
+use Rattle.stream.specs.State.{lastPlace}
+use Rattle.stream.specs.Replies.{granted}
+use Rattle.queue.specs.declared.Frame.{Frame}
+use Rattle.queue.specs.declared.Queue.{Queue}
+use Rattle.queue.specs.Ring.{frontOf, sentQueue}
+use Rattle.queue.specs.Waiting.{waiting}
+use Rattle.queue.proofs.WaitingLaws.{sends, length-waiting}
+use Rattle.record.specs.Layout.{Whole, queueCount, bestEffort, queueRoom, streamCount}
+use Rattle.record.specs.Head.{priorAt, waitsAt, withWaits, queueAt, withQueue}
+use Rattle.record.specs.Entry.{streamAt}
+use Rattle.record.proofs.HeadPairs.{queue-waits, prior-waits, stream-waits, queue-queue, other-queue, prior-queue, stream-queue}
+use Rattle.record.proofs.KeepLaws.{Keeps, keeps-both, keeps-queue, keeps-waits}
+use Rattle.fitness.proofs.FitLaws.{fit-record}
+use Rattle.steps.specs.Outcome.{Outcome, outcome}
+use Rattle.steps.specs.Roles.{roleAt, priorRole, currentRole}
+use Rattle.steps.proofs.RoleLaws.{role-below}
+use Rattle.sending.specs.Sending.{sent, sentBestEffort, nothing, transmitStep}
+use Rattle.sending.proofs.SendLaws.{sends-prior, sends-current, sends-best-effort, sends-nothing}
+use Rattle.gates.specs.Refusals.{closedRefusal}
+use Rattle.port_laws.specs.Lists.{Call, ticking, transmitting, called}
+use Rattle.guarantee.specs.Events.{Marked, Sent, reserved, bestEffort as bestEffortFrame, none, broughtBy, sentBy, marked}
+use Rattle.guarantee.specs.Claims.{isReserved, replyOfSent}
+use Rattle.guarantee.proofs.Run.{View, sends as sends-frame, idles}
+use Rattle.guarantee.proofs.Tied.{Tied, Oldest, oldest, tied-length}
+use Rattle.guarantee.proofs.Held.{Holds, inRole, role-apart, role-same, role-kept, same-seen}
+use Rattle.guarantee.proofs.Next.{Moved, Next, unmoved, by-gate}
+use Rattle.guarantee.proofs.NextTick.{closed-not}
+
+-- a list without length is empty
+none-long : (fs : List Marked) → length fs ≡ 0 → fs ≡ []
+none-long [] e = refl
+none-long (f ∷ fs) e = absurd (omega arith)
+
+module _ (all : List Call) (n link : ℕ) (p m k : List ℕ) (v : View) (best : List Marked) (h : Holds all link p m k v best) where
+  whole : Whole p
+  whole = fit-record p m (h .fit) .long
+
+  -- no frame waits in a role whose queue counts none
+  role-empty : (role : ℕ) → role < queueCount → queueAt p (roleAt p role) .count ≡ 0 → v .queue role ≡ []
+  role-empty role b zero-count =
+      none-long (v .queue role)
+      (sym (tied-length all reserved (inRole p m role) (inRole p k role) (v .queue role) (h .queues role b))
+      ∙ length-waiting m (roleAt p role) (queueAt p (roleAt p role))
+      ∙ zero-count)
+
+  -- the oldest frame in a queue that counts some, in both memories
+  first-of : (kind : Marked → Sent) (number : ℕ) (x : Queue) (fs : List Marked) → Tied all kind (waiting m number x) (waiting k number x) fs → (x .count ≡ 0 → ⊥)
+      → Oldest all kind (frontOf m number x) (frontOf k number x) (waiting m number (sentQueue x)) (waiting k number (sentQueue x)) fs
+  first-of kind number x fs tied some =
+      oldest all kind (frontOf m number x) (frontOf k number x) (waiting m number (sentQueue x)) (waiting k number (sentQueue x)) fs
+      (rw (sends m number x (omega arith), sends k number x (omega arith)) at tied)
+
+  -- the marked call names the frame's call
+  names : (kind : Marked → Sent) (number : ℕ) (x : Queue) (fs : List Marked)
+      (o : Oldest all kind (frontOf m number x) (frontOf k number x) (waiting m number (sentQueue x)) (waiting k number (sentQueue x)) fs)
+      → broughtBy (frontOf k number x .tag) (getD all (frontOf k number x .tag) ticking) ≡ kind (o .first)
+  names kind number x fs o = ap (λ (g : Frame). broughtBy (g .tag) (getD all (g .tag) ticking)) (o .shown) ∙ o .known
+
+  -- a reserved frame is sent from a role
+  module _ (role : ℕ) (b : role < queueCount) (some : queueAt p (roleAt p role) .count ≡ 0 → ⊥) (earlier : (j : ℕ) → j < role → v .queue j ≡ []) where
+    abbrev number : ℕ
+    number = roleAt p role
+
+    abbrev there : Queue
+    there = queueAt p number
+
+    abbrev after : List ℕ
+    after = withQueue p number (sentQueue there)
+
+    front : Oldest all reserved (frontOf m number there) (frontOf k number there) (waiting m number (sentQueue there)) (waiting k number (sentQueue there)) (v .queue role)
+    front = first-of reserved number there (v .queue role) (h .queues role b) some
+
+    abbrev sentView : View
+    sentView = record { queue = λ j. cond (eqb j role) (front .others) (v .queue j); stream = v .stream }
+
+    sent-here : sentView .queue role ≡ front .others
+    sent-here = rw (eq-eqb role role refl)
+
+    sent-else : (j : ℕ) → (j ≡ role → ⊥) → sentView .queue j ≡ v .queue j
+    sent-else j o = rw (ne-eqb j role o)
+
+    number-below : number < queueRoom
+    number-below = omega (arith, role-below p role)
+
+    after-here : (l : List ℕ) → inRole after l role ≡ waiting l number (sentQueue there)
+    after-here l = rw (role-same p after role (prior-queue p number (sentQueue there)), queue-queue p number (sentQueue there) whole number-below)
+
+    after-else : (l : List ℕ) (j : ℕ) → j < queueCount → (j ≡ role → ⊥) → inRole after l j ≡ inRole p l j
+    after-else l j c o =
+        role-kept p after l j (prior-queue p number (sentQueue there)) (other-queue p number (sentQueue there) (roleAt p j) (role-apart p j role c b o))
+
+    sent-queues : (j : ℕ) → j < queueCount → Tied all reserved (inRole after m j) (inRole after k j) (sentView .queue j)
+    sent-queues j c =
+        ⊎-elim
+        (λ (e : j ≡ role). rw (e, after-here m, after-here k, sent-here) (front .rest))
+        (λ (o : j ≡ role → ⊥). rw (after-else m j c o, after-else k j c o, sent-else j o) (h .queues j c))
+        (eq-or-not j role)
+
+    sent-next : Next all n link p m k v transmitting (sent p m number there) (sent p k number there)
+    sent-next =
+        let f = front .first in
+        let sends-it = names reserved number there (v .queue role) front in
+        let reply : granted (frontOf m number there .stream) (frontOf m number there .tag) ≡ granted (f .stream) (f .tag) =
+        ap (λ (g : Frame). granted (g .stream) (g .tag)) (front .real) in
+        record {
+          view = sentView;
+          best = best;
+          effect =
+              sends-frame role f (front .others)
+              (record {
+                waiting = front .split;
+                earlier = earlier;
+                sent = sends-it;
+                reply = reply;
+                queues = (sent-here, sent-else);
+                streams = λ s. refl;
+              });
+          same = refl;
+          long = refl;
+          long-marked = refl;
+          moved =
+              record {
+                keeps = keeps-queue p number (sentQueue there) number-below;
+                streams = same-seen p after v (h .streams) (λ i c. stream-queue p number (sentQueue there) i number-below);
+                queues = sent-queues;
+                above = λ j c. sent-else j (λ e. omega arith) ∙ h .above j c;
+                waits = rw (other-queue p number (sentQueue there) bestEffort (λ e. omega (arith, role-below p role))) (h .waits);
+              };
+          says = λ z. reply ∙ sym (ap replyOfSent sends-it);
+          not-lent = omega arith;
+        }
+
+  -- a frame of best effort is sent
+  module _ (some : queueAt p bestEffort .count ≡ 0 → ⊥) (prior-empty : v .queue 0 ≡ []) where
+    abbrev waitingThere : Queue
+    waitingThere = queueAt p bestEffort
+
+    abbrev cut : List ℕ
+    cut = withQueue p bestEffort (sentQueue waitingThere)
+
+    oldest-there : Oldest all bestEffortFrame (frontOf m bestEffort waitingThere) (frontOf k bestEffort waitingThere) (waiting m bestEffort (sentQueue waitingThere))
+        (waiting k bestEffort (sentQueue waitingThere)) best
+    oldest-there = first-of bestEffortFrame bestEffort waitingThere best (h .waits) some
+
+    -- the charge is the same in both memories
+    same-charge : frontOf k bestEffort waitingThere .charge ≡ frontOf m bestEffort waitingThere .charge
+    same-charge = ap (λ (g : Frame). g .charge) (oldest-there .shown) ∙ sym (ap (λ (g : Frame). g .charge) (oldest-there .real))
+
+    effort-role : (octets : ℕ) (l : List ℕ) (role : ℕ) → inRole (withWaits cut octets) l role ≡ inRole p l role
+    effort-role octets l role =
+        role-kept p (withWaits cut octets) l role (prior-waits cut octets ∙ prior-queue p bestEffort (sentQueue waitingThere))
+        (queue-waits cut octets (roleAt p role) ∙ other-queue p bestEffort (sentQueue waitingThere) (roleAt p role) (λ e. omega (arith, role-below p role)))
+
+    effort-here : (octets : ℕ) → queueAt (withWaits cut octets) bestEffort ≡ sentQueue waitingThere
+    effort-here octets = queue-waits cut octets bestEffort ∙ queue-queue p bestEffort (sentQueue waitingThere) whole (omega arith)
+
+    effort-next : Next all n link p m k v transmitting (sentBestEffort p m waitingThere) (sentBestEffort p k waitingThere)
+    effort-next =
+        let f = oldest-there .first in
+        let octets = waitsAt p - frontOf m bestEffort waitingThere .charge in
+        let sends-it = names bestEffortFrame bestEffort waitingThere best oldest-there in
+        record {
+          view = v;
+          best = oldest-there .others;
+          effect = idles prior-empty (ap isReserved sends-it) (λ j. refl) (λ s. refl);
+          same = ap (λ (charge : ℕ). withWaits cut (waitsAt p - charge)) same-charge;
+          long = refl;
+          long-marked = refl;
+          moved =
+              record {
+                keeps = keeps-both p _ _ (keeps-queue p bestEffort (sentQueue waitingThere) (omega arith)) (keeps-waits cut octets);
+                streams =
+                    same-seen p (withWaits cut octets) v (h .streams)
+                    (λ i c. stream-waits cut octets i ∙ stream-queue p bestEffort (sentQueue waitingThere) i (omega arith));
+                queues = λ role b. rw (effort-role octets m role, effort-role octets k role) (h .queues role b);
+                above = h .above;
+                waits = rw (effort-here octets) (oldest-there .rest);
+              };
+          says = λ z. ap (λ (g : Frame). granted (g .stream) (g .tag)) (oldest-there .real) ∙ sym (ap replyOfSent sends-it);
+          not-lent = omega arith;
+        }
+
+  module _ (first : broughtBy 0 (getD all 0 ticking) ≡ none) where
+    -- nothing is sent
+    nothing-next : v .queue 0 ≡ [] → Next all n link p m k v transmitting (outcome (granted nothing 0) p m) (outcome (granted nothing 0) p k)
+    nothing-next prior-empty =
+        record {
+          view = v;
+          best = best;
+          effect = idles prior-empty (ap isReserved first) (λ j. refl) (λ s. refl);
+          same = refl;
+          long = refl;
+          long-marked = refl;
+          moved = unmoved all n link p m k v best h;
+          says = λ z. sym (ap replyOfSent first);
+          not-lent = omega arith;
+        }
+
+    -- by which queue has a frame
+    transmit-next : Next all n link p m k v transmitting (transmitStep p m) (transmitStep p k)
+    unfolding transmitStep
+    transmit-next =
+        let prior = roleAt p priorRole in
+        let current = roleAt p currentRole in
+        let a = queueAt p prior in
+        let b = queueAt p current in
+        let c = queueAt p bestEffort in
+        ⊎-elim
+        (λ (i : a .count ≡ 0).
+        let prior-empty = role-empty priorRole (omega arith) i in
+        ⊎-elim
+        (λ (j : b .count ≡ 0).
+        ⊎-elim
+        (λ (z : c .count ≡ 0). rw (sends-nothing p m prior current a b c i j z, sends-nothing p k prior current a b c i j z) (nothing-next prior-empty))
+        (λ (z : c .count ≡ 0 → ⊥).
+        rw (sends-best-effort p m prior current a b c i j z, sends-best-effort p k prior current a b c i j z) (effort-next z prior-empty))
+        (eq-or-not (c .count) 0))
+        (λ (j : b .count ≡ 0 → ⊥).
+        rw (sends-current p m prior current a b c i j, sends-current p k prior current a b c i j)
+        (sent-next currentRole (omega arith) j (λ role z. subst (λ (y : ℕ). v .queue y ≡ []) (omega arith) prior-empty)))
+        (eq-or-not (b .count) 0))
+        (λ (i : a .count ≡ 0 → ⊥).
+        rw (sends-prior p m prior current a b c i, sends-prior p k prior current a b c i) (sent-next priorRole (omega arith) i (λ role z. absurd (omega arith))))
+        (eq-or-not (a .count) 0)
+
+    pub next-transmit : Next all n link p m k v transmitting (called transmitting p m) (called (marked n transmitting) p k)
+    next-transmit =
+        by-gate all n link p m k v best h (closedRefusal p) transmitting (transmitStep p m) (transmitStep p k) (λ z. absurd (z (closed-not p (h .opened))))
+        (λ z. transmit-next)

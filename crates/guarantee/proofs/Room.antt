@@ -1,0 +1,181 @@
+-- What can wait in a queue: no more than the streams have used of it, so never more than the share. Assumes nothing.
+use Prim.Native.Nat.{ℕ, zero, suc, _+_, _*_, _-_, _≤_, _<_}
+use mathlib.Core.Bool.{Bool, true, false, not, cond}
+use mathlib.Core.Path.{_≡_, refl, sym, ap, subst, _∙_}
+use mathlib.Core.Logic.{⊎-elim}
+use mathlib.Core.List.{List, [], _∷_, _++_}
+use native.Mathlib.Omega.{arith}
+use lib.ListN.{length}
+use lib.Dec.{leb, eqb}
+use borrow.Author.Tests.{eq-eqb, ne-eqb}
+use Rattle.lists.specs.Turns.{sumTo, sumOf}
+use Rattle.lists.proofs.TurnLaws.{sumTo-same, sumTo-change, sumOf-snoc}
+use Rattle.lists.proofs.Order.{eq-or-not}
+use Rattle.stream.specs.declared.Stream.{Stream}
+use Rattle.stream.specs.declared.Reply.{Reply}
+use Rattle.stream.specs.declared.Arrival.{Arrival}
+use Rattle.stream.specs.declared.Arrival.the-variants.{Joined, Discarded}
+use Rattle.stream.specs.State.{currentPlace, reserveOf, Fit}
+use Rattle.stream.specs.Steps.{arriveOf, tickOf}
+use Rattle.stream.specs.Replies.{streamOf}
+use Rattle.stream.specs.Alone.{octetsAt}
+use Rattle.stream.proofs.FitLaws.{fit-arrive, fit-tick, fit-reserve, permitted-arrive, permitted-tick}
+use Rattle.stream.proofs.Used.{used, used-most, used-arrive, used-tick}
+use Rattle.record.specs.Layout.{streamCount}
+use Rattle.ranges.specs.Ranges.{leastCharge, greatestCharge, chargeFits}
+use Rattle.ranges.proofs.RangeLaws.{within-bounds}
+use Rattle.port_laws.specs.Lists.{Call, opening, reserving, arriving, ticking, transmitting, joiningBestEffort}
+use Rattle.guarantee.specs.Events.{Marked, Sent, All}
+use Rattle.guarantee.proofs.Run.{View, free, octets, permittedOf, SameQueues, SameStreams, OneQueue, OneStream, queueAfter, Effect, quiet, refuses-reservation, reserves, refuses-arrival, arrives, ticks, sends, idles, Reserves, Arrives, Ticks, SendsFrom}
+
+-- a frame's charge is at least the least charge
+abbrev pub Charged : Marked → Type 0
+Charged f = leastCharge ≤ f .charge
+
+-- what the streams have used of the queue in role k
+abbrev pub usedOf : View → ℕ → ℕ
+usedOf v k = sumTo (λ s. used k (v .stream s)) streamCount
+
+-- what holds of a port from its opening on
+pub record Sound (last share : ℕ) (v : View) : Type 0 where
+  pub fit : (s : ℕ) → Fit last (v .stream s)
+  pub within-share : permittedOf v ≤ share
+  pub room : (k : ℕ) → octets (v .queue k) ≤ usedOf v k
+  pub charged : (k : ℕ) → All Charged (v .queue k)
+
+-- sums in order
+sumTo-le : (f g : ℕ → ℕ) (n : ℕ) → ((k : ℕ) → f k ≤ g k) → sumTo f n ≤ sumTo g n
+unfolding sumTo
+sumTo-le f g zero h = omega arith
+sumTo-le f g (suc n) h = omega (arith, h n, sumTo-le f g n h)
+
+-- the octets in a queue are at most the share
+pub octets-most : (last share : ℕ) (v : View) → Sound last share v → (k : ℕ) → octets (v .queue k) ≤ share
+octets-most last share v h k =
+    omega (arith, h .room k, h .within-share, sumTo-le (λ s. used k (v .stream s)) (λ s. v .stream s .permitted) streamCount (λ s. used-most k (v .stream s)))
+
+-- frames that are charged weigh something
+pub charged-length : (fs : List Marked) → All Charged fs → leastCharge * length fs ≤ octets fs
+charged-length [] h = omega arith
+charged-length (f ∷ fs) h = omega (arith, h .0, charged-length fs (h .1))
+
+-- so no octets, no frame
+pub no-octets : (fs : List Marked) → All Charged fs → octets fs ≤ 0 → fs ≡ []
+no-octets [] h o = refl
+no-octets (f ∷ fs) h o = absurd (omega (arith, h .0))
+
+all-snoc : (fs : List Marked) (f : Marked) → All Charged fs → Charged f → All Charged (fs ++ (f ∷ []))
+all-snoc [] f h c = (c, tt)
+all-snoc (g ∷ fs) f h c = (h .0, all-snoc fs f (h .1) c)
+
+-- the octets that an arrival brings into a queue, and the frame that it brings
+after-octets : (k : ℕ) (f : Marked) (r : Arrival) (fs : List Marked) → octets (queueAfter k f r fs) ≡ octets fs + octetsAt k (f .charge) r
+after-octets k f (Joined place x) fs =
+    ⊎-elim
+    (λ (e : place ≡ k). rw (eq-eqb place k e) (sumOf-snoc (λ g. g .charge) fs f))
+    (λ (o : place ≡ k → ⊥). rw (ne-eqb place k o) (omega arith))
+    (eq-or-not place k)
+after-octets k f (Discarded x) fs = omega arith
+
+after-charged : (k : ℕ) (f : Marked) (r : Arrival) (fs : List Marked) → All Charged fs → Charged f → All Charged (queueAfter k f r fs)
+after-charged k f (Joined place x) fs h c =
+    ⊎-elim
+    (λ (e : place ≡ k). rw (eq-eqb place k e) (all-snoc fs f h c))
+    (λ (o : place ≡ k → ⊥). rw (ne-eqb place k o) h)
+    (eq-or-not place k)
+after-charged k f (Discarded x) fs h c = h
+
+module _ (last share : ℕ) (v w : View) (h : Sound last share v) where
+  -- where the streams are as they were, and no queue has more in it
+  shorter-sound : SameStreams v w → ((k : ℕ) → octets (w .queue k) ≤ octets (v .queue k)) → ((k : ℕ) → All Charged (w .queue k)) → Sound last share w
+  shorter-sound streams less charged =
+      let permitted : permittedOf w ≡ permittedOf v = sumTo-same _ _ streamCount (λ s b. ap (λ (x : Stream). x .permitted) (streams s)) in
+      let same : (k : ℕ) → usedOf w k ≡ usedOf v k = λ k. sumTo-same _ _ streamCount (λ s b. ap (used k) (streams s)) in
+      record {
+        fit = λ s. rw (streams s) (h .fit s);
+        within-share = omega (arith, permitted, h .within-share);
+        room = λ k. omega (arith, less k, same k, h .room k);
+        charged = charged;
+      }
+
+  same-sound : SameQueues v w → SameStreams v w → Sound last share w
+  same-sound queues streams = shorter-sound streams (λ k. rw (queues k) (omega arith)) (λ k. rw (queues k) (h .charged k))
+
+  -- where one queue loses its oldest frame
+  sends-sound : (k : ℕ) (f : Marked) (fs : List Marked) → v .queue k ≡ f ∷ fs → OneQueue v w k fs → SameStreams v w → Sound last share w
+  sends-sound k f fs waiting one streams =
+      let had : All Charged (f ∷ fs) = rw waiting at (h .charged k) in
+      shorter-sound streams
+      (λ j.
+      ⊎-elim
+      (λ (e : j ≡ k). rw (e, one .0, waiting) (omega arith))
+      (λ (o : j ≡ k → ⊥). rw (one .1 j o) (omega arith))
+      (eq-or-not j k))
+      (λ j.
+      ⊎-elim
+      (λ (e : j ≡ k). rw (e, one .0) (had .1))
+      (λ (o : j ≡ k → ⊥). rw (one .1 j o) (h .charged j))
+      (eq-or-not j k))
+
+  -- where one stream changes, and what joins each queue it has used
+  module _ (s : ℕ) (x : Stream) (below : s < streamCount) (one : OneStream v w s x) (fits : Fit last x) where
+    sum-change : (g : Stream → ℕ) → sumTo (λ i. g (w .stream i)) streamCount + g (v .stream s) ≡ sumTo (λ i. g (v .stream i)) streamCount + g x
+    sum-change g =
+        sumTo-change (λ i. g (w .stream i)) (λ i. g (v .stream i)) streamCount s below (λ i o. ap g (one .1 i o))
+        ∙ ap (λ (y : Stream). sumTo (λ i. g (v .stream i)) streamCount + g y) (one .0)
+
+    changed-sound : permittedOf v + x .permitted ≤ share + v .stream s .permitted
+        → ((k : ℕ) → octets (w .queue k) + used k (v .stream s) ≤ octets (v .queue k) + used k x)
+        → ((k : ℕ) → All Charged (w .queue k))
+        → Sound last share w
+    changed-sound permitted more charged =
+        record {
+          fit = λ r.
+              ⊎-elim
+              (λ (e : r ≡ s). rw (e, one .0) fits)
+              (λ (o : r ≡ s → ⊥). rw (one .1 r o) (h .fit r))
+              (eq-or-not r s);
+          within-share = omega (arith, permitted, sum-change (λ y. y .permitted));
+          room = λ k. omega (arith, more k, h .room k, sum-change (used k));
+          charged = charged;
+        }
+
+-- a tick brings each queue a place nearer, and a stream has used no less of it
+used-nearer : (last k : ℕ) (x : Stream) → Fit last x → used (suc k) x ≤ used k (tickOf x)
+used-nearer last k x f = let one-less : suc k - 1 ≡ k = omega arith in rw one-less at (used-tick last (suc k) x f)
+
+-- a call leaves a sound port sound
+pub stays-sound : (last share n : ℕ) (v w : View) (r : Reply) (t : Sent) (c : Call) → currentPlace ≤ last → Effect last share n v w r t c
+    → Sound last share v → Sound last share w
+stays-sound last share n v w r t c some (quiet q e queues streams) h = same-sound last share v w h queues streams
+stays-sound last share n v w r t c some (refuses-reservation not-granted e queues streams) h = same-sound last share v w h queues streams
+stays-sound last share n v w r t c some (reserves {s = s} {permitted = p} e d) h =
+    changed-sound last share v w h s (reserveOf p) (d .below) (d .streams) (fit-reserve last p some)
+    (rw (d .was-free) (omega (arith, d .within-share)))
+    (λ k. rw (d .queues k, d .was-free) (omega (arith, used-most k free)))
+    (λ k. rw (d .queues k) (h .charged k))
+stays-sound last share n v w r t c some (refuses-arrival e d) h = same-sound last share v w h (d .queues) (d .streams)
+stays-sound last share n v w r t c some (arrives {s = s} {charge = a} {tag = tag} e d) h =
+    let x = v .stream s in
+    let f : Marked = record { stream = s; charge = a; tag = tag; number = n } in
+    changed-sound last share v w h s (streamOf (arriveOf last x a)) (d .below) (d .streams) (fit-arrive last x a (h .fit s))
+    (omega (arith, permitted-arrive last x a, h .within-share))
+    (λ k. rw (d .queues k) (omega (arith, after-octets k f (arriveOf last x a) (v .queue k), used-arrive last k x a (h .fit s))))
+    (λ k. rw (d .queues k) (after-charged k f (arriveOf last x a) (v .queue k) (h .charged k) (within-bounds leastCharge greatestCharge a (d .fits) .0)))
+stays-sound last share n v w r t c some (ticks e d) h =
+    let permitted : permittedOf w ≡ permittedOf v =
+    sumTo-same _ _ streamCount (λ s b. ap (λ (x : Stream). x .permitted) (d .streams s) ∙ permitted-tick (v .stream s)) in
+    record {
+      fit = λ s. rw (d .streams s) (fit-tick last (v .stream s) (h .fit s));
+      within-share = omega (arith, permitted, h .within-share);
+      room = λ k. rw (d .queues k)
+          (omega (
+            arith,
+            h .room (suc k),
+            sumTo-le (λ s. used (suc k) (v .stream s)) (λ s. used k (w .stream s)) streamCount
+                (λ s. rw (d .streams s) (used-nearer last k (v .stream s) (h .fit s))),
+          ));
+      charged = λ k. rw (d .queues k) (h .charged (suc k));
+    }
+stays-sound last share n v w r t c some (sends k f fs d) h = sends-sound last share v w h k f fs (d .waiting) (d .queues) (d .streams)
+stays-sound last share n v w r t c some (idles e i queues streams) h = same-sound last share v w h queues streams

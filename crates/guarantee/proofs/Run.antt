@@ -1,0 +1,128 @@
+-- A run of the port as the proof of demand 3 sees it: the queues by their roles as lists of marked frames, the streams, and what each call does to
+-- them. Nothing here knows of octets, nor how many queues there are. Assumes nothing.
+use Prim.Native.Nat.{ℕ, suc, _+_, _≤_, _<_}
+use mathlib.Core.Bool.{Bool, true, false, not, cond}
+use mathlib.Core.Path.{_≡_}
+use mathlib.Core.List.{List, [], _∷_, _++_}
+use lib.ListN.{length}
+use lib.Dec.{leb, eqb}
+use Rattle.lists.specs.Turns.{sumTo, sumOf}
+use Rattle.stream.specs.declared.Stream.{Stream}
+use Rattle.stream.specs.declared.Reply.{Reply}
+use Rattle.stream.specs.declared.Arrival.{Arrival}
+use Rattle.stream.specs.declared.Arrival.the-variants.{Joined, Discarded}
+use Rattle.stream.specs.State.{currentPlace, reserveOf}
+use Rattle.stream.specs.Steps.{arriveOf, tickOf}
+use Rattle.stream.specs.Replies.{granted, refusedBy, replyOf, streamOf}
+use Rattle.record.specs.Layout.{streamCount}
+use Rattle.ranges.specs.Ranges.{chargeFits}
+use Rattle.port_laws.specs.Lists.{Call, opening, reserving, arriving, ticking, transmitting, joiningBestEffort}
+use Rattle.guarantee.specs.Events.{Marked, Sent, reserved, none, Event}
+use Rattle.guarantee.specs.Claims.{isReserved}
+
+-- the queues, by role (0 prior, 1 current, and so on), and the streams
+pub record View : Type 0 where
+  pub queue : ℕ → List Marked
+  pub stream : ℕ → Stream
+
+-- a stream that is not reserved is seen as this one: it has used nothing of any queue, and a tick leaves it as it is
+abbrev pub free : Stream
+free = record { reserved = false; permitted = 0; place = currentPlace; left = 0 }
+
+-- the octets of frames
+abbrev pub octets : List Marked → ℕ
+octets = sumOf (λ f. f .charge)
+
+-- the sum of the streams' P
+abbrev pub permittedOf : View → ℕ
+permittedOf v = sumTo (λ s. v .stream s .permitted) streamCount
+
+module _ (v w : View) where
+  abbrev pub SameQueues : Type 0
+  SameQueues = (k : ℕ) → w .queue k ≡ v .queue k
+
+  abbrev pub SameStreams : Type 0
+  SameStreams = (s : ℕ) → w .stream s ≡ v .stream s
+
+  -- no queue but one, and no stream but one
+  abbrev pub OneQueue : ℕ → List Marked → Type 0
+  OneQueue k fs = (w .queue k ≡ fs) × ((j : ℕ) → (j ≡ k → ⊥) → w .queue j ≡ v .queue j)
+
+  abbrev pub OneStream : ℕ → Stream → Type 0
+  OneStream s x = (w .stream s ≡ x) × ((r : ℕ) → (r ≡ s → ⊥) → w .stream r ≡ v .stream r)
+
+-- the refusals of an arrival that do not depend on any other stream; 0 where there is none
+abbrev pub ownRefusal : ℕ → Stream → ℕ → ℕ
+ownRefusal s x charge = cond (leb streamCount s) 5 (cond (not (x .reserved)) 12 (cond (not (chargeFits charge)) 13 0))
+
+-- the queue at place k after an arrival
+abbrev pub queueAfter : ℕ → Marked → Arrival → List Marked → List Marked
+queueAfter k f (Joined place x) fs = cond (eqb place k) (fs ++ (f ∷ [])) fs
+queueAfter k f (Discarded x) fs = fs
+
+-- the calls that touch neither queues nor streams
+abbrev pub Quiet : Call → Type 0
+Quiet (opening link delay) = Unit {0}
+Quiet (reserving s permitted) = ⊥
+Quiet (arriving s charge tag) = ⊥
+Quiet ticking = ⊥
+Quiet transmitting = ⊥
+Quiet (joiningBestEffort charge tag) = Unit {0}
+
+module _ (last share number : ℕ) (v w : View) (r : Reply) (t : Sent) where
+  -- a Reserve that is granted
+  pub record Reserves (s permitted : ℕ) : Type 0 where
+    pub accepted : r .refusal ≡ 0
+    pub below : s < streamCount
+    pub was-free : v .stream s ≡ free
+    pub within-share : permittedOf v + permitted ≤ share
+    pub queues : SameQueues v w
+    pub streams : OneStream v w s (reserveOf permitted)
+
+  -- an Arrive that its stream's rule decides: the frame joins or is discarded
+  pub record Arrives (s charge tag : ℕ) : Type 0 where
+    pub allowed : ownRefusal s (v .stream s) charge ≡ 0
+    pub below : s < streamCount
+    pub is-reserved : v .stream s .reserved ≡ true
+    pub fits : chargeFits charge ≡ true
+    pub reply : r ≡ replyOf (arriveOf last (v .stream s) charge)
+    pub queues : (k : ℕ)
+        → w .queue k ≡ queueAfter k (record { stream = s; charge = charge; tag = tag; number = number }) (arriveOf last (v .stream s) charge) (v .queue k)
+    pub streams : OneStream v w s (streamOf (arriveOf last (v .stream s) charge))
+
+  -- an Arrive that is refused before that
+  pub record RefusesArrival (s charge : ℕ) : Type 0 where
+    pub refused : ownRefusal s (v .stream s) charge ≡ 0 → ⊥
+    pub reply : r ≡ refusedBy (ownRefusal s (v .stream s) charge)
+    pub queues : SameQueues v w
+    pub streams : SameStreams v w
+
+  pub record Ticks : Type 0 where
+    pub reply : r ≡ granted (length (v .queue 0)) (octets (v .queue 0))
+    pub queues : (k : ℕ) → w .queue k ≡ v .queue (suc k)
+    pub streams : (s : ℕ) → w .stream s ≡ tickOf (v .stream s)
+
+  -- a Transmit that sends the oldest frame of queue k, where no frame waits in an earlier queue
+  pub record SendsFrom (k : ℕ) (f : Marked) (fs : List Marked) : Type 0 where
+    pub waiting : v .queue k ≡ f ∷ fs
+    pub earlier : (j : ℕ) → j < k → v .queue j ≡ []
+    pub sent : t ≡ reserved f
+    pub reply : r ≡ granted (f .stream) (f .tag)
+    pub queues : OneQueue v w k fs
+    pub streams : SameStreams v w
+
+  -- one call, its reply and what it sent, between two views
+  pub data Effect : Call → Type 0 where
+    quiet : {c : Call} → Quiet c → t ≡ none → SameQueues v w → SameStreams v w → Effect c
+    refuses-reservation : {s permitted : ℕ} → (r .refusal ≡ 0 → ⊥) → t ≡ none → SameQueues v w → SameStreams v w → Effect (reserving s permitted)
+    reserves : {s permitted : ℕ} → t ≡ none → Reserves s permitted → Effect (reserving s permitted)
+    refuses-arrival : {s charge tag : ℕ} → t ≡ none → RefusesArrival s charge → Effect (arriving s charge tag)
+    arrives : {s charge tag : ℕ} → t ≡ none → Arrives s charge tag → Effect (arriving s charge tag)
+    ticks : t ≡ none → Ticks → Effect ticking
+    sends : (k : ℕ) (f : Marked) (fs : List Marked) → SendsFrom k f fs → Effect transmitting
+    idles : v .queue 0 ≡ [] → isReserved t ≡ false → SameQueues v w → SameStreams v w → Effect transmitting
+
+-- events that happen one after the other, the first of them number n
+abbrev pub Run : ℕ → ℕ → ℕ → View → List Event → Type 0
+Run last share n v [] = Unit {0}
+Run last share n v (e ∷ es) = (w : View) × Effect last share n v w (e .reply) (e .sent) (e .call) × Run last share (suc n) w es

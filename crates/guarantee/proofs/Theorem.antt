@@ -1,0 +1,157 @@
+-- Demand 3, the theorem. Assumes nothing.
+use Prim.Native.Nat.{ℕ, zero, suc, _+_, _≤_, _<_}
+use mathlib.Core.Bool.{Bool, true, false, cond}
+use mathlib.Core.Path.{_≡_, refl, sym, ap, subst, _∙_}
+use mathlib.Core.Logic.{⊎-elim}
+use mathlib.Core.List.{List, [], _∷_}
+use native.Mathlib.Omega.{arith}
+use lib.ListN.{length, getD}
+use Rattle.lists.specs.Turns.{sumTo}
+use Rattle.lists.proofs.Order.{le-or-lt}
+use Rattle.stream.specs.declared.Reply.{Reply}
+use Rattle.stream.specs.declared.Stream.{Stream}
+use Rattle.stream.specs.State.{lastPlace}
+use Rattle.queue.specs.declared.Queue.{Queue}
+use Rattle.queue.specs.Waiting.{waiting}
+use Rattle.queue.proofs.WaitingLaws.{empty-waits}
+use Rattle.record.specs.Layout.{Whole, queueCount, bestEffort, streamCount}
+use Rattle.record.specs.Head.{queueAt}
+use Rattle.record.specs.Entry.{streamAt}
+use Rattle.ranges.specs.Ranges.{shareOf}
+use Rattle.fitness.specs.Fit.{recordFits, lentRefusal}
+use Rattle.fitness.proofs.FitLaws.{fit-record, lent-fit}
+use Rattle.steps.specs.Outcome.{Outcome, outcome}
+use Rattle.steps.specs.Roles.{roleAt}
+use Rattle.steps.proofs.RoleLaws.{role-below}
+use Rattle.opening.specs.Opening.{openedRecord, openStep}
+use Rattle.gates.specs.Refusals.{openRefusal}
+use Rattle.gates.specs.Gated.{opens}
+use Rattle.gates.proofs.GateLaws.{grants}
+use Rattle.port.specs.Calls.{openCall}
+use Rattle.port_laws.specs.Lists.{Call, opening, ticking, transmitting, called}
+use Rattle.port_laws.proofs.StayLaws.{let-through, stays-fit}
+use Rattle.port_laws.proofs.OpenLaws.{opened-open, opened-link, opened-queue, opened-stream}
+use Rattle.guarantee.specs.Events.{Marked, reserved, bestEffort as sentBestEffort, none, Event, happened, All}
+use Rattle.guarantee.specs.Claims.{SaysWhatItSends, NotByHost, PurgesNothing}
+use Rattle.guarantee.specs.Demand3.{CallList, eventsOf, LinkHolds, Demand3}
+use Rattle.guarantee.proofs.Run.{View, free, octets, permittedOf, quiet, Run}
+use Rattle.guarantee.proofs.Room.{Sound}
+use Rattle.guarantee.proofs.Purge.{no-purge}
+use Rattle.guarantee.proofs.Delay.{all-sent}
+use Rattle.guarantee.proofs.Conforming.{prompt}
+use Rattle.guarantee.proofs.Alone.{alike}
+use Rattle.guarantee.proofs.Tied.{Tied, tied-empty}
+use Rattle.guarantee.proofs.Held.{Holds, inRole, seen, seenAt, seen-below, seen-above, seen-free}
+use Rattle.guarantee.proofs.Play.{Plays, plays}
+
+-- a port as Open leaves it: no frame waits, no stream is reserved
+abbrev emptyView : View
+emptyView = record { queue = λ role. []; stream = λ s. free }
+
+-- a sum of nothing
+no-sum : (n : ℕ) → sumTo (λ s. 0) n ≡ 0
+unfolding sumTo
+no-sum zero = refl
+no-sum (suc n) = omega (arith, no-sum n)
+
+empty-sound : (last share : ℕ) → 1 ≤ last → Sound last share emptyView
+empty-sound last share some =
+    record {
+      fit = λ s. omega arith;
+      within-share = omega (arith, no-sum streamCount);
+      room = λ role. omega arith;
+      charged = λ role. tt;
+    }
+
+module _ (p m : List ℕ) (link delay : ℕ) (is : openCall p m link delay .reply .refusal ≡ 0) where
+  not-lent : lentRefusal p m ≡ 0
+  not-lent = let-through (lentRefusal p m) p m (opens p m link delay) is
+
+  fit : recordFits p m ≡ true
+  fit = lent-fit p m not-lent .1
+
+  -- the granted Open is its step
+  open-so : openCall p m link delay ≡ openStep p m link delay
+  open-so =
+      let passed = grants (lentRefusal p m) p m (opens p m link delay) not-lent in
+      passed
+      ∙ grants (openRefusal p link delay) p m (openStep p m link delay)
+      (let-through (openRefusal p link delay) p m (openStep p m link delay) (sym (ap (λ (o : Outcome). o .reply .refusal) passed) ∙ is))
+
+  whole : Whole p
+  whole = fit-record p m fit .long
+
+  abbrev after : List ℕ
+  after = openedRecord p link delay
+
+  no-frames : (number : ℕ) → number ≤ bestEffort → waiting m number (queueAt after number) ≡ []
+  no-frames number b = ap (waiting m number) (opened-queue p link delay whole number (omega arith)) ∙ empty-waits m number
+
+  open-holds : (all : List Call) → Holds all link after m m emptyView []
+  open-holds all =
+      let fit-after : recordFits after m ≡ true =
+      subst (λ (o : Outcome). recordFits (o .port) (o .memory) ≡ true) open-so (stays-fit (opening link delay) p m fit) in
+      let long = lent-fit p m not-lent .0 in
+      record {
+        fit = fit-after;
+        fit-marked = fit-after;
+        long = long;
+        long-marked = long;
+        opened = opened-open p link delay whole;
+        octets = opened-link p link delay whole;
+        streams = λ s. sym (seen-opened s);
+        queues = λ role b. rw (no-frames (roleAt after role) (omega (arith, role-below after role))) (tied-empty all reserved);
+        above = λ role b. refl;
+        waits = rw (no-frames bestEffort (omega arith)) (tied-empty all sentBestEffort);
+      }
+    where
+      seen-opened : (s : ℕ) → seenAt after s ≡ free
+      seen-opened s =
+          ⊎-elim
+          (λ (above : streamCount ≤ s). seen-above after s above)
+          (λ (b : s < streamCount). seen-below after s b ∙ seen-free (streamAt after s) (opened-stream p link delay whole s b))
+          (le-or-lt streamCount s)
+
+-- the events after the Open, from the port that it leaves
+module _ (l : CallList) where
+  abbrev all : List Call
+  all = opening (l .link) (l .delay) ∷ l .later
+
+  numbers : (i : ℕ) → getD all (1 + i) ticking ≡ getD (l .later) i ticking
+  numbers i = let one-more : 1 + i ≡ suc i = omega arith in ap (λ (j : ℕ). getD all j ticking) one-more
+
+  abbrev opened : Outcome
+  opened = called (opening (l .link) (l .delay)) (l .port) (l .memory)
+
+  later-plays : Plays (l .link) 1 emptyView (happened called all 1 (l .later) (opened .port) (opened .memory) (opened .port) (opened .memory))
+  later-plays =
+      subst (λ (o : Outcome). Plays (l .link) 1 emptyView (happened called all 1 (l .later) (o .port) (o .memory) (o .port) (o .memory)))
+      (sym (open-so (l .port) (l .memory) (l .link) (l .delay) (l .opened)))
+      (plays all (l .link) refl (l .later) 1 (after (l .port) (l .memory) (l .link) (l .delay) (l .opened)) (l .memory) (l .memory) emptyView []
+      (open-holds (l .port) (l .memory) (l .link) (l .delay) (l .opened) all)
+      (empty-sound lastPlace (shareOf (l .link)) (omega arith))
+      numbers)
+
+  -- the Open touches nothing of an empty view
+  run : Run lastPlace (shareOf (l .link)) 0 emptyView (eventsOf l)
+  run = (emptyView, quiet tt refl (λ role. refl) (λ s. refl), later-plays .0)
+
+  sound : Sound lastPlace (shareOf (l .link)) emptyView
+  sound = empty-sound lastPlace (shareOf (l .link)) (omega arith)
+
+  purges-nothing : LinkHolds l → All PurgesNothing (eventsOf l)
+  purges-nothing link = no-purge lastPlace (shareOf (l .link)) (omega arith) (eventsOf l) 0 emptyView run sound link refl
+
+-- every list of calls from a granted Open
+pub demand-3 : (l : CallList) → Demand3 l
+demand-3 l =
+    record {
+      says = (λ e. absurd (let z : _≡_ {A = ℕ} 0 1 = cc in omega arith), later-plays l .1 .0);
+      no-purge = purges-nothing l;
+      all-sent = λ link. all-sent lastPlace (shareOf (l .link)) emptyView (eventsOf l) (omega arith) (run l) (sound l) (purges-nothing l link);
+      prompt = λ link. prompt lastPlace (shareOf (l .link)) emptyView (eventsOf l) (omega arith) (run l) (sound l) (purges-nothing l link);
+      alike = λ other s.
+          alike lastPlace (shareOf (l .link)) (shareOf (other .link)) s (eventsOf l) (eventsOf other) emptyView emptyView refl (run l) (run other);
+      not-by-host =
+          ((λ e. omega (arith, l .opened), (λ e. omega (arith, l .opened), λ e. omega (arith, l .opened))), later-plays l .1 .1);
+    }

@@ -1,0 +1,160 @@
+-- Demand 3, its sentences one by one, of the events of a list.
+use Prim.Native.Nat.{ℕ, zero, suc, _+_, _≤_}
+use mathlib.Core.Bool.{Bool, true, false, _&&_, _||_, cond}
+use mathlib.Core.Path.{_≡_}
+use mathlib.Core.Logic.{_⊎_}
+use mathlib.Core.List.{List, [], _∷_, _++_}
+use lib.ListN.{length}
+use lib.Dec.{eqb}
+use Rattle.stream.specs.declared.Reply.{Reply}
+use Rattle.stream.specs.Replies.{granted}
+use Rattle.stream.specs.State.{currentPlace}
+use Rattle.sending.specs.Sending.{nothing}
+use Rattle.ranges.specs.Ranges.{chargeFits}
+use Rattle.port_laws.specs.Lists.{Call, opening, reserving, arriving, ticking, transmitting, joiningBestEffort}
+use Rattle.guarantee.specs.Events.{Marked, Sent, reserved, bestEffort, none, Event, All, Some}
+
+-- whether a call is a Tick, and how many of the events are
+abbrev pub isTick : Call → Bool
+isTick (opening link delay) = false
+isTick (reserving r permitted) = false
+isTick (arriving r charge tag) = false
+isTick ticking = true
+isTick transmitting = false
+isTick (joiningBestEffort charge tag) = false
+
+abbrev pub Tick : Event → Type 0
+Tick e = isTick (e .call) ≡ true
+
+abbrev pub NoTick : Event → Type 0
+NoTick e = isTick (e .call) ≡ false
+
+abbrev pub ticks : List Event → ℕ
+ticks [] = 0
+ticks (e ∷ es) = cond (isTick (e .call)) 1 0 + ticks es
+
+-- "the reserved octets sent": "Octets sent or offered are sums of charges"
+abbrev pub reservedCharge : Sent → ℕ
+reservedCharge (reserved f) = f .charge
+reservedCharge (bestEffort f) = 0
+reservedCharge none = 0
+
+abbrev pub reservedOctets : List Event → ℕ
+reservedOctets [] = 0
+reservedOctets (e ∷ es) = reservedCharge (e .sent) + reservedOctets es
+
+-- "some transmit sends no reserved frame"
+abbrev pub isReserved : Sent → Bool
+isReserved (reserved f) = true
+isReserved (bestEffort f) = false
+isReserved none = false
+
+abbrev pub Idle : Event → Type 0
+Idle e = (e .call ≡ transmitting) × (isReserved (e .sent) ≡ false)
+
+-- "Suppose that between any two consecutive ticks the reserved octets sent are at least the port's share or some transmit sends no reserved
+-- frame (the link condition)"
+abbrev pub LinkCondition : ℕ → List Event → Type 0
+LinkCondition share es =
+    (before between after : List Event) (t u : Event) → es ≡ before ++ (t ∷ (between ++ (u ∷ after)))
+    → Tick t → Tick u → All NoTick between → (share ≤ reservedOctets between) ⊎ Some Idle between
+
+-- "Then no tick purges a frame": "every tick is granted and replies two zeros"
+abbrev pub PurgesNothing : Event → Type 0
+PurgesNothing e = Tick e → e .reply ≡ granted 0 0
+
+-- "the reply is that frame's stream and tag"; "stream (255 best effort, 254 nothing), tag (0 for nothing)"
+abbrev pub replyOfSent : Sent → Reply
+replyOfSent (reserved f) = granted (f .stream) (f .tag)
+replyOfSent (bestEffort f) = granted (f .stream) (f .tag)
+replyOfSent none = granted nothing 0
+
+abbrev pub SaysWhatItSends : Event → Type 0
+SaysWhatItSends e = e .call ≡ transmitting → e .reply ≡ replyOfSent (e .sent)
+
+-- a frame is sent before the tick of that number among the events after it: "claimed where the list reaches that tick"
+abbrev pub Sends : Marked → Event → Type 0
+Sends f e = (e .sent ≡ reserved f) × (e .reply ≡ granted (f .stream) (f .tag))
+
+abbrev pub SentBefore : ℕ → Marked → List Event → Type 0
+SentBefore number f es =
+    (between after : List Event) (u : Event) → es ≡ between ++ (u ∷ after) → Tick u → ticks between + 1 ≡ number → Some (Sends f) between
+
+-- "every accepted reserved frame is sent before the fourth tick after it"; "Accepted is a reply without refusal"
+abbrev pub AllSentBefore : ℕ → List Event → Type 0
+AllSentBefore number es =
+    (before after : List Event) (e : Event) (s charge tag : ℕ) → es ≡ before ++ (e ∷ after)
+    → e .call ≡ arriving s charge tag → e .reply .refusal ≡ 0
+    → SentBefore number (record { stream = s; charge = charge; tag = tag; number = length before }) after
+
+-- a stream's offers: its arrivals "of a charge from 84 to 1,542"
+abbrev pub offer : ℕ → Call → ℕ
+offer s (opening link delay) = 0
+offer s (reserving r permitted) = 0
+offer s (arriving r charge tag) = cond (eqb r s && chargeFits charge) charge 0
+offer s ticking = 0
+offer s transmitting = 0
+offer s (joiningBestEffort charge tag) = 0
+
+abbrev pub offers : ℕ → List Event → ℕ
+offers s [] = 0
+offers s (e ∷ es) = offer s (e .call) + offers s es
+
+-- "a stream that never offers more than its permitted octets between ticks": in no stretch without a tick
+abbrev pub OffersWithin : ℕ → ℕ → List Event → Type 0
+OffersWithin s permitted es =
+    (before between after : List Event) → es ≡ before ++ (between ++ after) → All NoTick between → offers s between ≤ permitted
+
+-- "has each frame accepted as current and sent before the second tick after it"; "as current" is a reply "whose first number is 1"
+abbrev pub Prompt : Marked → Event → List Event → Type 0
+Prompt f e after = (e .reply .refusal ≡ 0) × ((e .reply .first ≡ currentPlace) × SentBefore 2 f after)
+
+-- the stream's offers are within P from its grant on for as long as `while` lasts; each frame that it offers meanwhile is prompt
+abbrev pub ConformingPrompt : List Event → Type 0
+ConformingPrompt es =
+    (s permitted : ℕ) (before while rest : List Event) (g : Event) → es ≡ before ++ (g ∷ (while ++ rest))
+    → g .call ≡ reserving s permitted → g .reply .refusal ≡ 0 → OffersWithin s permitted while
+    → (earlier later : List Event) (e : Event) (charge tag : ℕ) → while ≡ earlier ++ (e ∷ later)
+    → e .call ≡ arriving s charge tag → chargeFits charge ≡ true
+    → Prompt (record { stream = s; charge = charge; tag = tag; number = length before + 1 + length earlier }) e (later ++ rest)
+
+-- "A stream's own calls are the Reserves and Arrives that name it"
+abbrev pub isReserveOf : ℕ → Call → Bool
+isReserveOf s (opening link delay) = false
+isReserveOf s (reserving r permitted) = eqb r s
+isReserveOf s (arriving r charge tag) = false
+isReserveOf s ticking = false
+isReserveOf s transmitting = false
+isReserveOf s (joiningBestEffort charge tag) = false
+
+abbrev pub isArriveOf : ℕ → Call → Bool
+isArriveOf s (opening link delay) = false
+isArriveOf s (reserving r permitted) = false
+isArriveOf s (arriving r charge tag) = eqb r s
+isArriveOf s ticking = false
+isArriveOf s transmitting = false
+isArriveOf s (joiningBestEffort charge tag) = false
+
+-- the ticks and the stream's own calls, "once all others are struck out"
+abbrev pub remaining : ℕ → List Event → List Call
+remaining s [] = []
+remaining s (e ∷ es) = cond (isTick (e .call) || (isReserveOf s (e .call) || isArriveOf s (e .call))) (e .call ∷ remaining s es) (remaining s es)
+
+-- "which of its reservations are granted"
+abbrev pub grants : ℕ → List Event → List Bool
+grants s [] = []
+grants s (e ∷ es) = cond (isReserveOf s (e .call)) (eqb (e .reply .refusal) 0 ∷ grants s es) (grants s es)
+
+-- its arrivals' replies: "refusal or 0 and both reply numbers of each of its Arrives"
+abbrev pub answers : ℕ → List Event → List Reply
+answers s [] = []
+answers s (e ∷ es) = cond (isArriveOf s (e .call)) (e .reply ∷ answers s es) (answers s es)
+
+-- "two lists alike in the order of ticks and one stream's own calls, and in which of its reservations are granted, give its arrivals the same
+-- replies, whatever was sent on other streams"
+abbrev pub Alike : ℕ → List Event → List Event → Type 0
+Alike s es fs = remaining s es ≡ remaining s fs → grants s es ≡ grants s fs → answers s es ≡ answers s fs
+
+-- "20 [..] (never met in a list from opening)", nor are 18 and 19
+abbrev pub NotByHost : Event → Type 0
+NotByHost e = (e .reply .refusal ≡ 18 → ⊥) × ((e .reply .refusal ≡ 19 → ⊥) × (e .reply .refusal ≡ 20 → ⊥))

@@ -1,0 +1,80 @@
+-- Lists that show demand 3 at work, each as its events, on a port never opened: what the link condition asks is met, by octets or by a transmit
+-- without a reserved frame, and where it fails a tick purges; and no number in the claims can be smaller.
+use Prim.Native.Nat.{ℕ}
+use mathlib.Core.Path.{_≡_}
+use mathlib.Core.List.{List, [], _∷_}
+use Rattle.stream.specs.declared.Reply.{Reply}
+use Rattle.stream.specs.Replies.{granted, refusedBy}
+use Rattle.fitness.specs.Clauses.{bestEffortStream}
+use Rattle.port_laws.specs.Lists.{Call, opening, reserving, arriving, ticking, transmitting, joiningBestEffort}
+use Rattle.guarantee.specs.Events.{Marked, Sent, reserved, bestEffort, none, Event}
+use Rattle.guarantee.specs.Demand3.{CallList, eventsOf}
+
+-- an event that sends nothing, and a transmit that sends the frame of a call
+abbrev pub replied : Call → Reply → Event
+replied c reply = record { call = c; reply = reply; sent = none }
+
+abbrev pub frameOf : ℕ → ℕ → ℕ → ℕ → Marked
+frameOf stream charge tag number = record { stream = stream; charge = charge; tag = tag; number = number }
+
+abbrev pub sending : Sent → Reply → Event
+sending sent reply = record { call = transmitting; reply = reply; sent = sent }
+
+-- these are the events of a list of calls
+pub record Happens (es : List Event) : Type 0 where
+  pub list : CallList
+  pub so : eventsOf list ≡ es
+
+-- share 84, all of it reserved, and three times as much offered at once: each epoch sends the share, and the third frame is sent after the third
+-- tick
+abbrev pub busy : List Event
+busy =
+    replied (opening 1626 1) (granted 84 0)
+    ∷ replied (reserving 5 84) (granted 0 0)
+    ∷ replied (arriving 5 84 7) (granted 1 84)
+    ∷ replied (arriving 5 84 8) (granted 2 84)
+    ∷ replied (arriving 5 84 9) (granted 3 0)
+    ∷ replied ticking (granted 0 0)
+    ∷ sending (reserved (frameOf 5 84 7 2)) (granted 5 7)
+    ∷ replied ticking (granted 0 0)
+    ∷ sending (reserved (frameOf 5 84 8 3)) (granted 5 8)
+    ∷ replied ticking (granted 0 0)
+    ∷ sending (reserved (frameOf 5 84 9 4)) (granted 5 9)
+    ∷ replied ticking (granted 0 0)
+    ∷ []
+
+-- share 600: a conforming stream's frame of 120 octets is sent after one tick, and then a frame of best effort
+abbrev pub afterArrival : List Event
+afterArrival =
+    replied ticking (granted 0 0)
+    ∷ sending (reserved (frameOf 5 120 7 3)) (granted 5 7)
+    ∷ sending (bestEffort (frameOf bestEffortStream 300 1 2)) (granted 255 1)
+    ∷ replied ticking (granted 0 0)
+    ∷ []
+
+abbrev pub light : List Event
+light =
+    replied (opening 2142 1) (granted 600 0)
+    ∷ replied (reserving 5 200) (granted 400 0)
+    ∷ replied (joiningBestEffort 300 1) (granted 300 0)
+    ∷ replied (arriving 5 120 7) (granted 1 80)
+    ∷ afterArrival
+
+-- share 600, and an epoch that sends the least charge less than that: the tick after it purges
+abbrev pub withheld : List Event
+withheld =
+    replied (opening 2142 1) (granted 600 0)
+    ∷ replied (reserving 5 600) (granted 0 0)
+    ∷ replied (arriving 5 516 7) (granted 1 84)
+    ∷ replied (arriving 5 84 8) (granted 1 600)
+    ∷ replied ticking (granted 0 0)
+    ∷ sending (reserved (frameOf 5 516 7 2)) (granted 5 7)
+    ∷ replied ticking (granted 1 84)
+    ∷ []
+
+-- the same arrival on a stream with another P
+abbrev pub permitted200 : List Event
+permitted200 = replied (opening 2142 1) (granted 600 0) ∷ replied (reserving 5 200) (granted 400 0) ∷ replied (arriving 5 120 7) (granted 1 80) ∷ []
+
+abbrev pub permitted100 : List Event
+permitted100 = replied (opening 2142 1) (granted 600 0) ∷ replied (reserving 5 100) (granted 500 0) ∷ replied (arriving 5 120 7) (refusedBy 14) ∷ []

@@ -1,0 +1,35 @@
+-- What the examples show of demand 3: its premise can be met, in either way, and what it claims cannot be claimed of smaller numbers.
+use Prim.Native.Nat.{_-_, _<_}
+use mathlib.Core.Path.{_≡_}
+use mathlib.Core.List.{List, [], _∷_}
+use Rattle.stream.specs.State.{lastPlace}
+use Rattle.stream.specs.Replies.{granted, refusedBy}
+use Rattle.ranges.specs.Ranges.{leastCharge, shareOf}
+use Rattle.guarantee.specs.Events.{All, Some}
+use Rattle.guarantee.specs.Claims.{reservedOctets, Idle, LinkCondition, PurgesNothing, SentBefore, AllSentBefore, grants, answers}
+use Rattle.guarantee_examples.specs.Examples.{frameOf, Happens, busy, light, afterArrival, withheld, permitted200, permitted100}
+
+pub record ExamplesShow : Type 0 where
+  -- by octets: the link condition is met, and no transmit is without a reserved frame
+  pub busy-happens : Happens busy
+  pub busy-links : LinkCondition (shareOf 1626) busy
+  pub busy-never-idle : Some Idle busy → ⊥
+  -- the third tick would be too early
+  pub busy-not-by-third : AllSentBefore lastPlace busy → ⊥
+  -- by a transmit without a reserved frame: the link condition is met, with fewer octets than the share
+  pub light-happens : Happens light
+  pub light-links : LinkCondition (shareOf 2142) light
+  pub light-octets : reservedOctets light < shareOf 2142
+  -- and for a conforming stream the first tick would be too early
+  pub light-not-by-first : SentBefore 1 (frameOf 5 120 7 3) afterArrival → ⊥
+  -- without it: the link condition fails, and a tick purges
+  pub withheld-happens : Happens withheld
+  pub withheld-fails : LinkCondition (shareOf 2142) withheld → ⊥
+  pub withheld-purges : All PurgesNothing withheld → ⊥
+  -- a link condition that asked the least charge less would be met
+  pub withheld-nearly-links : LinkCondition (shareOf 2142 - leastCharge) withheld
+  -- a stream's reservations are among its own calls, since its replies depend on P
+  pub permitted-200-happens : Happens permitted200
+  pub permitted-100-happens : Happens permitted100
+  pub same-grants : grants 5 permitted200 ≡ grants 5 permitted100
+  pub other-answers : answers 5 permitted200 ≡ answers 5 permitted100 → ⊥
