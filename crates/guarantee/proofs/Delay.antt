@@ -16,7 +16,7 @@ use Rattle.stream.specs.State.{currentPlace, Fit}
 use Rattle.stream.specs.Steps.{advanced, joined, arriveOf}
 use Rattle.stream.specs.Replies.{granted, refusedBy, replyOf}
 use Rattle.stream.proofs.ArriveLaws.{arrive-cases, joined-cases}
-use Rattle.stream.proofs.FitLaws.{joins-onward}
+use Rattle.stream.proofs.FitLaws.{joins-onward, joins-within}
 use Rattle.port_laws.specs.Lists.{Call, opening, reserving, arriving, ticking, transmitting, joiningBestEffort}
 use Rattle.guarantee.specs.Events.{Marked, Sent, reserved, Event, All, Some}
 use Rattle.guarantee.specs.Claims.{isTick, Tick, PurgesNothing, ticks as ticksOf, Sends, SentBefore, AllSentBefore}
@@ -142,14 +142,6 @@ module _ (last share : ℕ) (some : currentPlace ≤ last) where
 pub all-rest : (P : Event → Type 0) (before rest : List Event) → All P (before ++ rest) → All P rest
 all-rest P [] rest h = h
 all-rest P (e ∷ before) rest h = all-rest P before rest (h .1)
-
--- a frame that joins does so at the last place or before it
-abbrev JoinsWithin : ℕ → Arrival → Type 0
-JoinsWithin last (Joined place x) = place ≤ last
-JoinsWithin last (Discarded x) = Unit {0}
-
-pub joins-within : (last : ℕ) (x : Stream) (a place : ℕ) (y : Stream) → Fit last x → arriveOf last x a ≡ Joined place y → place ≤ last
-joins-within last x a place y fit e = subst (JoinsWithin last) e (arrive-cases last x a (JoinsWithin last) (λ h. fit .last-place) (λ h p q. omega arith) (λ h. tt))
 
 -- an accepted arrival: the frame waits at the place that the reply names
 pub record Accepted (last : ℕ) (w : View) (r : Reply) (f : Marked) : Type 0 where

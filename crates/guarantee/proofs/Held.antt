@@ -23,6 +23,7 @@ use Rattle.fitness.specs.Clauses.{permittedOf as reservedP, permittedSum}
 use Rattle.fitness.specs.Fit.{recordFits}
 use Rattle.fitness.proofs.FitLaws.{Fit, fit-record}
 use Rattle.steps.specs.Roles.{roleAt}
+use Rattle.steps.proofs.RoleLaws.{role-same}
 use Rattle.gates.specs.Refusals.{arriveRefusal}
 use Rattle.port_laws.specs.Lists.{Call}
 use Rattle.guarantee.specs.Events.{Marked, reserved, bestEffort as sentBestEffort}
@@ -94,15 +95,6 @@ own-refusal p s a opened =
     (λ (above : streamCount ≤ s). rw (opened, le-leb streamCount s above))
     (λ (below : s < streamCount). rw (opened, lt-leb streamCount s below, seen-below p s below, seen-reserved (streamAt p s)))
     (le-or-lt streamCount s)
-
--- another role is another queue
-pub role-apart : (p : List ℕ) (r s : ℕ) → r < queueCount → s < queueCount → (r ≡ s → ⊥) → roleAt p r ≡ roleAt p s → ⊥
-unfolding roleAt
-role-apart p r s a b apart e = apart (omega arith)
-
-pub role-same : (p q : List ℕ) (role : ℕ) → priorAt q ≡ priorAt p → roleAt q role ≡ roleAt p role
-unfolding roleAt
-role-same p q role e = ap (λ (n : ℕ). (n + role) % queueCount) e
 
 -- a role's frames are as they were where its queue is
 pub role-kept : (p q m : List ℕ) (role : ℕ) → priorAt q ≡ priorAt p → queueAt q (roleAt p role) ≡ queueAt p (roleAt p role) → inRole q m role ≡ inRole p m role

@@ -16,7 +16,7 @@ use Rattle.stream.specs.declared.Arrival.the-variants.{Joined, Discarded}
 use Rattle.stream.specs.State.{currentPlace, lastPlace, atPlace}
 use Rattle.stream.specs.Steps.{advanced, arriveOf}
 use Rattle.stream.specs.Replies.{granted, refusedBy, replyOf, streamOf}
-use Rattle.stream.proofs.ArriveLaws.{arrive-cases, joined-cases}
+use Rattle.stream.proofs.FitLaws.{OnlyMoves, joins-within, arrive-moves}
 use Rattle.queue.specs.declared.Frame.{Frame}
 use Rattle.queue.specs.declared.Queue.{Queue}
 use Rattle.queue.specs.Ring.{placeCount, joinedMemory, joinedQueue}
@@ -34,7 +34,7 @@ use Rattle.fitness.proofs.FitLaws.{fit-record, fit-plan}
 use Rattle.steps.specs.Outcome.{Outcome, outcome, refused}
 use Rattle.steps.specs.Roles.{roleAt}
 use Rattle.steps.specs.Moves.{moved}
-use Rattle.steps.proofs.RoleLaws.{role-below}
+use Rattle.steps.proofs.RoleLaws.{role-below, role-apart, role-same}
 use Rattle.arriving.specs.Arriving.{arrived, arriveStep}
 use Rattle.gates.specs.Refusals.{arriveRefusal}
 use Rattle.gates.proofs.GateLaws.{arrive-allowed}
@@ -42,18 +42,9 @@ use Rattle.port_laws.specs.Lists.{Call, arriving, ticking, transmitting, called
 use Rattle.guarantee.specs.Events.{Marked, reserved, none, broughtBy, marked}
 use Rattle.guarantee.proofs.Run.{View, octets, ownRefusal, queueAfter, Effect, arrives, refuses-arrival}
 use Rattle.guarantee.proofs.Room.{Sound, octets-most, charged-length, stays-sound}
-use Rattle.guarantee.proofs.Delay.{joins-within}
 use Rattle.guarantee.proofs.Tied.{Tied, plain, numbered, tied-joins, tied-length}
-use Rattle.guarantee.proofs.Held.{Holds, inRole, seenAt, seen-below, seen-as-is, own-refusal, role-apart, role-same, role-kept, changed, changed-here, changed-else, changed-seen}
+use Rattle.guarantee.proofs.Held.{Holds, inRole, seenAt, seen-below, seen-as-is, own-refusal, role-kept, changed, changed-here, changed-else, changed-seen}
 use Rattle.guarantee.proofs.Next.{Moved, Next, gate-below, next-refused, by-gate}
-
--- an arrival moves its stream and changes nothing else of it
-pub arrive-moves : (last : ℕ) (x : Stream) (a : ℕ) → atPlace x (streamOf (arriveOf last x a) .place) (streamOf (arriveOf last x a) .left) ≡ streamOf (arriveOf last x a)
-arrive-moves last x a =
-    arrive-cases last x a (λ z. atPlace x (streamOf z .place) (streamOf z .left) ≡ streamOf z)
-    (λ h. joined-cases last x a (λ z. atPlace x (streamOf z .place) (streamOf z .left) ≡ streamOf z) h (λ _. refl) (λ _ _. refl) (λ _ _. refl))
-    (λ h p q. joined-cases last (advanced x) a (λ z. atPlace x (streamOf z .place) (streamOf z .left) ≡ streamOf z) q (λ _. refl) (λ _ _. refl) (λ _ _. refl))
-    (λ h. refl)
 
 -- the step, where the frame joins a queue that has room, and where it is discarded
 module _ (p m : List ℕ) (s a tag : ℕ) where
@@ -218,8 +209,8 @@ module _ (all : List Call) (n link : ℕ) (p m k : List ℕ) (v : View) (best : 
         (eq-or-not role place)
 
     -- the stream where its rule has moved it
-    next-held : atPlace held (next .place) (next .left) ≡ next
-    next-held = subst (λ (z : Arrival). atPlace held (streamOf z .place) (streamOf z .left) ≡ streamOf z) e (arrive-moves lastPlace held a)
+    next-held : OnlyMoves held next
+    next-held = subst (λ (z : Arrival). OnlyMoves held (streamOf z)) e (arrive-moves lastPlace held a)
 
     next-reserved : next .reserved ≡ true
     next-reserved = ap (λ (x : Stream). x .reserved) (sym next-held) ∙ is-reserved
@@ -256,8 +247,8 @@ module _ (all : List Call) (n link : ℕ) (p m k : List ℕ) (v : View) (best : 
 
   -- discarded: only the stream moves
   module _ (spent : Stream) (e : arriveOf lastPlace held a ≡ Discarded spent) where
-    spent-held : atPlace held (spent .place) (spent .left) ≡ spent
-    spent-held = subst (λ (z : Arrival). atPlace held (streamOf z .place) (streamOf z .left) ≡ streamOf z) e (arrive-moves lastPlace held a)
+    spent-held : OnlyMoves held spent
+    spent-held = subst (λ (z : Arrival). OnlyMoves held (streamOf z)) e (arrive-moves lastPlace held a)
 
     spent-role : (l : List ℕ) (role : ℕ) → inRole (moved p s spent) l role ≡ inRole p l role
     spent-role l role =

@@ -15,7 +15,8 @@ use Rattle.stream.specs.declared.Reply.{Reply}
 use Rattle.stream.specs.State.{lastPlace, atPlace}
 use Rattle.stream.specs.Steps.{tickOf}
 use Rattle.stream.specs.Replies.{granted}
-use Rattle.stream.proofs.TickLaws.{tick-cases, stays-current}
+use Rattle.stream.proofs.FitLaws.{tick-moves}
+use Rattle.stream.proofs.TickLaws.{stays-current}
 use Rattle.queue.specs.declared.Queue.{Queue}
 use Rattle.queue.specs.Ring.{emptyQueue}
 use Rattle.queue.specs.Waiting.{waiting, chargesOf}
@@ -29,19 +30,15 @@ use Rattle.record.proofs.KeepLaws.{Keeps, keeps-both, keeps-prior, keeps-queue,
 use Rattle.fitness.proofs.FitLaws.{fit-record}
 use Rattle.steps.specs.Roles.{roleAt, priorRole, currentRole}
 use Rattle.steps.specs.Moves.{moved}
-use Rattle.steps.proofs.RoleLaws.{role-below}
+use Rattle.steps.proofs.RoleLaws.{role-below, role-nearer, role-wraps, role-apart}
 use Rattle.ticking.specs.Ticking.{tickedAt, tickedRecord, tickStep}
 use Rattle.gates.specs.Refusals.{closedRefusal}
 use Rattle.port_laws.specs.Lists.{Call, ticking, transmitting, called}
 use Rattle.guarantee.specs.Events.{Marked, reserved, marked}
 use Rattle.guarantee.proofs.Run.{View, free, octets, ticks}
 use Rattle.guarantee.proofs.Tied.{Tied, tied-empty, tied-length, tied-octets}
-use Rattle.guarantee.proofs.Held.{Holds, inRole, seen, seenAt, seen-below, seen-above, seen-as-is, seen-free, role-apart}
+use Rattle.guarantee.proofs.Held.{Holds, inRole, seen, seenAt, seen-below, seen-above, seen-as-is, seen-free}
 use Rattle.guarantee.proofs.Next.{Moved, Next, keeps-same, by-gate}
-
--- a tick moves a stream and changes nothing else of it
-tick-moves : (x : Stream) → atPlace x (tickOf x .place) (tickOf x .left) ≡ tickOf x
-tick-moves x = tick-cases x (λ y. atPlace x (y .place) (y .left) ≡ y) (λ h. refl) (λ h. refl)
 
 -- a stream of the record after the tick: nothing of an unreserved one is written
 abbrev ticked : Stream → Stream
@@ -146,10 +143,9 @@ module _ (p : List ℕ) (whole : Whole p) where
       ∙ prior-prior (withQueue p (roleAt p priorRole) emptyQueue) (roleAt p currentRole)
       (omega (arith, keeps-queue p (roleAt p priorRole) emptyQueue (omega (arith, role-below p priorRole)) .long))
 
-  -- so each role is that of the place after it
+  -- so each queue has the role before its own
   ticked-role : (role : ℕ) → roleAt (tickedRecord p) role ≡ roleAt p (suc role)
-  unfolding roleAt
-  ticked-role role = omega (arith, ticked-prior)
+  ticked-role role = role-nearer p (tickedRecord p) role ticked-prior
 
   ticked-purged : queueAt (tickedRecord p) (roleAt p priorRole) ≡ emptyQueue
   unfolding tickedRecord
@@ -179,12 +175,8 @@ module _ (p : List ℕ) (whole : Whole p) where
       rw (ticked-role role, ticked-other (roleAt p (suc role)) (omega (arith, role-below p (suc role))) (role-apart p (suc role) priorRole b (omega arith) (λ e. omega arith)))
 
   -- and last is empty
-  role-wraps : (role : ℕ) → suc role ≡ queueCount → roleAt p (suc role) ≡ roleAt p priorRole
-  unfolding roleAt
-  role-wraps role e = omega arith
-
   ticked-last : (l : List ℕ) (role : ℕ) → suc role ≡ queueCount → inRole (tickedRecord p) l role ≡ []
-  ticked-last l role e = rw (ticked-role role, role-wraps role e, ticked-purged) (empty-waits l (roleAt p priorRole))
+  ticked-last l role e = rw (ticked-role role, role-wraps p role e, ticked-purged) (empty-waits l (roleAt p priorRole))
 
 -- an open port passes the gate
 pub closed-not : (p : List ℕ) → openAt p ≡ true → closedRefusal p ≡ 0

@@ -25,7 +25,7 @@ use Rattle.record.proofs.KeepLaws.{Keeps, keeps-both, keeps-queue, keeps-waits}
 use Rattle.fitness.proofs.FitLaws.{fit-record}
 use Rattle.steps.specs.Outcome.{Outcome, outcome}
 use Rattle.steps.specs.Roles.{roleAt, priorRole, currentRole}
-use Rattle.steps.proofs.RoleLaws.{role-below}
+use Rattle.steps.proofs.RoleLaws.{role-below, role-apart, role-same}
 use Rattle.sending.specs.Sending.{sent, sentBestEffort, nothing, transmitStep}
 use Rattle.sending.proofs.SendLaws.{sends-prior, sends-current, sends-best-effort, sends-nothing}
 use Rattle.gates.specs.Refusals.{closedRefusal}
@@ -34,7 +34,7 @@ use Rattle.guarantee.specs.Events.{Marked, Sent, reserved, bestEffort as
 use Rattle.guarantee.specs.Claims.{isReserved, replyOfSent}
 use Rattle.guarantee.proofs.Run.{View, sends as sends-frame, idles}
 use Rattle.guarantee.proofs.Tied.{Tied, Oldest, oldest, tied-length}
-use Rattle.guarantee.proofs.Held.{Holds, inRole, role-apart, role-same, role-kept, same-seen}
+use Rattle.guarantee.proofs.Held.{Holds, inRole, role-kept, same-seen}
 use Rattle.guarantee.proofs.Next.{Moved, Next, unmoved, by-gate}
 use Rattle.guarantee.proofs.NextTick.{closed-not}
 

@@ -9,7 +9,7 @@ use lib.ListN.{length}
 use lib.Dec.{leb, eqb}
 use borrow.Author.Tests.{eq-eqb, ne-eqb}
 use Rattle.lists.specs.Turns.{sumTo, sumOf}
-use Rattle.lists.proofs.TurnLaws.{sumTo-same, sumTo-change, sumOf-snoc}
+use Rattle.lists.proofs.TurnLaws.{sumTo-same, sumTo-le, sumTo-change, sumOf-snoc}
 use Rattle.lists.proofs.Order.{eq-or-not}
 use Rattle.stream.specs.declared.Stream.{Stream}
 use Rattle.stream.specs.declared.Reply.{Reply}
@@ -42,12 +42,6 @@ pub record Sound (last share : ℕ) (v : View) : Type 0 where
   pub within-share : permittedOf v ≤ share
   pub room : (k : ℕ) → octets (v .queue k) ≤ usedOf v k
   pub charged : (k : ℕ) → All Charged (v .queue k)
-
--- sums in order
-sumTo-le : (f g : ℕ → ℕ) (n : ℕ) → ((k : ℕ) → f k ≤ g k) → sumTo f n ≤ sumTo g n
-unfolding sumTo
-sumTo-le f g zero h = omega arith
-sumTo-le f g (suc n) h = omega (arith, h n, sumTo-le f g n h)
 
 -- the octets in a queue are at most the share
 pub octets-most : (last share : ℕ) (v : View) → Sound last share v → (k : ℕ) → octets (v .queue k) ≤ share

@@ -6,7 +6,7 @@ use mathlib.Core.Logic.{⊎-elim}
 use mathlib.Core.List.{List, [], _∷_}
 use native.Mathlib.Omega.{arith}
 use lib.ListN.{length, getD}
-use Rattle.lists.specs.Turns.{sumTo}
+use Rattle.lists.proofs.TurnLaws.{sumTo-none}
 use Rattle.lists.proofs.Order.{le-or-lt}
 use Rattle.stream.specs.declared.Reply.{Reply}
 use Rattle.stream.specs.declared.Stream.{Stream}
@@ -48,17 +48,11 @@ use Rattle.guarantee.proofs.Play.{Plays, plays}
 abbrev emptyView : View
 emptyView = record { queue = λ role. []; stream = λ s. free }
 
--- a sum of nothing
-no-sum : (n : ℕ) → sumTo (λ s. 0) n ≡ 0
-unfolding sumTo
-no-sum zero = refl
-no-sum (suc n) = omega (arith, no-sum n)
-
 empty-sound : (last share : ℕ) → 1 ≤ last → Sound last share emptyView
 empty-sound last share some =
     record {
       fit = λ s. omega arith;
-      within-share = omega (arith, no-sum streamCount);
+      within-share = omega (arith, sumTo-none streamCount);
       room = λ role. omega arith;
       charged = λ role. tt;
     }

@@ -1,5 +1,5 @@
 -- Laws of `allTo`, `sumTo`, `listTo`, `allOf`, `sumOf` and `iterate`. Assumes nothing.
-use Prim.Native.Nat.{ℕ, zero, suc, _+_, _<_}
+use Prim.Native.Nat.{ℕ, zero, suc, _+_, _≤_, _<_}
 use mathlib.Core.Path.{_≡_, refl, sym, ap, ap₂, subst, _∙_}
 use mathlib.Core.Bool.{Bool, true, false, _&&_}
 use mathlib.Core.Logic.{⊎-elim}
@@ -41,6 +41,18 @@ pub sumTo-same : (f g : ℕ → ℕ) (n : ℕ) → ((k : ℕ) → k < n → f k 
 unfolding sumTo
 sumTo-same f g zero h = refl
 sumTo-same f g (suc n) h = ap₂ _+_ (sumTo-same f g n (λ k b. h k (omega arith))) (h n (omega arith))
+
+-- lesser values, a lesser sum
+pub sumTo-le : (f g : ℕ → ℕ) (n : ℕ) → ((k : ℕ) → f k ≤ g k) → sumTo f n ≤ sumTo g n
+unfolding sumTo
+sumTo-le f g zero h = omega arith
+sumTo-le f g (suc n) h = omega (arith, h n, sumTo-le f g n h)
+
+-- a sum of nothing
+pub sumTo-none : (n : ℕ) → sumTo (λ k. 0) n ≡ 0
+unfolding sumTo
+sumTo-none zero = refl
+sumTo-none (suc n) = omega (arith, sumTo-none n)
 
 -- sums whose values differ at one number differ by what they have there
 pub sumTo-change : (f g : ℕ → ℕ) (n k : ℕ) → k < n → ((i : ℕ) → (i ≡ k → ⊥) → f i ≡ g i) → sumTo f n + g k ≡ sumTo g n + f k

@@ -6,7 +6,7 @@ use mathlib.Core.List.{List}
 use native.Mathlib.Omega.{arith}
 use lib.ListN.{length}
 use Rattle.lists.specs.Turns.{sumTo}
-use Rattle.lists.proofs.TurnLaws.{sumTo-same, iterate-keeps, iterate-each}
+use Rattle.lists.proofs.TurnLaws.{sumTo-same, sumTo-none, iterate-keeps, iterate-each}
 use Rattle.stream.specs.declared.Stream.{Stream}
 use Rattle.queue.specs.Ring.{emptyQueue}
 use Rattle.record.specs.Layout.{Whole, allQueues, streamCount}
@@ -93,12 +93,6 @@ freed l s b =
     (ap (λ (x : Stream). x .reserved) (other-stream-dropped k i t (λ e. omega arith)) ∙ free .0, other-bound-dropped k i t (λ e. omega arith) ∙ free .1))
     s b
 
--- a sum of nothing
-no-sum : (n : ℕ) → sumTo (λ s. 0) n ≡ 0
-unfolding sumTo
-no-sum zero = refl
-no-sum (suc n) = omega (arith, no-sum n)
-
 module _ (p : List ℕ) (link delay : ℕ) (h : Whole p) where
   -- the head, after all queues and then all streams
   emptied-head : Opened link delay (allEmptied (openedHead p link delay))
@@ -146,7 +140,7 @@ module _ (p : List ℕ) (link delay : ℕ) (h : Whole p) where
 
   -- so R is 0
   pub opened-sum : permittedSum (openedRecord p link delay) ≡ 0
-  opened-sum = sumTo-same (λ s. permittedOf (streamAt (openedRecord p link delay) s)) (λ s. 0) streamCount (λ s b. rw (opened-stream s b)) ∙ no-sum streamCount
+  opened-sum = sumTo-same (λ s. permittedOf (streamAt (openedRecord p link delay) s)) (λ s. 0) streamCount (λ s b. rw (opened-stream s b)) ∙ sumTo-none streamCount
 
 -- the record stays as long as it was
 pub length-opened : (p : List ℕ) (link delay : ℕ) → length (openedRecord p link delay) ≡ length p

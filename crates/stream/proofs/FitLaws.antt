@@ -1,11 +1,11 @@
--- A fit stream stays fit, its P stays, and its place falls at a tick only. Assumes nothing.
+-- A fit stream stays fit, no step changes its P, and its place falls at a tick only. Assumes nothing.
 use Prim.Native.Nat.{ℕ, _≤_}
 use mathlib.Core.Path.{_≡_, refl, subst}
 use native.Mathlib.Omega.{arith}
 use Rattle.stream.specs.declared.Stream.{Stream}
 use Rattle.stream.specs.declared.Arrival.{Arrival}
 use Rattle.stream.specs.declared.Arrival.the-variants.{Joined, Discarded}
-use Rattle.stream.specs.State.{currentPlace, reserveOf, Fit}
+use Rattle.stream.specs.State.{currentPlace, atPlace, reserveOf, Fit}
 use Rattle.stream.specs.Steps.{advanced, joined, arriveOf, tickOf}
 use Rattle.stream.specs.Replies.{streamOf}
 use Rattle.stream.proofs.ArriveLaws.{arrive-cases, joined-cases}
@@ -72,3 +72,26 @@ joins-from last s a = arrive-cases last s a (JoinsFrom (s .place)) (λ h. omega 
 
 pub joins-onward : (last : ℕ) (s : Stream) (a place : ℕ) (t : Stream) → arriveOf last s a ≡ Joined place t → s .place ≤ place
 joins-onward last s a place t e = subst (JoinsFrom (s .place)) e (joins-from last s a)
+
+-- and at the last place or before it
+abbrev JoinsWithin : ℕ → Arrival → Type 0
+JoinsWithin last (Joined place t) = place ≤ last
+JoinsWithin last (Discarded t) = Unit {0}
+
+pub joins-within : (last : ℕ) (s : Stream) (a place : ℕ) (t : Stream) → Fit last s → arriveOf last s a ≡ Joined place t → place ≤ last
+joins-within last s a place t fit e =
+    subst (JoinsWithin last) e (arrive-cases last s a (JoinsWithin last) (λ h. fit .last-place) (λ h p q. omega arith) (λ h. tt))
+
+-- a step changes nothing of a stream but its place and left
+abbrev pub OnlyMoves : Stream → Stream → Type 0
+OnlyMoves s t = atPlace s (t .place) (t .left) ≡ t
+
+pub arrive-moves : (last : ℕ) (s : Stream) (a : ℕ) → OnlyMoves s (streamOf (arriveOf last s a))
+arrive-moves last s a =
+    arrive-cases last s a (λ r. OnlyMoves s (streamOf r))
+    (λ h. joined-cases last s a (λ r. OnlyMoves s (streamOf r)) h (λ _. refl) (λ _ _. refl) (λ _ _. refl))
+    (λ h p q. joined-cases last (advanced s) a (λ r. OnlyMoves s (streamOf r)) q (λ _. refl) (λ _ _. refl) (λ _ _. refl))
+    (λ h. refl)
+
+pub tick-moves : (s : Stream) → OnlyMoves s (tickOf s)
+tick-moves s = tick-cases s (OnlyMoves s) (λ h. refl) (λ h. refl)
