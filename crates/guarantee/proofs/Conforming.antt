@@ -1,7 +1,7 @@
 -- A stream that offers no more than P between ticks has each frame accepted as current; where no tick purges, it is sent before the second tick
 -- after it. Assumes nothing.
-use Prim.Native.Nat.{ℕ, zero, suc, _+_, _-_, _≤_, _<_}
-use mathlib.Core.Bool.{Bool, true, false, not, _&&_, cond, and-false}
+use Prim.Native.Nat.{ℕ, suc, _+_, _≤_, _<_}
+use mathlib.Core.Bool.{Bool, true, false, and-false}
 use mathlib.Core.Path.{_≡_, refl, sym, ap, subst, _∙_}
 use mathlib.Core.Logic.{_⊎_, inl, inr, ⊎-elim}
 use mathlib.Core.List.{List, [], _∷_, _++_, append-assoc}
@@ -14,7 +14,7 @@ use Rattle.stream.specs.declared.Reply.{Reply}
 use Rattle.stream.specs.declared.Stream.{Stream}
 use Rattle.stream.specs.declared.Arrival.{Arrival}
 use Rattle.stream.specs.declared.Arrival.the-variants.{Joined, Discarded}
-use Rattle.stream.specs.State.{currentPlace, reserveOf, Fit}
+use Rattle.stream.specs.State.{currentPlace, reserveOf}
 use Rattle.stream.specs.Steps.{joined, arriveOf, tickOf}
 use Rattle.stream.specs.Replies.{replyOf, streamOf}
 use Rattle.stream.proofs.ArriveLaws.{joins-here, joined-cases}
@@ -22,13 +22,14 @@ use Rattle.stream.proofs.TickLaws.{tick-cases}
 use Rattle.record.specs.Layout.{streamCount}
 use Rattle.ranges.specs.Ranges.{leastCharge, greatestCharge, chargeFits}
 use Rattle.ranges.proofs.RangeLaws.{within-bounds}
-use Rattle.port_laws.specs.Lists.{Call, opening, reserving, arriving, ticking, transmitting, joiningBestEffort}
-use Rattle.guarantee.specs.Events.{Marked, Sent, Event, All, Some}
-use Rattle.guarantee.specs.Claims.{isTick, Tick, NoTick, PurgesNothing, offer, offers, OffersWithin, SentBefore, Prompt, ConformingPrompt}
-use Rattle.guarantee.proofs.Run.{View, free, ownRefusal, OneStream, Quiet, Ticks, Arrives, Reserves, RefusesArrival, Effect, quiet, refuses-reservation, reserves, refuses-arrival, arrives, ticks, sends, idles, Run}
+use Rattle.port_laws.specs.Lists.{Call, opening, reserving, arriving, joiningBestEffort}
+use Rattle.guarantee.specs.Events.{Sent, Event, All}
+use Rattle.guarantee.specs.Claims.{isTick, NoTick, PurgesNothing, offer, offers, OffersWithin, SentBefore, Prompt, ConformingPrompt}
+use Rattle.guarantee.proofs.ListLaws.{differ, all-rest}
+use Rattle.guarantee.proofs.Run.{View, ownRefusal, Quiet, Arrives, Reserves, RefusesArrival, Effect, quiet, refuses-reservation, reserves, refuses-arrival, arrives, ticks, sends, idles, Run}
 use Rattle.guarantee.proofs.Room.{Sound, stays-sound}
-use Rattle.guarantee.proofs.Purge.{differ, tick-effect}
-use Rattle.guarantee.proofs.Delay.{Rest, run-rest, all-rest, waits-sent, Accepted, accepted}
+use Rattle.guarantee.proofs.Purge.{tick-effect}
+use Rattle.guarantee.proofs.Delay.{Rest, run-rest, waits-sent, accepted}
 
 -- a stream that has offered so many octets since the last tick, all at current: what is left there, or P at next after an exact fit
 abbrev Conforms : ℕ → Stream → ℕ → Type 0
@@ -101,7 +102,7 @@ module _ (last share n : ℕ) (v w : View) (r : Reply) (t : Sent) (s permitted o
     joined-stream (Joined place y) j = j .1
     joined-stream (Discarded y) j = absurd j
 
-    not-refused : {A : Type 0} → RefusesArrival last share n v w r t s a → A
+    not-refused : {A : Type 0} → RefusesArrival v w r s a → A
     not-refused d = absurd (d .refused (allowed s (v .stream s) a below (h .0 .0) fits))
 
     pub own-reply : Effect last share n v w r t (arriving s a tag) → (r .refusal ≡ 0) × (r .first ≡ currentPlace)
@@ -110,7 +111,7 @@ module _ (last share n : ℕ) (v w : View) (r : Reply) (t : Sent) (s permitted o
     own-reply (arrives e d) = joined-reply (arriveOf last (v .stream s) a) own-joins (d .reply)
 
   -- any call but a tick
-  refused-conforms : (i a tag : ℕ) → RefusesArrival last share n v w r t i a → offered + offer s (arriving i a tag) ≤ permitted
+  refused-conforms : (i a tag : ℕ) → RefusesArrival v w r i a → offered + offer s (arriving i a tag) ≤ permitted
       → Conforms permitted (w .stream s) (offered + offer s (arriving i a tag))
   refused-conforms i a tag d most =
       ⊎-elim
@@ -122,7 +123,7 @@ module _ (last share n : ℕ) (v w : View) (r : Reply) (t : Sent) (s permitted o
       told true fits e = absurd (d .refused (allowed i (v .stream i) a (omega arith) (ap (λ (j : ℕ). v .stream j .reserved) e ∙ h .0 .0) fits))
       told false unfit e = conforms-kept permitted offered _ (v .stream s) (w .stream s) (d .streams s) (offer-unfit s i a tag unfit) h
 
-  arrived-conforms : (i a tag : ℕ) → Arrives last share n v w r t i a tag → offered + offer s (arriving i a tag) ≤ permitted
+  arrived-conforms : (i a tag : ℕ) → Arrives last v w r (record { stream = i; charge = a; tag = tag; number = n }) → offered + offer s (arriving i a tag) ≤ permitted
       → Conforms permitted (w .stream s) (offered + offer s (arriving i a tag))
   arrived-conforms i a tag d most =
       ⊎-elim
@@ -134,7 +135,7 @@ module _ (last share n : ℕ) (v w : View) (r : Reply) (t : Sent) (s permitted o
       (eq-or-not i s)
 
   -- no second grant
-  reserved-conforms : (i p : ℕ) → Reserves last share n v w r t i p → Conforms permitted (w .stream s) (offered + 0)
+  reserved-conforms : (i p : ℕ) → Reserves share v w r i p → Conforms permitted (w .stream s) (offered + 0)
   reserved-conforms i p d =
       ⊎-elim
       (λ (e : s ≡ i). differ (sym (h .0 .0) ∙ ap (λ (j : ℕ). v .stream j .reserved) e ∙ ap (λ (x : Stream). x .reserved) (d .was-free)))
@@ -231,7 +232,7 @@ module _ (last share s permitted : ℕ) (more : currentPlace < last) (below : s 
 
 -- a Reserve without refusal
 granted-reserve : (last share n : ℕ) (v w : View) (r : Reply) (t : Sent) (s permitted : ℕ) → Effect last share n v w r t (reserving s permitted) → r .refusal ≡ 0
-    → Reserves last share n v w r t s permitted
+    → Reserves share v w r s permitted
 granted-reserve last share n v w r t s permitted (quiet q e queues streams) is = absurd q
 granted-reserve last share n v w r t s permitted (refuses-reservation not-granted e queues streams) is = absurd (not-granted is)
 granted-reserve last share n v w r t s permitted (reserves e d) is = d

@@ -1,28 +1,27 @@
 -- Where no tick purges, a frame that joined place k is sent before the tick of number k + 1 after it. Assumes nothing.
-use Prim.Native.Nat.{ℕ, zero, suc, _+_, _≤_, _<_}
+use Prim.Native.Nat.{ℕ, zero, suc, _+_, _≤_}
 use mathlib.Core.Bool.{Bool, true, false, cond}
 use mathlib.Core.Path.{_≡_, refl, sym, ap, subst, _∙_}
 use mathlib.Core.Logic.{_⊎_, inl, inr, ⊎-elim}
-use mathlib.Core.List.{List, [], _∷_, _++_, append-assoc}
+use mathlib.Core.List.{List, [], _∷_, _++_}
 use native.Mathlib.Omega.{arith}
 use borrow.Author.Tests.{eq-eqb, ne-eqb}
 use lib.ListN.{length}
 use Rattle.lists.proofs.Order.{eq-or-not}
 use Rattle.stream.specs.declared.Reply.{Reply}
-use Rattle.stream.specs.declared.Stream.{Stream}
 use Rattle.stream.specs.declared.Arrival.{Arrival}
 use Rattle.stream.specs.declared.Arrival.the-variants.{Joined, Discarded}
-use Rattle.stream.specs.State.{currentPlace, Fit}
-use Rattle.stream.specs.Steps.{advanced, joined, arriveOf}
-use Rattle.stream.specs.Replies.{granted, refusedBy, replyOf}
-use Rattle.stream.proofs.ArriveLaws.{arrive-cases, joined-cases}
+use Rattle.stream.specs.State.{currentPlace}
+use Rattle.stream.specs.Steps.{arriveOf}
+use Rattle.stream.specs.Replies.{granted, replyOf}
 use Rattle.stream.proofs.FitLaws.{joins-onward, joins-within}
-use Rattle.port_laws.specs.Lists.{Call, opening, reserving, arriving, ticking, transmitting, joiningBestEffort}
+use Rattle.port_laws.specs.Lists.{Call, arriving}
 use Rattle.guarantee.specs.Events.{Marked, Sent, reserved, Event, All, Some}
 use Rattle.guarantee.specs.Claims.{isTick, Tick, PurgesNothing, ticks as ticksOf, Sends, SentBefore, AllSentBefore}
-use Rattle.guarantee.proofs.Run.{View, octets, ownRefusal, queueAfter, Quiet, Ticks, Arrives, Effect, quiet, refuses-reservation, reserves, refuses-arrival, arrives, ticks, sends, idles, Run}
+use Rattle.guarantee.proofs.ListLaws.{differ, all-rest}
+use Rattle.guarantee.proofs.Run.{View, queueAfter, Ticks, Effect, quiet, refuses-reservation, reserves, refuses-arrival, arrives, ticks, sends, idles, Run}
 use Rattle.guarantee.proofs.Room.{Sound, stays-sound}
-use Rattle.guarantee.proofs.Purge.{differ, quiet-no-tick, tick-effect}
+use Rattle.guarantee.proofs.Purge.{tick-effect}
 
 -- the frame waits in the queue of this role
 abbrev pub Waits : ℕ → Marked → View → Type 0
@@ -72,8 +71,8 @@ still-waits last share n v w r t c k f (sends j g fs d) no-tick h =
 still-waits last share n v w r t c k f (idles e i queues streams) no-tick h = inr (rw (queues k) h)
 
 -- a frame in prior would be purged
-not-in-prior : {A : Type 0} (last share n : ℕ) (v w : View) (r : Reply) (t : Sent) (f : Marked) → Ticks last share n v w r t → r ≡ granted 0 0 → Waits 0 f v → A
-not-in-prior last share n v w r t f d zeros h =
+not-in-prior : {A : Type 0} (v w : View) (r : Reply) (f : Marked) → Ticks v w r → r ≡ granted 0 0 → Waits 0 f v → A
+not-in-prior v w r f d zeros h =
     let none-wait : length (v .queue 0) ≡ 0 = ap (λ (x : Reply). x .first) (sym (d .reply) ∙ zeros) in
     told (v .queue 0) h none-wait
   where
@@ -99,7 +98,7 @@ module _ (last share : ℕ) (some : currentPlace ≤ last) where
     where
       told : (b : Bool) → isTick (e .call) ≡ b → (k : ℕ) → Waits k f v → k ≤ ticksOf (e ∷ between) → Some (Sends f) (e ∷ between)
       told true is zero h m =
-          not-in-prior last share n v w (e .reply) (e .sent) f (tick-effect last share n v w (e .reply) (e .sent) (e .call) effect is) (purges is) h
+          not-in-prior v w (e .reply) f (tick-effect last share n v w (e .reply) (e .sent) (e .call) effect is) (purges is) h
       told true is (suc k) h m =
           let d = tick-effect last share n v w (e .reply) (e .sent) (e .call) effect is in
           inr (rest after u (suc n) k w f run none-later (rw (d .queues k) h) tick (omega (arith, counts e is)))
@@ -111,7 +110,7 @@ module _ (last share : ℕ) (some : currentPlace ≤ last) where
 
   sent-among : (between : List Event) → SentAmong between
   sent-among [] = λ after u n k v f run purges waits tick most.
-      not-in-prior last share n v (run .0) (u .reply) (u .sent) f (tick-effect last share n v (run .0) (u .reply) (u .sent) (u .call) (run .1) tick) (purges .0 tick)
+      not-in-prior v (run .0) (u .reply) f (tick-effect last share n v (run .0) (u .reply) (u .sent) (u .call) (run .1) tick) (purges .0 tick)
       (subst (λ (j : ℕ). Waits j f v) (omega arith) waits)
   sent-among (e ∷ between) = sent-step e between (sent-among between)
 
@@ -138,10 +137,6 @@ module _ (last share : ℕ) (some : currentPlace ≤ last) where
   run-rest (e ∷ before) rest n v (w, effect, run) h =
       let later = run-rest before rest (suc n) w run (stays-sound last share n v w (e .reply) (e .sent) (e .call) some effect h) in
       record { number = later .number; view = later .view; counted = omega (arith, later .counted); run = later .run; sound = later .sound }
-
-pub all-rest : (P : Event → Type 0) (before rest : List Event) → All P (before ++ rest) → All P rest
-all-rest P [] rest h = h
-all-rest P (e ∷ before) rest h = all-rest P before rest (h .1)
 
 -- an accepted arrival: the frame waits at the place that the reply names
 pub record Accepted (last : ℕ) (w : View) (r : Reply) (f : Marked) : Type 0 where

@@ -1,27 +1,22 @@
 -- What the record and the memory hold of a view: the streams, the queues by their roles, and best effort. Assumes nothing.
-use Prim.Native.Nat.{ℕ, zero, suc, _+_, _-_, _%_, _≤_, _<_}
-use mathlib.Core.Bool.{Bool, true, false, not, cond}
-use mathlib.Core.Path.{_≡_, refl, sym, ap, ap₂, subst, _∙_}
-use mathlib.Core.Logic.{_⊎_, inl, inr, ⊎-elim}
-use mathlib.Core.List.{List, [], _∷_, _++_}
-use native.Mathlib.Omega.{arith}
+use Prim.Native.Nat.{ℕ, _≤_, _<_}
+use mathlib.Core.Bool.{Bool, true, false, cond}
+use mathlib.Core.Path.{_≡_, refl, sym, ap, _∙_}
+use mathlib.Core.Logic.{⊎-elim}
+use mathlib.Core.List.{List, []}
 use borrow.Author.Tests.{lt-ltb, le-ltb, lt-leb, le-leb, eq-eqb, ne-eqb}
 use lib.ListN.{length}
-use lib.Dec.{ltb, leb, eqb}
-use Rattle.lists.specs.Turns.{sumTo}
+use lib.Dec.{ltb, eqb}
 use Rattle.lists.proofs.TurnLaws.{sumTo-same}
 use Rattle.lists.proofs.Order.{le-or-lt, eq-or-not}
 use Rattle.stream.specs.declared.Stream.{Stream}
 use Rattle.queue.specs.declared.Frame.{Frame}
 use Rattle.queue.specs.Waiting.{waiting}
-use Rattle.record.specs.Layout.{Whole, queueCount, bestEffort, streamCount, memoryLength}
+use Rattle.record.specs.Layout.{queueCount, bestEffort, streamCount, memoryLength}
 use Rattle.record.specs.Head.{openAt, priorAt, linkAt, queueAt}
 use Rattle.record.specs.Entry.{streamAt}
-use Rattle.record.proofs.KeepLaws.{Keeps}
-use Rattle.ranges.specs.Ranges.{chargeFits}
 use Rattle.fitness.specs.Clauses.{permittedOf as reservedP, permittedSum}
 use Rattle.fitness.specs.Fit.{recordFits}
-use Rattle.fitness.proofs.FitLaws.{Fit, fit-record}
 use Rattle.steps.specs.Roles.{roleAt}
 use Rattle.steps.proofs.RoleLaws.{role-same}
 use Rattle.gates.specs.Refusals.{arriveRefusal}

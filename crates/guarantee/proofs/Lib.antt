@@ -1,4 +1,5 @@
 -- Demand 3, proved.
+pub mod ListLaws
 pub mod Run
 pub mod Room
 pub mod Purge

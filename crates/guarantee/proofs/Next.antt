@@ -1,17 +1,15 @@
 -- What is to be shown of each call on a port that holds a view, and the calls that are refused. Assumes nothing.
 use Prim.Native.Nat.{ℕ, _≤_, _<_}
-use mathlib.Core.Bool.{Bool, true, false, not, cond}
-use mathlib.Core.Path.{_≡_, refl, sym, ap}
+use mathlib.Core.Bool.{Bool, true, false, cond}
+use mathlib.Core.Path.{_≡_, refl}
 use mathlib.Core.Logic.{⊎-elim}
 use mathlib.Core.List.{List, []}
-use native.Mathlib.Omega.{arith}
 use lib.ListN.{length}
 use Rattle.lists.proofs.Order.{eq-or-not}
-use Rattle.stream.specs.declared.Reply.{Reply}
 use Rattle.stream.specs.State.{lastPlace}
 use Rattle.stream.specs.Replies.{refusedBy}
 use Rattle.queue.specs.Waiting.{waiting}
-use Rattle.record.specs.Layout.{queueCount, bestEffort, memoryLength}
+use Rattle.record.specs.Layout.{queueCount, bestEffort}
 use Rattle.record.specs.Head.{queueAt}
 use Rattle.record.proofs.KeepLaws.{Keeps}
 use Rattle.ranges.specs.Ranges.{shareOf}
@@ -21,7 +19,7 @@ use Rattle.steps.specs.Outcome.{Outcome, refused}
 use Rattle.gates.specs.Gated.{gated}
 use Rattle.gates.proofs.GateLaws.{grants, refuses}
 use Rattle.port_laws.specs.Lists.{Call, transmitting}
-use Rattle.guarantee.specs.Events.{Marked, Sent, reserved, bestEffort as sentBestEffort, none, sentBy}
+use Rattle.guarantee.specs.Events.{Marked, reserved, bestEffort as sentBestEffort, sentBy}
 use Rattle.guarantee.specs.Claims.{replyOfSent}
 use Rattle.guarantee.proofs.Run.{View, Effect}
 use Rattle.guarantee.proofs.Tied.{Tied}

@@ -1,49 +1,48 @@
 -- Arrive on a port that holds a view: the frame joins its queue, which is never full, or is discarded, or the call is refused. Assumes nothing.
-use Prim.Native.Nat.{ℕ, _+_, _*_, _≤_, _<_}
-use mathlib.Core.Bool.{Bool, true, false, not, cond}
+use Prim.Native.Nat.{ℕ, _≤_, _<_}
+use mathlib.Core.Bool.{true, not}
 use mathlib.Core.Path.{_≡_, refl, sym, ap, subst, _∙_}
 use mathlib.Core.Logic.{⊎-elim}
 use mathlib.Core.List.{List, [], _∷_, _++_}
 use native.Mathlib.Omega.{arith}
 use borrow.Author.Tests.{lt-leb, eq-eqb, ne-eqb}
 use lib.ListN.{length, getD, length-append}
-use lib.Dec.{leb, eqb}
+use lib.Dec.{leb}
 use Rattle.lists.proofs.Order.{eq-or-not}
 use Rattle.stream.specs.declared.Stream.{Stream}
-use Rattle.stream.specs.declared.Reply.{Reply}
 use Rattle.stream.specs.declared.Arrival.{Arrival}
 use Rattle.stream.specs.declared.Arrival.the-variants.{Joined, Discarded}
-use Rattle.stream.specs.State.{currentPlace, lastPlace, atPlace}
-use Rattle.stream.specs.Steps.{advanced, arriveOf}
+use Rattle.stream.specs.State.{lastPlace}
+use Rattle.stream.specs.Steps.{arriveOf}
 use Rattle.stream.specs.Replies.{granted, refusedBy, replyOf, streamOf}
 use Rattle.stream.proofs.FitLaws.{OnlyMoves, joins-within, arrive-moves}
 use Rattle.queue.specs.declared.Frame.{Frame}
-use Rattle.queue.specs.declared.Queue.{Queue}
 use Rattle.queue.specs.Ring.{placeCount, joinedMemory, joinedQueue}
 use Rattle.queue.specs.Waiting.{waiting}
 use Rattle.queue.proofs.WaitingLaws.{joins, joins-elsewhere, joins-length, length-waiting}
 use Rattle.record.specs.Layout.{Whole, queueCount, bestEffort, streamCount, memoryLength}
 use Rattle.record.specs.Head.{openAt, priorAt, linkAt, queueAt, withQueue}
-use Rattle.record.specs.Entry.{streamAt, withPlace}
+use Rattle.record.specs.Entry.{streamAt}
 use Rattle.record.proofs.HeadPairs.{queue-queue, other-queue, prior-queue, stream-queue}
 use Rattle.record.proofs.EntryPairs.{stream-place, other-place, prior-place, queue-place}
 use Rattle.record.proofs.KeepLaws.{keeps-both, keeps-queue, keeps-place}
-use Rattle.ranges.specs.Ranges.{leastCharge, greatestCharge, greatestShare, chargeFits, shareOf}
+use Rattle.ranges.specs.Ranges.{greatestShare, chargeFits, shareOf}
 use Rattle.ranges.proofs.RangeLaws.{within-bounds}
 use Rattle.fitness.proofs.FitLaws.{fit-record, fit-plan}
-use Rattle.steps.specs.Outcome.{Outcome, outcome, refused}
+use Rattle.steps.specs.Outcome.{outcome, refused}
 use Rattle.steps.specs.Roles.{roleAt}
 use Rattle.steps.specs.Moves.{moved}
 use Rattle.steps.proofs.RoleLaws.{role-below, role-apart, role-same}
 use Rattle.arriving.specs.Arriving.{arrived, arriveStep}
 use Rattle.gates.specs.Refusals.{arriveRefusal}
 use Rattle.gates.proofs.GateLaws.{arrive-allowed}
-use Rattle.port_laws.specs.Lists.{Call, arriving, ticking, transmitting, called}
+use Rattle.port_laws.specs.Lists.{Call, arriving, ticking, called}
 use Rattle.guarantee.specs.Events.{Marked, reserved, none, broughtBy, marked}
 use Rattle.guarantee.proofs.Run.{View, octets, ownRefusal, queueAfter, Effect, arrives, refuses-arrival}
 use Rattle.guarantee.proofs.Room.{Sound, octets-most, charged-length, stays-sound}
 use Rattle.guarantee.proofs.Tied.{Tied, plain, numbered, tied-joins, tied-length}
-use Rattle.guarantee.proofs.Held.{Holds, inRole, seenAt, seen-below, seen-as-is, own-refusal, role-kept, changed, changed-here, changed-else, changed-seen}
+use Rattle.guarantee.proofs.Purge.{no-transmit}
+use Rattle.guarantee.proofs.Held.{Holds, inRole, seen-below, seen-as-is, own-refusal, role-kept, changed, changed-here, changed-else, changed-seen}
 use Rattle.guarantee.proofs.Next.{Moved, Next, gate-below, next-refused, by-gate}
 
 -- the step, where the frame joins a queue that has room, and where it is discarded
@@ -133,7 +132,6 @@ module _ (all : List Call) (n link : ℕ) (p m k : List ℕ) (v : View) (best : 
       (record {
         allowed = ap (λ (x : Stream). ownRefusal s x a) (h .streams s) ∙ sym (own-refusal p s a (h .opened)) ∙ free-of;
         below = below;
-        is-reserved = ap (λ (x : Stream). x .reserved) seen-held ∙ is-reserved;
         fits = fits;
         reply = ap replyOf (sym rule);
         queues = λ j. ap (λ (y : Arrival). queueAfter j frame y (v .queue j)) (sym rule);
@@ -241,7 +239,7 @@ module _ (all : List Call) (n link : ℕ) (p m k : List ℕ) (v : View) (best : 
           long = joins-length m number (queueAt p number) (plain frame);
           long-marked = joins-length k number (queueAt p number) (numbered frame);
           moved = joined-moved;
-          says = λ z. absurd (let y : _≡_ {A = ℕ} 0 1 = cc in omega arith);
+          says = λ z. absurd (no-transmit (arriving s a tag) tt z);
           not-lent = omega arith;
         })
 
@@ -276,7 +274,7 @@ module _ (all : List Call) (n link : ℕ) (p m k : List ℕ) (v : View) (best : 
                 above = h .above;
                 waits = rw (queue-place p s (spent .place) (spent .left) bestEffort (omega arith)) (h .waits);
               };
-          says = λ z. absurd (let y : _≡_ {A = ℕ} 0 1 = cc in omega arith);
+          says = λ z. absurd (no-transmit (arriving s a tag) tt z);
           not-lent = omega arith;
         })
 
@@ -296,6 +294,6 @@ module _ (all : List Call) (n link : ℕ) (p m k : List ℕ) (v : View) (best : 
       by-gate all n link p m k v best h (arriveRefusal p s a) (arriving s a tag) (arriveStep p m s a tag) (arriveStep p k s a n)
       (λ z.
       next-refused all n link p m k v best h (arriveRefusal p s a) (arriving s a tag) (arrive-below p s a)
-      (λ e. let y : _≡_ {A = ℕ} 0 1 = cc in omega arith)
+      (no-transmit (arriving s a tag) tt)
       (refuses-arrival refl (record { refused = λ e. z (own ∙ e); reply = ap refusedBy own; queues = λ j. refl; streams = λ j. refl })))
       (arrive-next all n link p m k v best h sound s a tag here)

@@ -1,14 +1,12 @@
 -- Best effort on a port that holds a view, granted or refused. Assumes nothing.
 use Prim.Native.Nat.{ℕ, _+_, _≤_, _<_}
-use mathlib.Core.Bool.{Bool, true, false, not, cond}
-use mathlib.Core.Path.{_≡_, refl, sym, ap, _∙_}
+use mathlib.Core.Bool.{not}
+use mathlib.Core.Path.{_≡_, refl, ap, _∙_}
 use mathlib.Core.List.{List, [], _∷_, _++_}
 use native.Mathlib.Omega.{arith}
 use lib.ListN.{length, getD}
 use lib.Dec.{leb, ltb}
-use Rattle.stream.specs.State.{lastPlace}
 use Rattle.queue.specs.declared.Frame.{Frame}
-use Rattle.queue.specs.declared.Queue.{Queue}
 use Rattle.queue.specs.Ring.{placeCount, joinedMemory, joinedQueue}
 use Rattle.queue.specs.Waiting.{waiting}
 use Rattle.queue.proofs.WaitingLaws.{joins, joins-elsewhere, joins-length}
@@ -25,10 +23,11 @@ use Rattle.steps.proofs.RoleLaws.{role-below}
 use Rattle.best_effort.specs.BestEffort.{bestEffortFrame, bestEffortStep}
 use Rattle.gates.specs.Refusals.{bestEffortLimit, bestEffortRefusal}
 use Rattle.gates.proofs.GateLaws.{best-effort-allowed}
-use Rattle.port_laws.specs.Lists.{Call, ticking, transmitting, joiningBestEffort, called}
+use Rattle.port_laws.specs.Lists.{Call, ticking, joiningBestEffort, called}
 use Rattle.guarantee.specs.Events.{Marked, bestEffort as sentBestEffort, broughtBy, marked}
 use Rattle.guarantee.proofs.Run.{View, quiet}
-use Rattle.guarantee.proofs.Tied.{Tied, tied-joins}
+use Rattle.guarantee.proofs.Tied.{tied-joins}
+use Rattle.guarantee.proofs.Purge.{no-transmit}
 use Rattle.guarantee.proofs.Held.{Holds, inRole, role-kept, same-seen}
 use Rattle.guarantee.proofs.Next.{Next, gate-below, next-refused, by-gate}
 
@@ -103,7 +102,7 @@ module _ (all : List Call) (n link : ℕ) (p m k : List ℕ) (v : View) (best : 
                   rw (effort-joins p a m (bestEffortFrame a tag) whole (h .long) (d .free), effort-joins p a k (bestEffortFrame a n) whole (h .long-marked) (d .free))
                   (tied-joins all sentBestEffort (waiting m bestEffort x) (waiting k bestEffort x) best f (h .waits) (ap (broughtBy n) here));
             };
-        says = λ z. absurd (let y : _≡_ {A = ℕ} 0 1 = cc in omega arith);
+        says = λ z. absurd (no-transmit (joiningBestEffort a tag) tt z);
         not-lent = omega arith;
       }
 
@@ -113,6 +112,6 @@ module _ (all : List Call) (n link : ℕ) (p m k : List ℕ) (v : View) (best : 
       by-gate all n link p m k v best h (bestEffortRefusal p a) (joiningBestEffort a tag) (bestEffortStep p m a tag) (bestEffortStep p k a n)
       (λ z.
       next-refused all n link p m k v best h (bestEffortRefusal p a) (joiningBestEffort a tag) (effort-below p a)
-      (λ e. let y : _≡_ {A = ℕ} 0 1 = cc in omega arith)
+      (no-transmit (joiningBestEffort a tag) tt)
       (quiet tt refl (λ j. refl) (λ j. refl)))
       (effort-next a tag here)

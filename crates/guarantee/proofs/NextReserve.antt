@@ -1,20 +1,17 @@
 -- Reserve on a port that holds a view, granted or refused; and Open, which an open port refuses. Assumes nothing.
-use Prim.Native.Nat.{ℕ, _+_, _≤_, _<_}
-use mathlib.Core.Bool.{Bool, true, false, not, cond}
-use mathlib.Core.Path.{_≡_, refl, sym, ap, _∙_}
+use Prim.Native.Nat.{ℕ, _+_, _<_}
+use mathlib.Core.Bool.{true, not}
+use mathlib.Core.Path.{_≡_, refl, ap, _∙_}
 use mathlib.Core.List.{List}
 use native.Mathlib.Omega.{arith}
-use lib.Dec.{leb, ltb, eqb}
-use Rattle.stream.specs.declared.Stream.{Stream}
-use Rattle.stream.specs.State.{lastPlace, reserveOf}
-use Rattle.stream.specs.Replies.{refusedBy}
-use Rattle.queue.specs.Waiting.{waiting}
-use Rattle.record.specs.Layout.{queueCount, bestEffort, allQueues, streamCount}
-use Rattle.record.specs.Head.{openAt, linkAt, queueAt}
+use lib.Dec.{leb, ltb}
+use Rattle.stream.specs.State.{reserveOf}
+use Rattle.record.specs.Layout.{bestEffort, streamCount}
+use Rattle.record.specs.Head.{openAt, linkAt}
 use Rattle.record.specs.Entry.{streamAt, withStream}
 use Rattle.record.proofs.EntryPairs.{stream-stream, other-stream, prior-stream, queue-stream}
 use Rattle.record.proofs.KeepLaws.{keeps-stream}
-use Rattle.ranges.specs.Ranges.{shareOf, linkFits, delayFits, permittedFits}
+use Rattle.ranges.specs.Ranges.{shareOf, permittedFits}
 use Rattle.fitness.specs.Clauses.{permittedSum}
 use Rattle.fitness.proofs.FitLaws.{fit-record}
 use Rattle.steps.specs.Roles.{roleAt}
@@ -22,10 +19,11 @@ use Rattle.steps.proofs.RoleLaws.{role-below}
 use Rattle.opening.specs.Opening.{openStep, reserveStep}
 use Rattle.gates.specs.Refusals.{openRefusal, reserveRefusal}
 use Rattle.gates.proofs.GateLaws.{reserve-allowed}
-use Rattle.port_laws.specs.Lists.{Call, opening, reserving, transmitting, called}
+use Rattle.port_laws.specs.Lists.{Call, opening, reserving, called}
 use Rattle.guarantee.specs.Events.{Marked, marked}
 use Rattle.guarantee.proofs.Run.{View, free, quiet, refuses-reservation, reserves}
-use Rattle.guarantee.proofs.Held.{seenAt, Holds, seen-below, seen-free, seen-sum, role-kept, changed, changed-here, changed-else, changed-seen}
+use Rattle.guarantee.proofs.Purge.{no-transmit}
+use Rattle.guarantee.proofs.Held.{Holds, seen-below, seen-free, seen-sum, role-kept, changed, changed-here, changed-else, changed-seen}
 use Rattle.guarantee.proofs.Next.{Next, gate-below, next-refused, by-gate}
 
 -- the gates' numbers
@@ -80,7 +78,7 @@ module _ (all : List Call) (n link : ℕ) (p m k : List ℕ) (v : View) (best : 
               above = h .above;
               waits = rw (queue-stream p s (reserveOf permitted) bestEffort (omega arith)) (h .waits);
             };
-        says = λ z. absurd (let y : _≡_ {A = ℕ} 0 1 = cc in omega arith);
+        says = λ z. absurd (no-transmit (reserving s permitted) tt z);
         not-lent = omega arith;
       }
 
@@ -89,7 +87,7 @@ module _ (all : List Call) (n link : ℕ) (p m k : List ℕ) (v : View) (best : 
       by-gate all n link p m k v best h (reserveRefusal p s permitted) (reserving s permitted) (reserveStep p m s permitted) (reserveStep p k s permitted)
       (λ z.
       next-refused all n link p m k v best h (reserveRefusal p s permitted) (reserving s permitted) (reserve-below p s permitted)
-      (λ e. let y : _≡_ {A = ℕ} 0 1 = cc in omega arith)
+      (no-transmit (reserving s permitted) tt)
       (refuses-reservation z refl (λ j. refl) (λ j. refl)))
       (reserve-next s permitted)
 
@@ -100,6 +98,6 @@ module _ (all : List Call) (n link : ℕ) (p m k : List ℕ) (v : View) (best : 
       by-gate all n link p m k v best h (openRefusal p l d) (opening l d) (openStep p m l d) (openStep p k l d)
       (λ z.
       next-refused all n link p m k v best h (openRefusal p l d) (opening l d) (omega (arith, two))
-      (λ e. let y : _≡_ {A = ℕ} 0 1 = cc in omega arith)
+      (no-transmit (opening l d) tt)
       (quiet tt refl (λ j. refl) (λ j. refl)))
       (λ z. absurd (omega (arith, two)))

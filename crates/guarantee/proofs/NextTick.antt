@@ -1,30 +1,26 @@
 -- Tick on a port that holds a view: prior is purged, each queue and each stream comes a place nearer. Assumes nothing.
-use Prim.Native.Nat.{ℕ, zero, suc, _+_, _%_, _≤_, _<_}
-use mathlib.Core.Bool.{Bool, true, false, not, cond}
-use mathlib.Core.Path.{_≡_, refl, sym, ap, ap₂, subst, _∙_}
+use Prim.Native.Nat.{ℕ, zero, suc, _≤_, _<_}
+use mathlib.Core.Bool.{Bool, true, false, cond}
+use mathlib.Core.Path.{_≡_, refl, sym, ap, ap₂, _∙_}
 use mathlib.Core.Logic.{⊎-elim}
-use mathlib.Core.List.{List, [], _∷_, _++_}
+use mathlib.Core.List.{List, []}
 use native.Mathlib.Nat.{eq-or-lt-of-le}
 use native.Mathlib.Omega.{arith}
 use lib.ListN.{length}
 use Rattle.lists.specs.Turns.{iterate}
 use Rattle.lists.proofs.TurnLaws.{iterate-keeps}
-use Rattle.lists.proofs.Order.{eq-or-not, le-or-lt}
+use Rattle.lists.proofs.Order.{le-or-lt}
 use Rattle.stream.specs.declared.Stream.{Stream}
-use Rattle.stream.specs.declared.Reply.{Reply}
-use Rattle.stream.specs.State.{lastPlace, atPlace}
 use Rattle.stream.specs.Steps.{tickOf}
 use Rattle.stream.specs.Replies.{granted}
 use Rattle.stream.proofs.FitLaws.{tick-moves}
 use Rattle.stream.proofs.TickLaws.{stays-current}
-use Rattle.queue.specs.declared.Queue.{Queue}
 use Rattle.queue.specs.Ring.{emptyQueue}
-use Rattle.queue.specs.Waiting.{waiting, chargesOf}
 use Rattle.queue.proofs.WaitingLaws.{empty-waits, length-waiting}
 use Rattle.record.specs.Layout.{Whole, queueCount, bestEffort, queueRoom, streamCount}
 use Rattle.record.specs.Head.{openAt, priorAt, withPrior, queueAt, withQueue}
 use Rattle.record.specs.Entry.{streamAt}
-use Rattle.record.proofs.HeadPairs.{prior-prior, queue-prior, stream-prior, queue-queue, other-queue, prior-queue, stream-queue}
+use Rattle.record.proofs.HeadPairs.{prior-prior, queue-prior, stream-prior, queue-queue, other-queue, stream-queue}
 use Rattle.record.proofs.EntryPairs.{stream-place, other-place, prior-place, queue-place}
 use Rattle.record.proofs.KeepLaws.{Keeps, keeps-both, keeps-prior, keeps-queue, keeps-place}
 use Rattle.fitness.proofs.FitLaws.{fit-record}
@@ -33,12 +29,13 @@ use Rattle.steps.specs.Moves.{moved}
 use Rattle.steps.proofs.RoleLaws.{role-below, role-nearer, role-wraps, role-apart}
 use Rattle.ticking.specs.Ticking.{tickedAt, tickedRecord, tickStep}
 use Rattle.gates.specs.Refusals.{closedRefusal}
-use Rattle.port_laws.specs.Lists.{Call, ticking, transmitting, called}
+use Rattle.port_laws.specs.Lists.{Call, ticking, called}
 use Rattle.guarantee.specs.Events.{Marked, reserved, marked}
 use Rattle.guarantee.proofs.Run.{View, free, octets, ticks}
 use Rattle.guarantee.proofs.Tied.{Tied, tied-empty, tied-length, tied-octets}
+use Rattle.guarantee.proofs.Purge.{no-transmit}
 use Rattle.guarantee.proofs.Held.{Holds, inRole, seen, seenAt, seen-below, seen-above, seen-as-is, seen-free}
-use Rattle.guarantee.proofs.Next.{Moved, Next, keeps-same, by-gate}
+use Rattle.guarantee.proofs.Next.{Next, keeps-same, by-gate}
 
 -- a stream of the record after the tick: nothing of an unreserved one is written
 abbrev ticked : Stream → Stream
@@ -238,7 +235,7 @@ module _ (all : List Call) (n link : ℕ) (p m k : List ℕ) (v : View) (best : 
               above = λ role b. h .above (suc role) (omega arith);
               waits = rw tick-waits (h .waits);
             };
-        says = λ z. absurd (let y : _≡_ {A = ℕ} 0 1 = cc in omega arith);
+        says = λ z. absurd (no-transmit ticking tt z);
         not-lent = omega arith;
       }
 

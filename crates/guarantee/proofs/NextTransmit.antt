@@ -1,47 +1,47 @@
 -- Transmit on a port that holds a view: it sends the oldest frame of prior, of current or of best effort, or nothing. Assumes nothing.
-use Prim.Native.Nat.{ℕ, zero, suc, _+_, _-_, _≤_, _<_}
-use mathlib.Core.Bool.{Bool, true, false, cond}
-use mathlib.Core.Path.{_≡_, refl, sym, ap, ap₂, subst, _∙_}
+use Prim.Native.Nat.{ℕ, _-_, _<_}
+use mathlib.Core.Bool.{cond}
+use mathlib.Core.Path.{_≡_, refl, sym, ap, subst, _∙_}
 use mathlib.Core.Logic.{⊎-elim}
-use mathlib.Core.List.{List, [], _∷_, _++_}
+use mathlib.Core.List.{List, []}
 use native.Mathlib.Omega.{arith}
 use borrow.Author.Tests.{eq-eqb, ne-eqb}
-use lib.ListN.{length, getD}
+use lib.ListN.{getD}
 use lib.Dec.{eqb}
 use Rattle.lists.proofs.Order.{eq-or-not}
-use Rattle.stream.specs.declared.Reply.{Reply}
-use Rattle.stream.specs.State.{lastPlace}
 use Rattle.stream.specs.Replies.{granted}
 use Rattle.queue.specs.declared.Frame.{Frame}
 use Rattle.queue.specs.declared.Queue.{Queue}
 use Rattle.queue.specs.Ring.{frontOf, sentQueue}
 use Rattle.queue.specs.Waiting.{waiting}
 use Rattle.queue.proofs.WaitingLaws.{sends, length-waiting}
-use Rattle.record.specs.Layout.{Whole, queueCount, bestEffort, queueRoom, streamCount}
-use Rattle.record.specs.Head.{priorAt, waitsAt, withWaits, queueAt, withQueue}
-use Rattle.record.specs.Entry.{streamAt}
+use Rattle.record.specs.Layout.{Whole, queueCount, bestEffort, queueRoom}
+use Rattle.record.specs.Head.{waitsAt, withWaits, queueAt, withQueue}
 use Rattle.record.proofs.HeadPairs.{queue-waits, prior-waits, stream-waits, queue-queue, other-queue, prior-queue, stream-queue}
-use Rattle.record.proofs.KeepLaws.{Keeps, keeps-both, keeps-queue, keeps-waits}
+use Rattle.record.proofs.KeepLaws.{keeps-both, keeps-queue, keeps-waits}
 use Rattle.fitness.proofs.FitLaws.{fit-record}
-use Rattle.steps.specs.Outcome.{Outcome, outcome}
+use Rattle.steps.specs.Outcome.{outcome}
 use Rattle.steps.specs.Roles.{roleAt, priorRole, currentRole}
 use Rattle.steps.proofs.RoleLaws.{role-below, role-apart, role-same}
 use Rattle.sending.specs.Sending.{sent, sentBestEffort, nothing, transmitStep}
 use Rattle.sending.proofs.SendLaws.{sends-prior, sends-current, sends-best-effort, sends-nothing}
 use Rattle.gates.specs.Refusals.{closedRefusal}
 use Rattle.port_laws.specs.Lists.{Call, ticking, transmitting, called}
-use Rattle.guarantee.specs.Events.{Marked, Sent, reserved, bestEffort as bestEffortFrame, none, broughtBy, sentBy, marked}
-use Rattle.guarantee.specs.Claims.{isReserved, replyOfSent}
+use Rattle.guarantee.specs.Events.{Marked, Sent, reserved, bestEffort as bestEffortFrame, none, broughtBy, marked}
+use Rattle.guarantee.specs.Claims.{replyOfSent}
+use Rattle.guarantee.proofs.ListLaws.{none-long}
 use Rattle.guarantee.proofs.Run.{View, sends as sends-frame, idles}
 use Rattle.guarantee.proofs.Tied.{Tied, Oldest, oldest, tied-length}
 use Rattle.guarantee.proofs.Held.{Holds, inRole, role-kept, same-seen}
-use Rattle.guarantee.proofs.Next.{Moved, Next, unmoved, by-gate}
+use Rattle.guarantee.proofs.Next.{Next, unmoved, by-gate}
 use Rattle.guarantee.proofs.NextTick.{closed-not}
 
--- a list without length is empty
-none-long : (fs : List Marked) → length fs ≡ 0 → fs ≡ []
-none-long [] e = refl
-none-long (f ∷ fs) e = absurd (omega arith)
+-- a frame of best effort is no reserved frame, and none is none
+not-reserved : (f g : Marked) → bestEffortFrame f ≡ reserved g → ⊥
+not-reserved f g e = let z : _≡_ {A = ℕ} 0 1 = cc in omega arith
+
+none-reserved : (g : Marked) → none ≡ reserved g → ⊥
+none-reserved g e = let z : _≡_ {A = ℕ} 0 1 = cc in omega arith
 
 module _ (all : List Call) (n link : ℕ) (p m k : List ℕ) (v : View) (best : List Marked) (h : Holds all link p m k v best) where
   whole : Whole p
@@ -174,7 +174,7 @@ module _ (all : List Call) (n link : ℕ) (p m k : List ℕ) (v : View) (best : 
         record {
           view = v;
           best = oldest-there .others;
-          effect = idles prior-empty (ap isReserved sends-it) (λ j. refl) (λ s. refl);
+          effect = idles prior-empty (λ g e. not-reserved f g (sym sends-it ∙ e)) (λ j. refl) (λ s. refl);
           same = ap (λ (charge : ℕ). withWaits cut (waitsAt p - charge)) same-charge;
           long = refl;
           long-marked = refl;
@@ -199,7 +199,7 @@ module _ (all : List Call) (n link : ℕ) (p m k : List ℕ) (v : View) (best : 
         record {
           view = v;
           best = best;
-          effect = idles prior-empty (ap isReserved first) (λ j. refl) (λ s. refl);
+          effect = idles prior-empty (λ g e. none-reserved g (sym first ∙ e)) (λ j. refl) (λ s. refl);
           same = refl;
           long = refl;
           long-marked = refl;

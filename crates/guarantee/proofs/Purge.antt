@@ -1,13 +1,12 @@
 -- Under the link condition no tick finds a frame in prior. Assumes nothing.
-use Prim.Native.Nat.{ℕ, zero, suc, _+_, _≤_, _<_}
-use mathlib.Core.Bool.{Bool, true, false, cond}
+use Prim.Native.Nat.{ℕ, zero, suc, _+_, _≤_}
+use mathlib.Core.Bool.{Bool, true, false}
 use mathlib.Core.Path.{_≡_, refl, sym, ap, subst, _∙_}
 use mathlib.Core.Logic.{_⊎_, inl, inr, ⊎-elim}
 use mathlib.Core.List.{List, [], _∷_, _++_, append-assoc}
 use native.Mathlib.Omega.{arith}
 use borrow.Author.Tests.{ne-eqb}
 use lib.ListN.{length}
-use Rattle.lists.specs.Turns.{sumOf}
 use Rattle.stream.specs.declared.Reply.{Reply}
 use Rattle.stream.specs.declared.Stream.{Stream}
 use Rattle.stream.specs.declared.Arrival.{Arrival}
@@ -17,32 +16,32 @@ use Rattle.stream.specs.Steps.{arriveOf}
 use Rattle.stream.specs.Replies.{granted}
 use Rattle.stream.proofs.FitLaws.{joins-onward}
 use Rattle.port_laws.specs.Lists.{Call, opening, reserving, arriving, ticking, transmitting, joiningBestEffort}
-use Rattle.guarantee.specs.Events.{Marked, Sent, reserved, bestEffort, none, Event, All, Some}
-use Rattle.guarantee.specs.Claims.{isTick, Tick, NoTick, reservedCharge, reservedOctets, isReserved, Idle, LinkCondition, PurgesNothing}
+use Rattle.guarantee.specs.Events.{Marked, Sent, reserved, none, Event, All, Some}
+use Rattle.guarantee.specs.Claims.{isTick, Tick, NoTick, reservedCharge, reservedOctets, Idle, LinkCondition, PurgesNothing}
+use Rattle.guarantee.proofs.ListLaws.{differ, some-not-none, all-snoc, some-snoc}
 use Rattle.guarantee.proofs.Run.{View, octets, queueAfter, Quiet, Ticks, Effect, quiet, refuses-reservation, reserves, refuses-arrival, arrives, ticks, sends, idles, Run}
 use Rattle.guarantee.proofs.Room.{Charged, Sound, octets-most, no-octets, stays-sound}
-
--- true is not false
-pub differ : {A : Type 0} → _≡_ {A = Bool} true false → A
-differ e = let z : _≡_ {A = ℕ} 0 1 = cc in absurd (omega arith)
-
--- a frame does not make an empty queue
-pub some-not-none : {A : Type 0} (f : Marked) (fs : List Marked) → _≡_ {A = List Marked} (f ∷ fs) [] → A
-some-not-none f fs e = let z : length (f ∷ fs) ≡ length {A = Marked} [] = ap length e in absurd (omega arith)
 
 -- a call that touches neither queues nor streams is no tick and no transmit
 pub quiet-no-tick : (c : Call) → Quiet c → isTick c ≡ false
 quiet-no-tick (opening link delay) q = refl
 quiet-no-tick (joiningBestEffort charge tag) q = refl
 
-quiet-no-transmit : (c : Call) → Quiet c → c ≡ transmitting → ⊥
-quiet-no-transmit c q e = subst Quiet e q
+-- the calls that are no Transmit
+abbrev pub NoTransmit : Call → Type 0
+NoTransmit (opening link delay) = Unit {0}
+NoTransmit (reserving s permitted) = Unit {0}
+NoTransmit (arriving s charge tag) = Unit {0}
+NoTransmit ticking = Unit {0}
+NoTransmit transmitting = ⊥
+NoTransmit (joiningBestEffort charge tag) = Unit {0}
 
--- what sends no reserved frame sends no reserved octets
-none-reserved : (t : Sent) → isReserved t ≡ false → reservedCharge t ≡ 0
-none-reserved (reserved f) e = differ e
-none-reserved (bestEffort f) e = refl
-none-reserved none e = refl
+pub no-transmit : (c : Call) → NoTransmit c → c ≡ transmitting → ⊥
+no-transmit c h e = subst NoTransmit e h
+
+quiet-no-transmit : (c : Call) → Quiet c → NoTransmit c
+quiet-no-transmit (opening link delay) q = tt
+quiet-no-transmit (joiningBestEffort charge tag) q = tt
 
 -- no frame joins prior
 prior-keeps : (last : ℕ) (x : Stream) (a : ℕ) (f : Marked) (fs : List Marked) → Fit last x → queueAfter 0 f (arriveOf last x a) fs ≡ fs
@@ -56,7 +55,7 @@ prior-keeps last x a f fs fit = told (arriveOf last x a) refl
 record Leaves (v w : View) (t : Sent) (c : Call) : Type 0 where
   shrinks : (w .queue 0 ≡ []) ⊎ (reservedCharge t + octets (w .queue 0) ≤ octets (v .queue 0))
   stays-empty : v .queue 0 ≡ [] → w .queue 0 ≡ []
-  idle-empty : c ≡ transmitting → isReserved t ≡ false → w .queue 0 ≡ []
+  idle-empty : c ≡ transmitting → ((f : Marked) → t ≡ reserved f → ⊥) → w .queue 0 ≡ []
 
 kept-leaves : (v w : View) (t : Sent) (c : Call) → w .queue 0 ≡ v .queue 0 → t ≡ none → (c ≡ transmitting → ⊥) → Leaves v w t c
 kept-leaves v w t c same nothing other =
@@ -66,28 +65,21 @@ kept-leaves v w t c same nothing other =
       idle-empty = λ e i. absurd (other e);
     }
 
--- other calls are no transmit
-reserve-no-transmit : (s permitted : ℕ) → _≡_ {A = Call} (reserving s permitted) transmitting → ⊥
-reserve-no-transmit s permitted e = let z : _≡_ {A = ℕ} 0 1 = cc in omega arith
-
-arrive-no-transmit : (s charge tag : ℕ) → _≡_ {A = Call} (arriving s charge tag) transmitting → ⊥
-arrive-no-transmit s charge tag e = let z : _≡_ {A = ℕ} 0 1 = cc in omega arith
-
 leaves : (last share n : ℕ) (v w : View) (r : Reply) (t : Sent) (c : Call) → Effect last share n v w r t c → Sound last share v → isTick c ≡ false → Leaves v w t c
-leaves last share n v w r t c (quiet q e queues streams) h no-tick = kept-leaves v w t c (queues 0) e (quiet-no-transmit c q)
+leaves last share n v w r t c (quiet q e queues streams) h no-tick = kept-leaves v w t c (queues 0) e (no-transmit c (quiet-no-transmit c q))
 leaves last share n v w r t c (refuses-reservation {s = s} {permitted = p} not-granted e queues streams) h no-tick =
-    kept-leaves v w t (reserving s p) (queues 0) e (reserve-no-transmit s p)
-leaves last share n v w r t c (reserves {s = s} {permitted = p} e d) h no-tick = kept-leaves v w t (reserving s p) (d .queues 0) e (reserve-no-transmit s p)
+    kept-leaves v w t (reserving s p) (queues 0) e (no-transmit (reserving s p) tt)
+leaves last share n v w r t c (reserves {s = s} {permitted = p} e d) h no-tick = kept-leaves v w t (reserving s p) (d .queues 0) e (no-transmit (reserving s p) tt)
 leaves last share n v w r t c (refuses-arrival {s = s} {charge = a} {tag = tag} e d) h no-tick =
-    kept-leaves v w t (arriving s a tag) (d .queues 0) e (arrive-no-transmit s a tag)
+    kept-leaves v w t (arriving s a tag) (d .queues 0) e (no-transmit (arriving s a tag) tt)
 leaves last share n v w r t c (arrives {s = s} {charge = a} {tag = tag} e d) h no-tick =
-    kept-leaves v w t (arriving s a tag) (d .queues 0 ∙ prior-keeps last (v .stream s) a _ (v .queue 0) (h .fit s)) e (arrive-no-transmit s a tag)
+    kept-leaves v w t (arriving s a tag) (d .queues 0 ∙ prior-keeps last (v .stream s) a _ (v .queue 0) (h .fit s)) e (no-transmit (arriving s a tag) tt)
 leaves last share n v w r t c (ticks e d) h no-tick = differ no-tick
 leaves last share n v w r t c (sends zero f fs d) h no-tick =
     record {
       shrinks = inr (rw (d .sent, d .queues .0, d .waiting) (omega arith));
       stays-empty = λ e. some-not-none f fs (sym (d .waiting) ∙ e);
-      idle-empty = λ e i. differ (ap isReserved (sym (d .sent)) ∙ i);
+      idle-empty = λ e i. absurd (i f (d .sent));
     }
 leaves last share n v w r t c (sends (suc k) f fs d) h no-tick =
     let empty : w .queue 0 ≡ [] = d .queues .1 0 (λ z. omega arith) ∙ d .earlier 0 (omega arith) in
@@ -97,7 +89,7 @@ leaves last share n v w r t c (idles e i queues streams) h no-tick =
     record { shrinks = inl empty; stays-empty = λ _. empty; idle-empty = λ _ _. empty }
 
 -- a tick purges what is in prior
-pub tick-effect : (last share n : ℕ) (v w : View) (r : Reply) (t : Sent) (c : Call) → Effect last share n v w r t c → isTick c ≡ true → Ticks last share n v w r t
+pub tick-effect : (last share n : ℕ) (v w : View) (r : Reply) (t : Sent) (c : Call) → Effect last share n v w r t c → isTick c ≡ true → Ticks v w r
 tick-effect last share n v w r t c (quiet q e queues streams) tick = differ (sym tick ∙ quiet-no-tick c q)
 tick-effect last share n v w r t c (refuses-reservation not-granted e queues streams) tick = differ (sym tick)
 tick-effect last share n v w r t c (reserves e d) tick = differ (sym tick)
@@ -120,15 +112,6 @@ Drains share prior between = (Some Idle between → prior ≡ []) × ((prior ≡
 octets-snoc : (es : List Event) (e : Event) → reservedOctets (es ++ (e ∷ [])) ≡ reservedOctets es + reservedCharge (e .sent)
 octets-snoc [] e = omega arith
 octets-snoc (d ∷ es) e = omega (arith, octets-snoc es e)
-
-pub some-snoc : (P : Event → Type 0) (es : List Event) (e : Event) → Some P (es ++ (e ∷ [])) → Some P es ⊎ P e
-some-snoc P [] e (inl h) = inr h
-some-snoc P (d ∷ es) e (inl h) = inl (inl h)
-some-snoc P (d ∷ es) e (inr h) = ⊎-elim (λ (i : Some P es). inl (inr i)) (λ (i : P e). inr i) (some-snoc P es e h)
-
-pub all-snoc : (P : Event → Type 0) (es : List Event) (e : Event) → All P es → P e → All P (es ++ (e ∷ []))
-all-snoc P [] e h p = (p, tt)
-all-snoc P (d ∷ es) e h p = (h .0, all-snoc P es e (h .1) p)
 
 module _ (share : ℕ) (v w : View) (between : List Event) (e : Event) (d : Drains share (v .queue 0) between) (l : Leaves v w (e .sent) (e .call)) where
   drains-on : Drains share (w .queue 0) (between ++ (e ∷ []))
@@ -159,8 +142,8 @@ drained share prior between charged d (inl enough) =
 drained share prior between charged d (inr idle) = d .0 idle
 
 -- the reply of a tick that finds prior empty
-purged-nothing : (last share n : ℕ) (v w : View) (r : Reply) (t : Sent) → Ticks last share n v w r t → v .queue 0 ≡ [] → r ≡ granted 0 0
-purged-nothing last share n v w r t d empty = d .reply ∙ ap (λ (fs : List Marked). granted (length fs) (octets fs)) empty
+purged-nothing : (v w : View) (r : Reply) → Ticks v w r → v .queue 0 ≡ [] → r ≡ granted 0 0
+purged-nothing v w r d empty = d .reply ∙ ap (λ (fs : List Marked). granted (length fs) (octets fs)) empty
 
 module _ (last share : ℕ) (some : currentPlace ≤ last) where
   -- what is to be shown of the events that follow a tick t and what came after it
@@ -170,7 +153,7 @@ module _ (last share : ℕ) (some : currentPlace ≤ last) where
       → LinkCondition share (t ∷ (between ++ es)) → Drains share (v .queue 0) between → All PurgesNothing es
 
   -- a tick leaves a prior that is at most the share
-  fresh : (n : ℕ) (v w : View) (e : Event) → Sound last share v → Ticks last share n v w (e .reply) (e .sent) → Drains share (w .queue 0) []
+  fresh : (n : ℕ) (v w : View) (e : Event) → Sound last share v → Ticks v w (e .reply) → Drains share (w .queue 0) []
   fresh n v w e h d = (λ z. absurd z, inr (rw (d .queues 0) (omega (arith, octets-most last share v h 1))))
 
   following-step : (e : Event) (es : List Event) → FollowingPurge es → FollowingPurge (e ∷ es)
@@ -183,7 +166,7 @@ module _ (last share : ℕ) (some : currentPlace ≤ last) where
       told true is =
           let ticked = tick-effect last share n v w (e .reply) (e .sent) (e .call) effect is in
           let empty = drained share (v .queue 0) between (h .charged 0) d (link [] between es t e refl tick is no-ticks) in (
-            λ z. purged-nothing last share n v w (e .reply) (e .sent) ticked empty,
+            λ z. purged-nothing v w (e .reply) ticked empty,
             rest e [] (suc n) w run sound is tt (link-drop share (t ∷ between) (e ∷ es) link) (fresh n v w e h ticked),
           )
       told false is = (
@@ -210,7 +193,7 @@ module _ (last share : ℕ) (some : currentPlace ≤ last) where
       told : (b : Bool) → isTick (e .call) ≡ b → All PurgesNothing (e ∷ es)
       told true is =
           let ticked = tick-effect last share n v w (e .reply) (e .sent) (e .call) effect is in (
-            λ z. purged-nothing last share n v w (e .reply) (e .sent) ticked empty,
+            λ z. purged-nothing v w (e .reply) ticked empty,
             following es e [] (suc n) w run sound is tt link (fresh n v w e h ticked),
           )
       told false is = (

@@ -1,14 +1,12 @@
 -- What can wait in a queue: no more than the streams have used of it, so never more than the share. Assumes nothing.
-use Prim.Native.Nat.{ℕ, zero, suc, _+_, _*_, _-_, _≤_, _<_}
-use mathlib.Core.Bool.{Bool, true, false, not, cond}
-use mathlib.Core.Path.{_≡_, refl, sym, ap, subst, _∙_}
+use Prim.Native.Nat.{ℕ, suc, _+_, _*_, _-_, _≤_, _<_}
+use mathlib.Core.Path.{_≡_, refl, ap, _∙_}
 use mathlib.Core.Logic.{⊎-elim}
-use mathlib.Core.List.{List, [], _∷_, _++_}
+use mathlib.Core.List.{List, [], _∷_}
 use native.Mathlib.Omega.{arith}
 use lib.ListN.{length}
-use lib.Dec.{leb, eqb}
 use borrow.Author.Tests.{eq-eqb, ne-eqb}
-use Rattle.lists.specs.Turns.{sumTo, sumOf}
+use Rattle.lists.specs.Turns.{sumTo}
 use Rattle.lists.proofs.TurnLaws.{sumTo-same, sumTo-le, sumTo-change, sumOf-snoc}
 use Rattle.lists.proofs.Order.{eq-or-not}
 use Rattle.stream.specs.declared.Stream.{Stream}
@@ -22,11 +20,12 @@ use Rattle.stream.specs.Alone.{octetsAt}
 use Rattle.stream.proofs.FitLaws.{fit-arrive, fit-tick, fit-reserve, permitted-arrive, permitted-tick}
 use Rattle.stream.proofs.Used.{used, used-most, used-arrive, used-tick}
 use Rattle.record.specs.Layout.{streamCount}
-use Rattle.ranges.specs.Ranges.{leastCharge, greatestCharge, chargeFits}
+use Rattle.ranges.specs.Ranges.{leastCharge, greatestCharge}
 use Rattle.ranges.proofs.RangeLaws.{within-bounds}
-use Rattle.port_laws.specs.Lists.{Call, opening, reserving, arriving, ticking, transmitting, joiningBestEffort}
+use Rattle.port_laws.specs.Lists.{Call}
 use Rattle.guarantee.specs.Events.{Marked, Sent, All}
-use Rattle.guarantee.proofs.Run.{View, free, octets, permittedOf, SameQueues, SameStreams, OneQueue, OneStream, queueAfter, Effect, quiet, refuses-reservation, reserves, refuses-arrival, arrives, ticks, sends, idles, Reserves, Arrives, Ticks, SendsFrom}
+use Rattle.guarantee.proofs.ListLaws.{all-snoc}
+use Rattle.guarantee.proofs.Run.{View, free, octets, permittedOf, SameQueues, SameStreams, OneQueue, OneStream, queueAfter, Effect, quiet, refuses-reservation, reserves, refuses-arrival, arrives, ticks, sends, idles}
 
 -- a frame's charge is at least the least charge
 abbrev pub Charged : Marked → Type 0
@@ -58,10 +57,6 @@ pub no-octets : (fs : List Marked) → All Charged fs → octets fs ≤ 0 → fs
 no-octets [] h o = refl
 no-octets (f ∷ fs) h o = absurd (omega (arith, h .0))
 
-all-snoc : (fs : List Marked) (f : Marked) → All Charged fs → Charged f → All Charged (fs ++ (f ∷ []))
-all-snoc [] f h c = (c, tt)
-all-snoc (g ∷ fs) f h c = (h .0, all-snoc fs f (h .1) c)
-
 -- the octets that an arrival brings into a queue, and the frame that it brings
 after-octets : (k : ℕ) (f : Marked) (r : Arrival) (fs : List Marked) → octets (queueAfter k f r fs) ≡ octets fs + octetsAt k (f .charge) r
 after-octets k f (Joined place x) fs =
@@ -74,7 +69,7 @@ after-octets k f (Discarded x) fs = omega arith
 after-charged : (k : ℕ) (f : Marked) (r : Arrival) (fs : List Marked) → All Charged fs → Charged f → All Charged (queueAfter k f r fs)
 after-charged k f (Joined place x) fs h c =
     ⊎-elim
-    (λ (e : place ≡ k). rw (eq-eqb place k e) (all-snoc fs f h c))
+    (λ (e : place ≡ k). rw (eq-eqb place k e) (all-snoc Charged fs f h c))
     (λ (o : place ≡ k → ⊥). rw (ne-eqb place k o) h)
     (eq-or-not place k)
 after-charged k f (Discarded x) fs h c = h

@@ -1,7 +1,7 @@
 -- A run of the port as the proof of demand 3 sees it: the queues by their roles as lists of marked frames, the streams, and what each call does to
 -- them. Nothing here knows of octets, nor how many queues there are. Assumes nothing.
 use Prim.Native.Nat.{ℕ, suc, _+_, _≤_, _<_}
-use mathlib.Core.Bool.{Bool, true, false, not, cond}
+use mathlib.Core.Bool.{true, false, not, cond}
 use mathlib.Core.Path.{_≡_}
 use mathlib.Core.List.{List, [], _∷_, _++_}
 use lib.ListN.{length}
@@ -18,7 +18,6 @@ use Rattle.record.specs.Layout.{streamCount}
 use Rattle.ranges.specs.Ranges.{chargeFits}
 use Rattle.port_laws.specs.Lists.{Call, opening, reserving, arriving, ticking, transmitting, joiningBestEffort}
 use Rattle.guarantee.specs.Events.{Marked, Sent, reserved, none, Event}
-use Rattle.guarantee.specs.Claims.{isReserved}
 
 -- the queues, by role (0 prior, 1 current, and so on), and the streams
 pub record View : Type 0 where
@@ -69,58 +68,58 @@ Quiet ticking = ⊥
 Quiet transmitting = ⊥
 Quiet (joiningBestEffort charge tag) = Unit {0}
 
-module _ (last share number : ℕ) (v w : View) (r : Reply) (t : Sent) where
-  -- a Reserve that is granted
-  pub record Reserves (s permitted : ℕ) : Type 0 where
-    pub accepted : r .refusal ≡ 0
-    pub below : s < streamCount
-    pub was-free : v .stream s ≡ free
-    pub within-share : permittedOf v + permitted ≤ share
-    pub queues : SameQueues v w
-    pub streams : OneStream v w s (reserveOf permitted)
+-- a Reserve that is granted
+pub record Reserves (share : ℕ) (v w : View) (r : Reply) (s permitted : ℕ) : Type 0 where
+  pub accepted : r .refusal ≡ 0
+  pub below : s < streamCount
+  pub was-free : v .stream s ≡ free
+  pub within-share : permittedOf v + permitted ≤ share
+  pub queues : SameQueues v w
+  pub streams : OneStream v w s (reserveOf permitted)
 
-  -- an Arrive that its stream's rule decides: the frame joins or is discarded
-  pub record Arrives (s charge tag : ℕ) : Type 0 where
-    pub allowed : ownRefusal s (v .stream s) charge ≡ 0
-    pub below : s < streamCount
-    pub is-reserved : v .stream s .reserved ≡ true
-    pub fits : chargeFits charge ≡ true
-    pub reply : r ≡ replyOf (arriveOf last (v .stream s) charge)
-    pub queues : (k : ℕ)
-        → w .queue k ≡ queueAfter k (record { stream = s; charge = charge; tag = tag; number = number }) (arriveOf last (v .stream s) charge) (v .queue k)
-    pub streams : OneStream v w s (streamOf (arriveOf last (v .stream s) charge))
+-- an Arrive that its stream's rule decides: the frame joins or is discarded
+pub record Arrives (last : ℕ) (v w : View) (r : Reply) (f : Marked) : Type 0 where
+  pub allowed : ownRefusal (f .stream) (v .stream (f .stream)) (f .charge) ≡ 0
+  pub below : f .stream < streamCount
+  pub fits : chargeFits (f .charge) ≡ true
+  pub reply : r ≡ replyOf (arriveOf last (v .stream (f .stream)) (f .charge))
+  pub queues : (k : ℕ) → w .queue k ≡ queueAfter k f (arriveOf last (v .stream (f .stream)) (f .charge)) (v .queue k)
+  pub streams : OneStream v w (f .stream) (streamOf (arriveOf last (v .stream (f .stream)) (f .charge)))
 
-  -- an Arrive that is refused before that
-  pub record RefusesArrival (s charge : ℕ) : Type 0 where
-    pub refused : ownRefusal s (v .stream s) charge ≡ 0 → ⊥
-    pub reply : r ≡ refusedBy (ownRefusal s (v .stream s) charge)
-    pub queues : SameQueues v w
-    pub streams : SameStreams v w
+-- an Arrive that is refused before that
+pub record RefusesArrival (v w : View) (r : Reply) (s charge : ℕ) : Type 0 where
+  pub refused : ownRefusal s (v .stream s) charge ≡ 0 → ⊥
+  pub reply : r ≡ refusedBy (ownRefusal s (v .stream s) charge)
+  pub queues : SameQueues v w
+  pub streams : SameStreams v w
 
-  pub record Ticks : Type 0 where
-    pub reply : r ≡ granted (length (v .queue 0)) (octets (v .queue 0))
-    pub queues : (k : ℕ) → w .queue k ≡ v .queue (suc k)
-    pub streams : (s : ℕ) → w .stream s ≡ tickOf (v .stream s)
+-- a Tick
+pub record Ticks (v w : View) (r : Reply) : Type 0 where
+  pub reply : r ≡ granted (length (v .queue 0)) (octets (v .queue 0))
+  pub queues : (k : ℕ) → w .queue k ≡ v .queue (suc k)
+  pub streams : (s : ℕ) → w .stream s ≡ tickOf (v .stream s)
 
-  -- a Transmit that sends the oldest frame of queue k, where no frame waits in an earlier queue
-  pub record SendsFrom (k : ℕ) (f : Marked) (fs : List Marked) : Type 0 where
-    pub waiting : v .queue k ≡ f ∷ fs
-    pub earlier : (j : ℕ) → j < k → v .queue j ≡ []
-    pub sent : t ≡ reserved f
-    pub reply : r ≡ granted (f .stream) (f .tag)
-    pub queues : OneQueue v w k fs
-    pub streams : SameStreams v w
+-- a Transmit that sends the oldest frame of queue k, where no frame waits in an earlier queue
+pub record SendsFrom (v w : View) (r : Reply) (t : Sent) (k : ℕ) (f : Marked) (fs : List Marked) : Type 0 where
+  pub waiting : v .queue k ≡ f ∷ fs
+  pub earlier : (j : ℕ) → j < k → v .queue j ≡ []
+  pub sent : t ≡ reserved f
+  pub reply : r ≡ granted (f .stream) (f .tag)
+  pub queues : OneQueue v w k fs
+  pub streams : SameStreams v w
 
-  -- one call, its reply and what it sent, between two views
-  pub data Effect : Call → Type 0 where
-    quiet : {c : Call} → Quiet c → t ≡ none → SameQueues v w → SameStreams v w → Effect c
-    refuses-reservation : {s permitted : ℕ} → (r .refusal ≡ 0 → ⊥) → t ≡ none → SameQueues v w → SameStreams v w → Effect (reserving s permitted)
-    reserves : {s permitted : ℕ} → t ≡ none → Reserves s permitted → Effect (reserving s permitted)
-    refuses-arrival : {s charge tag : ℕ} → t ≡ none → RefusesArrival s charge → Effect (arriving s charge tag)
-    arrives : {s charge tag : ℕ} → t ≡ none → Arrives s charge tag → Effect (arriving s charge tag)
-    ticks : t ≡ none → Ticks → Effect ticking
-    sends : (k : ℕ) (f : Marked) (fs : List Marked) → SendsFrom k f fs → Effect transmitting
-    idles : v .queue 0 ≡ [] → isReserved t ≡ false → SameQueues v w → SameStreams v w → Effect transmitting
+-- call number n, its reply and what it sent, between two views of a port with so many places and that share
+pub data Effect (last share n : ℕ) (v w : View) (r : Reply) (t : Sent) : Call → Type 0 where
+  quiet : {c : Call} → Quiet c → t ≡ none → SameQueues v w → SameStreams v w → Effect last share n v w r t c
+  refuses-reservation : {s permitted : ℕ} → (r .refusal ≡ 0 → ⊥) → t ≡ none → SameQueues v w → SameStreams v w
+      → Effect last share n v w r t (reserving s permitted)
+  reserves : {s permitted : ℕ} → t ≡ none → Reserves share v w r s permitted → Effect last share n v w r t (reserving s permitted)
+  refuses-arrival : {s charge tag : ℕ} → t ≡ none → RefusesArrival v w r s charge → Effect last share n v w r t (arriving s charge tag)
+  arrives : {s charge tag : ℕ} → t ≡ none → Arrives last v w r (record { stream = s; charge = charge; tag = tag; number = n })
+      → Effect last share n v w r t (arriving s charge tag)
+  ticks : t ≡ none → Ticks v w r → Effect last share n v w r t ticking
+  sends : (k : ℕ) (f : Marked) (fs : List Marked) → SendsFrom v w r t k f fs → Effect last share n v w r t transmitting
+  idles : v .queue 0 ≡ [] → ((f : Marked) → t ≡ reserved f → ⊥) → SameQueues v w → SameStreams v w → Effect last share n v w r t transmitting
 
 -- events that happen one after the other, the first of them number n
 abbrev pub Run : ℕ → ℕ → ℕ → View → List Event → Type 0

@@ -1,26 +1,23 @@
 -- Demand 3, the theorem. Assumes nothing.
-use Prim.Native.Nat.{ℕ, zero, suc, _+_, _≤_, _<_}
-use mathlib.Core.Bool.{Bool, true, false, cond}
+use Prim.Native.Nat.{ℕ, suc, _+_, _≤_, _<_}
+use mathlib.Core.Bool.{true}
 use mathlib.Core.Path.{_≡_, refl, sym, ap, subst, _∙_}
 use mathlib.Core.Logic.{⊎-elim}
 use mathlib.Core.List.{List, [], _∷_}
 use native.Mathlib.Omega.{arith}
-use lib.ListN.{length, getD}
+use lib.ListN.{getD}
 use Rattle.lists.proofs.TurnLaws.{sumTo-none}
 use Rattle.lists.proofs.Order.{le-or-lt}
-use Rattle.stream.specs.declared.Reply.{Reply}
-use Rattle.stream.specs.declared.Stream.{Stream}
 use Rattle.stream.specs.State.{lastPlace}
-use Rattle.queue.specs.declared.Queue.{Queue}
 use Rattle.queue.specs.Waiting.{waiting}
 use Rattle.queue.proofs.WaitingLaws.{empty-waits}
-use Rattle.record.specs.Layout.{Whole, queueCount, bestEffort, streamCount}
+use Rattle.record.specs.Layout.{Whole, bestEffort, streamCount}
 use Rattle.record.specs.Head.{queueAt}
 use Rattle.record.specs.Entry.{streamAt}
 use Rattle.ranges.specs.Ranges.{shareOf}
 use Rattle.fitness.specs.Fit.{recordFits, lentRefusal}
 use Rattle.fitness.proofs.FitLaws.{fit-record, lent-fit}
-use Rattle.steps.specs.Outcome.{Outcome, outcome}
+use Rattle.steps.specs.Outcome.{Outcome}
 use Rattle.steps.specs.Roles.{roleAt}
 use Rattle.steps.proofs.RoleLaws.{role-below}
 use Rattle.opening.specs.Opening.{openedRecord, openStep}
@@ -28,20 +25,20 @@ use Rattle.gates.specs.Refusals.{openRefusal}
 use Rattle.gates.specs.Gated.{opens}
 use Rattle.gates.proofs.GateLaws.{grants}
 use Rattle.port.specs.Calls.{openCall}
-use Rattle.port_laws.specs.Lists.{Call, opening, ticking, transmitting, called}
+use Rattle.port_laws.specs.Lists.{Call, opening, ticking, called}
 use Rattle.port_laws.proofs.StayLaws.{let-through, stays-fit}
 use Rattle.port_laws.proofs.OpenLaws.{opened-open, opened-link, opened-queue, opened-stream}
-use Rattle.guarantee.specs.Events.{Marked, reserved, bestEffort as sentBestEffort, none, Event, happened, All}
-use Rattle.guarantee.specs.Claims.{SaysWhatItSends, NotByHost, PurgesNothing}
+use Rattle.guarantee.specs.Events.{reserved, bestEffort as sentBestEffort, happened, All}
+use Rattle.guarantee.specs.Claims.{PurgesNothing}
 use Rattle.guarantee.specs.Demand3.{CallList, eventsOf, LinkHolds, Demand3}
-use Rattle.guarantee.proofs.Run.{View, free, octets, permittedOf, quiet, Run}
+use Rattle.guarantee.proofs.Run.{View, free, octets, quiet, Run}
 use Rattle.guarantee.proofs.Room.{Sound}
 use Rattle.guarantee.proofs.Purge.{no-purge}
 use Rattle.guarantee.proofs.Delay.{all-sent}
 use Rattle.guarantee.proofs.Conforming.{prompt}
 use Rattle.guarantee.proofs.Alone.{alike}
-use Rattle.guarantee.proofs.Tied.{Tied, tied-empty}
-use Rattle.guarantee.proofs.Held.{Holds, inRole, seen, seenAt, seen-below, seen-above, seen-free}
+use Rattle.guarantee.proofs.Tied.{tied-empty}
+use Rattle.guarantee.proofs.Held.{Holds, seenAt, seen-below, seen-above, seen-free}
 use Rattle.guarantee.proofs.Play.{Plays, plays}
 
 -- a port as Open leaves it: no frame waits, no stream is reserved

@@ -1,14 +1,14 @@
 -- A queue's frames in the memory, and in the memory of the marked calls, as one list of marked frames. Assumes nothing.
-use Prim.Native.Nat.{ℕ, suc, _+_, _<_}
-use mathlib.Core.Path.{_≡_, refl, sym, ap, ap₂, subst, _∙_}
+use Prim.Native.Nat.{ℕ, suc, _+_}
+use mathlib.Core.Path.{_≡_, refl, sym, ap, _∙_}
 use mathlib.Core.List.{List, [], _∷_, _++_, map}
 use native.Mathlib.Omega.{arith}
 use lib.ListN.{length, getD}
-use Rattle.lists.specs.Turns.{sumOf}
 use Rattle.queue.specs.declared.Frame.{Frame}
 use Rattle.queue.specs.Waiting.{chargesOf}
 use Rattle.port_laws.specs.Lists.{Call, ticking}
 use Rattle.guarantee.specs.Events.{Marked, Sent, broughtBy, All}
+use Rattle.guarantee.proofs.ListLaws.{all-snoc}
 use Rattle.guarantee.proofs.Run.{octets}
 
 -- the frame as it waits in the memory, and with its call's number for a tag
@@ -32,10 +32,6 @@ map-snoc : (g : Marked → Frame) (fs : List Marked) (f : Marked) → map g (fs 
 map-snoc g [] f = refl
 map-snoc g (h ∷ fs) f = ap (λ (l : List Frame). g h ∷ l) (map-snoc g fs f)
 
-known-snoc : (P : Marked → Type 0) (fs : List Marked) (f : Marked) → All P fs → P f → All P (fs ++ (f ∷ []))
-known-snoc P [] f h p = (p, tt)
-known-snoc P (g ∷ fs) f h p = (h .0, known-snoc P fs f (h .1) p)
-
 module _ (all : List Call) (kind : Marked → Sent) where
   pub tied-empty : Tied all kind [] [] []
   tied-empty = record { real = refl; shown = refl; known = tt }
@@ -47,7 +43,7 @@ module _ (all : List Call) (kind : Marked → Sent) where
       record {
         real = ap (λ (l : List Frame). l ++ (plain f ∷ [])) (h .real) ∙ sym (map-snoc plain fs f);
         shown = ap (λ (l : List Frame). l ++ (numbered f ∷ [])) (h .shown) ∙ sym (map-snoc numbered fs f);
-        known = known-snoc (Known all kind) fs f (h .known) k;
+        known = all-snoc (Known all kind) fs f (h .known) k;
       }
 
   -- as many frames, and as many octets

@@ -1,11 +1,12 @@
 -- Demand 3, its sentences one by one, of the events of a list.
-use Prim.Native.Nat.{ℕ, zero, suc, _+_, _≤_}
+use Prim.Native.Nat.{ℕ, _+_, _≤_}
 use mathlib.Core.Bool.{Bool, true, false, _&&_, _||_, cond}
 use mathlib.Core.Path.{_≡_}
 use mathlib.Core.Logic.{_⊎_}
 use mathlib.Core.List.{List, [], _∷_, _++_}
 use lib.ListN.{length}
 use lib.Dec.{eqb}
+use Rattle.lists.specs.Turns.{sumOf}
 use Rattle.stream.specs.declared.Reply.{Reply}
 use Rattle.stream.specs.Replies.{granted}
 use Rattle.stream.specs.State.{currentPlace}
@@ -30,8 +31,7 @@ abbrev pub NoTick : Event → Type 0
 NoTick e = isTick (e .call) ≡ false
 
 abbrev pub ticks : List Event → ℕ
-ticks [] = 0
-ticks (e ∷ es) = cond (isTick (e .call)) 1 0 + ticks es
+ticks = sumOf (λ e. cond (isTick (e .call)) 1 0)
 
 -- "the reserved octets sent": "Octets sent or offered are sums of charges"
 abbrev pub reservedCharge : Sent → ℕ
@@ -40,17 +40,11 @@ reservedCharge (bestEffort f) = 0
 reservedCharge none = 0
 
 abbrev pub reservedOctets : List Event → ℕ
-reservedOctets [] = 0
-reservedOctets (e ∷ es) = reservedCharge (e .sent) + reservedOctets es
+reservedOctets = sumOf (λ e. reservedCharge (e .sent))
 
 -- "some transmit sends no reserved frame"
-abbrev pub isReserved : Sent → Bool
-isReserved (reserved f) = true
-isReserved (bestEffort f) = false
-isReserved none = false
-
 abbrev pub Idle : Event → Type 0
-Idle e = (e .call ≡ transmitting) × (isReserved (e .sent) ≡ false)
+Idle e = (e .call ≡ transmitting) × ((f : Marked) → e .sent ≡ reserved f → ⊥)
 
 -- "Suppose that between any two consecutive ticks the reserved octets sent are at least the port's share or some transmit sends no reserved
 -- frame (the link condition)"
@@ -97,8 +91,7 @@ offer s transmitting = 0
 offer s (joiningBestEffort charge tag) = 0
 
 abbrev pub offers : ℕ → List Event → ℕ
-offers s [] = 0
-offers s (e ∷ es) = offer s (e .call) + offers s es
+offers s = sumOf (λ e. offer s (e .call))
 
 -- "a stream that never offers more than its permitted octets between ticks": in no stretch without a tick
 abbrev pub OffersWithin : ℕ → ℕ → List Event → Type 0

@@ -1,10 +1,7 @@
 -- The examples are events of lists of calls, and what they show of the claims. Assumes nothing.
-use Prim.Native.Nat.{ℕ, _+_, _-_, _≤_}
-use mathlib.Core.Bool.{true}
-use mathlib.Core.Path.{_≡_, refl, sym, ap, subst, _∙_}
-use mathlib.Core.Logic.{_⊎_, inl, inr, ⊎-elim}
-use mathlib.Core.List.{List, [], _∷_, _++_, map}
-use native.Mathlib.Omega.{arith}
+use Prim.Native.Nat.{ℕ}
+use mathlib.Core.Path.{_≡_, refl}
+use mathlib.Core.List.{List, [], _∷_, map}
 use Rattle.lists.specs.Turns.{allTo, sumTo, listTo, iterate}
 use Rattle.octets.specs.Numbers.{twoOf, fourOf, eightOf}
 use Rattle.stream.specs.Steps.{attempt, arriveOf, tickOf}
@@ -22,7 +19,6 @@ use Rattle.sending.specs.Sending.{transmitStep}
 use Rattle.best_effort.specs.BestEffort.{bestEffortStep}
 use Rattle.gates.specs.Refusals.{openRefusal, reserveRefusal, arriveRefusal, closedRefusal, bestEffortRefusal}
 use Rattle.port.specs.Calls.{openCall}
-use Rattle.port_laws.specs.Lists.{Call}
 use Rattle.port_laws.specs.Cases.{freshRecord, freshMemory}
 use Rattle.guarantee.specs.Events.{Event}
 use Rattle.guarantee.specs.Demand3.{CallList}

@@ -1,18 +1,17 @@
 -- What the examples show. Assumes nothing.
-use Prim.Native.Nat.{ℕ, _+_, _-_, _≤_, _<_}
-use mathlib.Core.Bool.{Bool, true, false}
-use mathlib.Core.Path.{_≡_, refl, sym, ap, subst}
-use mathlib.Core.Logic.{_⊎_, inl, inr, ⊎-elim}
+use Prim.Native.Nat.{ℕ, _-_, _≤_}
+use mathlib.Core.Path.{_≡_, refl, ap}
+use mathlib.Core.Logic.{_⊎_, inl, inr}
 use mathlib.Core.List.{List, [], _∷_, _++_}
 use native.Mathlib.Omega.{arith}
 use Rattle.stream.specs.declared.Reply.{Reply}
 use Rattle.stream.specs.State.{lastPlace}
-use Rattle.stream.specs.Replies.{granted, refusedBy}
+use Rattle.stream.specs.Replies.{granted}
 use Rattle.ranges.specs.Ranges.{leastCharge, shareOf}
 use Rattle.port_laws.specs.Lists.{opening, reserving, arriving, ticking}
-use Rattle.guarantee.specs.Events.{Marked, Sent, reserved, none, Event, All, Some}
-use Rattle.guarantee.specs.Claims.{reservedOctets, Idle, LinkCondition, PurgesNothing, Sends, SentBefore, AllSentBefore, answers}
-use Rattle.guarantee_examples.specs.Examples.{frameOf, sending, replied, busy, light, afterArrival, withheld, permitted200, permitted100}
+use Rattle.guarantee.specs.Events.{Marked, reserved, none, Event, All, Some}
+use Rattle.guarantee.specs.Claims.{reservedOctets, Idle, LinkCondition, PurgesNothing, Sends, AllSentBefore}
+use Rattle.guarantee_examples.specs.Examples.{frameOf, sending, replied, busy, light, withheld}
 use Rattle.guarantee_examples.specs.Shown.{ExamplesShow}
 use Rattle.guarantee_examples.proofs.LinkTest.{link-holds, none-idle}
 use Rattle.guarantee_examples.proofs.ExamplesHold.{busy-happens, light-happens, withheld-happens, permitted-200-happens, permitted-100-happens}

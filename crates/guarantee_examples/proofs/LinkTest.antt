@@ -9,9 +9,9 @@ use borrow.Author.Tests.{leb-true}
 use lib.Dec.{leb}
 use Rattle.lists.proofs.TurnLaws.{both}
 use Rattle.port_laws.specs.Lists.{Call, opening, reserving, arriving, ticking, transmitting, joiningBestEffort}
-use Rattle.guarantee.specs.Events.{Event, All, Some}
-use Rattle.guarantee.specs.Claims.{isTick, Tick, NoTick, reservedCharge, reservedOctets, isReserved, Idle, LinkCondition}
-use Rattle.guarantee.proofs.Purge.{differ}
+use Rattle.guarantee.specs.Events.{Marked, Sent, reserved, bestEffort, none, Event, All, Some}
+use Rattle.guarantee.specs.Claims.{isTick, Tick, NoTick, reservedCharge, reservedOctets, Idle, LinkCondition}
+use Rattle.guarantee.proofs.ListLaws.{differ}
 
 -- whether an event is a transmit without a reserved frame
 abbrev isTransmit : Call → Bool
@@ -30,6 +30,11 @@ transmit-so ticking e = differ (sym e)
 transmit-so transmitting e = refl
 transmit-so (joiningBestEffort charge tag) e = differ (sym e)
 
+abbrev isReserved : Sent → Bool
+isReserved (reserved f) = true
+isReserved (bestEffort f) = false
+isReserved none = false
+
 abbrev isIdle : Event → Bool
 isIdle e = isTransmit (e .call) && not (isReserved (e .sent))
 
@@ -38,7 +43,9 @@ not-so true e = sym e
 not-so false e = refl
 
 idle-so : (e : Event) → isIdle e ≡ true → Idle e
-idle-so e is = let b = both (isTransmit (e .call)) (not (isReserved (e .sent))) is in (transmit-so (e .call) (b .0), not-so (isReserved (e .sent)) (b .1))
+idle-so e is =
+    let b = both (isTransmit (e .call)) (not (isReserved (e .sent))) is in
+    (transmit-so (e .call) (b .0), λ f s. differ (ap isReserved (sym s) ∙ not-so (isReserved (e .sent)) (b .1)))
 
 either : (a b : Bool) → (a || b) ≡ true → (a ≡ true) ⊎ (b ≡ true)
 either true b e = inl refl
@@ -114,8 +121,13 @@ neither : (a b : Bool) → (a || b) ≡ false → (a ≡ false) × (b ≡ false)
 neither true b e = differ e
 neither false b e = (refl, e)
 
+so-idle : (t : Sent) → ((f : Marked) → t ≡ reserved f → ⊥) → isReserved t ≡ false
+so-idle (reserved f) h = absurd (h f refl)
+so-idle (bestEffort f) h = refl
+so-idle none h = refl
+
 pub none-idle : (es : List Event) → anyIdle es ≡ false → Some Idle es → ⊥
 none-idle (e ∷ es) h (inl (call, sent)) =
-    let so : isIdle e ≡ true = rw (call, sent) in
+    let so : isIdle e ≡ true = rw (call, so-idle (e .sent) sent) in
     differ (sym so ∙ neither (isIdle e) (anyIdle es) h .0)
 none-idle (e ∷ es) h (inr i) = none-idle es (neither (isIdle e) (anyIdle es) h .1) i

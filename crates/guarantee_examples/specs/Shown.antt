@@ -1,9 +1,7 @@
 -- What the examples show of demand 3: its premise can be met, in either way, and what it claims cannot be claimed of smaller numbers.
 use Prim.Native.Nat.{_-_, _<_}
 use mathlib.Core.Path.{_≡_}
-use mathlib.Core.List.{List, [], _∷_}
 use Rattle.stream.specs.State.{lastPlace}
-use Rattle.stream.specs.Replies.{granted, refusedBy}
 use Rattle.ranges.specs.Ranges.{leastCharge, shareOf}
 use Rattle.guarantee.specs.Events.{All, Some}
 use Rattle.guarantee.specs.Claims.{reservedOctets, Idle, LinkCondition, PurgesNothing, SentBefore, AllSentBefore, grants, answers}
