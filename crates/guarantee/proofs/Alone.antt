@@ -1,6 +1,6 @@
 -- What a stream's arrivals reply is decided by the ticks, its own calls and which of its reservations are granted. Assumes nothing.
 use Prim.Native.Nat.{ℕ, suc}
-use mathlib.Core.Bool.{Bool, false, _||_, cond}
+use mathlib.Core.Bool.{Bool, false, cond}
 use mathlib.Core.Path.{_≡_, refl, sym, ap, ap₂, subst, _∙_}
 use mathlib.Core.Logic.{⊎-elim}
 use mathlib.Core.List.{List, [], _∷_}
@@ -55,9 +55,8 @@ module _ (last share n s : ℕ) (v w : View) (r : Reply) (t : Sent) (es : List E
   -- and from the view before it on, with the call in front of the rest
   abbrev AloneWith : Call → Type 0
   AloneWith c =
-      cond (isArriveOf s c) (r ∷ answers s es) (answers s es)
-      ≡ replyAlone last s (v .stream s) (cond (isTick c || (isReserveOf s c || isArriveOf s c)) (c ∷ remaining s es) (remaining s es))
-      (cond (isReserveOf s c) (eqb (r .refusal) 0 ∷ grants s es) (grants s es))
+      let here : List Event = record { call = c; reply = r; sent = t } ∷ es in
+      answers s here ≡ replyAlone last s (v .stream s) (remaining s here) (grants s here)
 
   -- the reply to an arrival on stream i, and that stream after it
   abbrev Own : ℕ → ℕ → Type 0

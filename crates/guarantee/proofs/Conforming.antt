@@ -24,7 +24,7 @@ use Rattle.ranges.specs.Ranges.{leastCharge, greatestCharge, chargeFits}
 use Rattle.ranges.proofs.RangeLaws.{within-bounds}
 use Rattle.port_laws.specs.Lists.{Call, opening, reserving, arriving, joiningBestEffort}
 use Rattle.guarantee.specs.Events.{Sent, Event, All}
-use Rattle.guarantee.specs.Claims.{isTick, NoTick, PurgesNothing, offer, offers, OffersWithin, SentBefore, Prompt, ConformingPrompt}
+use Rattle.guarantee.specs.Claims.{isTick, NoTick, PurgesNothing, offer, offers, OffersWithin, Prompt, ConformingPrompt}
 use Rattle.guarantee.proofs.ListLaws.{differ, all-rest}
 use Rattle.guarantee.proofs.Run.{View, ownRefusal, Quiet, Arrives, Reserves, RefusesArrival, Effect, quiet, refuses-reservation, reserves, refuses-arrival, arrives, ticks, sends, idles, Run}
 use Rattle.guarantee.proofs.Room.{Sound, stays-sound}
@@ -259,8 +259,8 @@ module _ (last share s permitted : ℕ) (more : currentPlace < last) (below : s 
         reply .0,
         (
           reply .1,
-          subst (λ (i : ℕ). SentBefore 2 (record { stream = s; charge = charge; tag = tag; number = i }) tail) (a .rest .counted)
-              (waits-sent last share (omega arith) 2 (suc number) (e .reply .first) (run .0) _ tail (run .2) purges (joined .waits) (omega (arith, reply .1))),
+          rw (← (a .rest .counted))
+              (waits-sent last share (omega arith) _ (suc number) (e .reply .first) (run .0) _ tail (run .2) purges (joined .waits) (omega (arith, reply .1))),
         ),
       )
 

@@ -164,16 +164,17 @@ module _ (last share n : ℕ) (v w : View) (r : Reply) (t : Sent) (s charge tag 
   accepted (refuses-arrival e d) h no-refusal = absurd (d .refused (ap (λ (x : Reply). x .refusal) (sym (d .reply)) ∙ no-refusal))
   accepted (arrives e d) h no-refusal = joined-accepted h (arriveOf last (v .stream s) charge) refl (d .reply) (d .queues) no-refusal
 
--- every accepted frame is sent before the tick whose number is that of the queues for reserved traffic
-pub all-sent : (last share : ℕ) (v : View) (es : List Event) → currentPlace ≤ last → Run last share 0 v es → Sound last share v → All PurgesNothing es
-    → AllSentBefore (last + 1) es
-all-sent last share v es some run h purges before after e s charge tag split call no-refusal =
+-- every accepted frame is sent before the tick whose number is that of the queues for reserved traffic, or any later one
+pub all-sent : (last share number : ℕ) (v : View) (es : List Event) → currentPlace ≤ last → Run last share 0 v es → Sound last share v → All PurgesNothing es
+    → last + 1 ≤ number → AllSentBefore number es
+all-sent last share number v es some run h purges enough before after e s charge tag split call no-refusal =
     let rest = run-rest last share some before (e ∷ after) 0 v (subst (Run last share 0 v) split run) h in
     let later = rest .run in
     let effect = subst (Effect last share (rest .number) (rest .view) (later .0) (e .reply) (e .sent)) call (later .1) in
     let a = accepted last share (rest .number) (rest .view) (later .0) (e .reply) (e .sent) s charge tag effect (rest .sound) no-refusal in
-    subst (λ (i : ℕ). SentBefore (last + 1) (record { stream = s; charge = charge; tag = tag; number = i }) after) (omega (arith, rest .counted))
-    (waits-sent last share some (last + 1) (suc (rest .number)) (e .reply .first) (later .0) _ after (later .2)
+    let counted : length before ≡ rest .number = omega (arith, rest .counted) in
+    rw counted
+    (waits-sent last share some _ (suc (rest .number)) (e .reply .first) (later .0) _ after (later .2)
     (all-rest PurgesNothing before (e ∷ after) (subst (All PurgesNothing) split purges) .1)
     (a .waits)
-    (omega (arith, a .to-last)))
+    (omega (arith, enough, a .to-last)))

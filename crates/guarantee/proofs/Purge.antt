@@ -17,7 +17,7 @@ use Rattle.stream.specs.Replies.{granted}
 use Rattle.stream.proofs.FitLaws.{joins-onward}
 use Rattle.port_laws.specs.Lists.{Call, opening, reserving, arriving, ticking, transmitting, joiningBestEffort}
 use Rattle.guarantee.specs.Events.{Marked, Sent, reserved, none, Event, All, Some}
-use Rattle.guarantee.specs.Claims.{isTick, Tick, NoTick, reservedCharge, reservedOctets, Idle, LinkCondition, PurgesNothing}
+use Rattle.guarantee.specs.Claims.{isTick, Tick, NoTick, reservedCharge, reservedOctets, Idle, Linked, LinkCondition, PurgesNothing}
 use Rattle.guarantee.proofs.ListLaws.{differ, some-not-none, all-snoc, some-snoc}
 use Rattle.guarantee.proofs.Run.{View, octets, queueAfter, Quiet, Ticks, Effect, quiet, refuses-reservation, reserves, refuses-arrival, arrives, ticks, sends, idles, Run}
 use Rattle.guarantee.proofs.Room.{Charged, Sound, octets-most, no-octets, stays-sound}
@@ -133,7 +133,7 @@ module _ (share : ℕ) (v w : View) (between : List Event) (e : Event) (d : Drai
 
 -- so a tick that the link condition lets follow finds prior empty
 drained : (share : ℕ) (prior : List Marked) (between : List Event) → All Charged prior → Drains share prior between
-    → (share ≤ reservedOctets between) ⊎ Some Idle between → prior ≡ []
+    → Linked share between → prior ≡ []
 drained share prior between charged d (inl enough) =
     ⊎-elim
     (λ (empty : prior ≡ []). empty)

@@ -1,14 +1,14 @@
 -- Demand 3, the theorem. Assumes nothing.
 use Prim.Native.Nat.{ℕ, suc, _+_, _≤_, _<_}
 use mathlib.Core.Bool.{true}
-use mathlib.Core.Path.{_≡_, refl, sym, ap, subst, _∙_}
+use mathlib.Core.Path.{_≡_, refl, sym, ap, ap₂, subst, _∙_}
 use mathlib.Core.Logic.{⊎-elim}
 use mathlib.Core.List.{List, [], _∷_}
 use native.Mathlib.Omega.{arith}
 use lib.ListN.{getD}
 use Rattle.lists.proofs.TurnLaws.{sumTo-none}
 use Rattle.lists.proofs.Order.{le-or-lt}
-use Rattle.stream.specs.State.{lastPlace}
+use Rattle.stream.specs.State.{currentPlace, lastPlace}
 use Rattle.queue.specs.Waiting.{waiting}
 use Rattle.queue.proofs.WaitingLaws.{empty-waits}
 use Rattle.record.specs.Layout.{Whole, bestEffort, streamCount}
@@ -25,15 +25,16 @@ use Rattle.gates.specs.Refusals.{openRefusal}
 use Rattle.gates.specs.Gated.{opens}
 use Rattle.gates.proofs.GateLaws.{grants}
 use Rattle.port.specs.Calls.{openCall}
-use Rattle.port_laws.specs.Lists.{Call, opening, ticking, called}
+use Rattle.port_laws.specs.Lists.{Call, opening, ticking, called, quicklyCalled}
+use Rattle.port_laws.proofs.QuickLaws.{quick-call}
 use Rattle.port_laws.proofs.StayLaws.{let-through, stays-fit}
 use Rattle.port_laws.proofs.OpenLaws.{opened-open, opened-link, opened-queue, opened-stream}
-use Rattle.guarantee.specs.Events.{reserved, bestEffort as sentBestEffort, happened, All}
-use Rattle.guarantee.specs.Claims.{PurgesNothing}
-use Rattle.guarantee.specs.Demand3.{CallList, eventsOf, LinkHolds, Demand3}
+use Rattle.guarantee.specs.Events.{reserved, bestEffort as sentBestEffort, Event, marked, sentBy, happened, events}
+use Rattle.guarantee.specs.Claims.{LinkCondition}
+use Rattle.guarantee.specs.Demand3.{CallList, eventsOf, Promised, Demand3}
 use Rattle.guarantee.proofs.Run.{View, free, octets, quiet, Run}
 use Rattle.guarantee.proofs.Room.{Sound}
-use Rattle.guarantee.proofs.Purge.{no-purge}
+use Rattle.guarantee.proofs.Purge.{no-transmit, no-purge}
 use Rattle.guarantee.proofs.Delay.{all-sent}
 use Rattle.guarantee.proofs.Conforming.{prompt}
 use Rattle.guarantee.proofs.Alone.{alike}
@@ -127,22 +128,44 @@ module _ (l : CallList) where
   run : Run lastPlace (shareOf (l .link)) 0 emptyView (eventsOf l)
   run = (emptyView, quiet tt refl (λ role. refl) (λ s. refl), later-plays .0)
 
-  sound : Sound lastPlace (shareOf (l .link)) emptyView
-  sound = empty-sound lastPlace (shareOf (l .link)) (omega arith)
-
-  purges-nothing : LinkHolds l → All PurgesNothing (eventsOf l)
-  purges-nothing link = no-purge lastPlace (shareOf (l .link)) (omega arith) (eventsOf l) 0 emptyView run sound link refl
+-- what the link condition promises, whatever the number of queues
+pub promises : (last share : ℕ) (es : List Event) → currentPlace < last → Run last share 0 emptyView es → LinkCondition share es → Promised (last + 1) es
+promises last share es more run link =
+    let sound = empty-sound last share (omega arith) in
+    let purges = no-purge last share (omega arith) es 0 emptyView run sound link refl in
+    record {
+      no-purge = purges;
+      all-sent = all-sent last share _ emptyView es (omega arith) run sound purges (omega arith);
+      prompt = prompt last share emptyView es more run sound purges;
+    }
 
 -- every list of calls from a granted Open
 pub demand-3 : (l : CallList) → Demand3 l
 demand-3 l =
     record {
-      says = (λ e. absurd (let z : _≡_ {A = ℕ} 0 1 = cc in omega arith), later-plays l .1 .0);
-      no-purge = purges-nothing l;
-      all-sent = λ link. all-sent lastPlace (shareOf (l .link)) emptyView (eventsOf l) (omega arith) (run l) (sound l) (purges-nothing l link);
-      prompt = λ link. prompt lastPlace (shareOf (l .link)) emptyView (eventsOf l) (omega arith) (run l) (sound l) (purges-nothing l link);
+      promised = promises lastPlace (shareOf (l .link)) (eventsOf l) (omega arith) (run l);
       alike = λ other s.
           alike lastPlace (shareOf (l .link)) (shareOf (other .link)) s (eventsOf l) (eventsOf other) emptyView emptyView refl (run l) (run other);
-      not-by-host =
-          ((λ e. omega (arith, l .opened), (λ e. omega (arith, l .opened), λ e. omega (arith, l .opened))), later-plays l .1 .1);
+      says = (λ e. absurd (no-transmit (opening (l .link) (l .delay)) tt e), later-plays l .1 .0);
+      not-by-host = ((λ e. omega (arith, l .opened), (λ e. omega (arith, l .opened), λ e. omega (arith, l .opened))), later-plays l .1 .1);
     }
+
+-- a call's event in front of the later ones
+abbrev withFirst : List Call → Call → Outcome → Outcome → List Event → List Event
+withFirst all c o shown later = record { call = c; reply = o .reply; sent = sentBy all c (shown .reply) } ∷ later
+
+-- the quick calls, which do not scan the record, are these calls in every such list
+quick-happened : (all cs : List Call) (n : ℕ) (p m q k : List ℕ) → recordFits p m ≡ true → recordFits q k ≡ true
+    → happened quicklyCalled all n cs p m q k ≡ happened called all n cs p m q k
+quick-happened all [] n p m q k fits marked-fits = refl
+quick-happened all (c ∷ cs) n p m q k fits marked-fits =
+    let o = called c p m in
+    let shown = called (marked n c) q k in
+    ap₂ (λ (x y : Outcome). withFirst all c x y (happened quicklyCalled all (suc n) cs (x .port) (x .memory) (y .port) (y .memory)))
+    (quick-call c p m fits) (quick-call (marked n c) q k marked-fits)
+    ∙ ap (withFirst all c o shown) (quick-happened all cs (suc n) (o .port) (o .memory) (shown .port) (shown .memory) (stays-fit c p m fits) (stays-fit (marked n c) q k marked-fits))
+
+pub quick-events : (l : CallList) → events quicklyCalled (opening (l .link) (l .delay) ∷ l .later) (l .port) (l .memory) ≡ eventsOf l
+quick-events l =
+    let fits = fit (l .port) (l .memory) (l .link) (l .delay) (l .opened) in
+    quick-happened (all l) (all l) 0 (l .port) (l .memory) (l .port) (l .memory) fits fits

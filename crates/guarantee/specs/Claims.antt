@@ -46,12 +46,15 @@ reservedOctets = sumOf (λ e. reservedCharge (e .sent))
 abbrev pub Idle : Event → Type 0
 Idle e = (e .call ≡ transmitting) × ((f : Marked) → e .sent ≡ reserved f → ⊥)
 
--- "Suppose that between any two consecutive ticks the reserved octets sent are at least the port's share or some transmit sends no reserved
--- frame (the link condition)"
+-- "the reserved octets sent are at least the port's share or some transmit sends no reserved frame"
+abbrev pub Linked : ℕ → List Event → Type 0
+Linked share between = (share ≤ reservedOctets between) ⊎ Some Idle between
+
+-- "Suppose that between any two consecutive ticks" this is so "(the link condition)"
 abbrev pub LinkCondition : ℕ → List Event → Type 0
 LinkCondition share es =
     (before between after : List Event) (t u : Event) → es ≡ before ++ (t ∷ (between ++ (u ∷ after)))
-    → Tick t → Tick u → All NoTick between → (share ≤ reservedOctets between) ⊎ Some Idle between
+    → Tick t → Tick u → All NoTick between → Linked share between
 
 -- "Then no tick purges a frame": "every tick is granted and replies two zeros"
 abbrev pub PurgesNothing : Event → Type 0

@@ -9,7 +9,7 @@ use Rattle.port_laws.specs.Lists.{Call, opening, called}
 use Rattle.guarantee.specs.Events.{Event, All, events}
 use Rattle.guarantee.specs.Claims.{LinkCondition, PurgesNothing, SaysWhatItSends, AllSentBefore, ConformingPrompt, Alike, NotByHost}
 
--- "The first is a granted Open, whatever record and memory it was given": the two, the Open's L and K, and the calls after it
+-- "The first is a granted Open, whatever record and memory it was given": these two, the Open's L and K, and the calls after it
 pub record CallList : Type 0 where
   pub port : List ℕ
   pub memory : List ℕ
@@ -26,17 +26,23 @@ eventsOf l = events called (opening (l .link) (l .delay) ∷ l .later) (l .port)
 abbrev pub LinkHolds : CallList → Type 0
 LinkHolds l = LinkCondition (shareOf (l .link)) (eventsOf l)
 
+-- what follows from it, in a port with so many queues for reserved traffic
+pub record Promised (queues : ℕ) (es : List Event) : Type 0 where
+  -- "no tick purges a frame"
+  pub no-purge : All PurgesNothing es
+  -- "every accepted reserved frame is sent before the fourth tick after it": in general, the tick whose number is that of the queues
+  pub all-sent : AllSentBefore queues es
+  -- "a stream that never offers more than its permitted octets between ticks has each frame accepted as current and sent before the second tick
+  -- after it"
+  pub prompt : ConformingPrompt es
+
 -- the claim, of one list
 pub record Demand3 (l : CallList) : Type 0 where
-  -- what the events show as sent is what the transmits reply
-  pub says : All SaysWhatItSends (eventsOf l)
-  -- "no tick purges a frame"
-  pub no-purge : LinkHolds l → All PurgesNothing (eventsOf l)
-  -- "every accepted reserved frame is sent before the fourth tick after it": there are as many queues for reserved traffic
-  pub all-sent : LinkHolds l → AllSentBefore queueCount (eventsOf l)
-  -- "a stream that never offers more than its permitted octets between ticks has each frame accepted as current and sent before the second tick after it"
-  pub prompt : LinkHolds l → ConformingPrompt (eventsOf l)
+  -- under the link condition
+  pub promised : LinkHolds l → Promised queueCount (eventsOf l)
   -- "With or without the link condition, two lists alike [..] give its arrivals the same replies", also where they open with another L and K
   pub alike : (other : CallList) (s : ℕ) → Alike s (eventsOf l) (eventsOf other)
+  -- the frames that the events show as sent are those that the transmits reply
+  pub says : All SaysWhatItSends (eventsOf l)
   -- and no call is refused with 18, 19 or 20
   pub not-by-host : All NotByHost (eventsOf l)

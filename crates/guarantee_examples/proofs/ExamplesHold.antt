@@ -1,7 +1,7 @@
 -- The examples are events of lists of calls, and what they show of the claims. Assumes nothing.
 use Prim.Native.Nat.{ℕ}
 use mathlib.Core.Path.{_≡_, refl}
-use mathlib.Core.List.{List, [], _∷_, map}
+use mathlib.Core.List.{List, [], _∷_}
 use Rattle.lists.specs.Turns.{allTo, sumTo, listTo, iterate}
 use Rattle.octets.specs.Numbers.{twoOf, fourOf, eightOf}
 use Rattle.stream.specs.Steps.{attempt, arriveOf, tickOf}
@@ -20,13 +20,13 @@ use Rattle.best_effort.specs.BestEffort.{bestEffortStep}
 use Rattle.gates.specs.Refusals.{openRefusal, reserveRefusal, arriveRefusal, closedRefusal, bestEffortRefusal}
 use Rattle.port.specs.Calls.{openCall}
 use Rattle.port_laws.specs.Cases.{freshRecord, freshMemory}
-use Rattle.guarantee.specs.Events.{Event}
+use Rattle.guarantee.specs.Events.{Event, events}
 use Rattle.guarantee.specs.Demand3.{CallList}
-use Rattle.guarantee_examples.specs.Examples.{Happens, busy, light, withheld, permitted200, permitted100}
+use Rattle.guarantee_examples.specs.Examples.{Happens, busy, light, withheld, permitted200, permitted100, silently, silent, callsOf}
 
 -- a list of calls on a port never opened
 abbrev fromFresh : (link delay : ℕ) → List Event → openCall freshRecord freshMemory link delay .reply .refusal ≡ 0 → CallList
-fromFresh link delay later is = record { port = freshRecord; memory = freshMemory; link = link; delay = delay; later = map (λ (e : Event). e .call) later; opened = is }
+fromFresh link delay later is = record { port = freshRecord; memory = freshMemory; link = link; delay = delay; later = callsOf later; opened = is }
 
 -- the events after the first
 abbrev afterFirst : List Event → List Event
@@ -52,3 +52,7 @@ permitted-200-happens = record { list = fromFresh 2142 1 (afterFirst permitted20
 pub permitted-100-happens : Happens permitted100
 unfolding allTo sumTo listTo iterate twoOf fourOf eightOf attempt arriveOf tickOf frameAt withFrame joinedMemory frontOf waiting openAt withOpen priorAt withPrior delayAt withDelay linkAt withLink waitsAt withWaits queueAt withQueue streamAt withStream withPlace boundAt vidAt pairAt dropped recordFits lentRefusal roleAt openedRecord arriveStep tickedRecord tickStep transmitStep bestEffortStep openRefusal reserveRefusal arriveRefusal closedRefusal bestEffortRefusal
 permitted-100-happens = record { list = fromFresh 2142 1 (afterFirst permitted100) refl; so = refl }
+
+pub silent-happens : events silently (callsOf silent) freshRecord freshMemory ≡ silent
+unfolding allTo sumTo listTo iterate twoOf fourOf eightOf attempt arriveOf tickOf frameAt withFrame joinedMemory frontOf waiting openAt withOpen priorAt withPrior delayAt withDelay linkAt withLink waitsAt withWaits queueAt withQueue streamAt withStream withPlace boundAt vidAt pairAt dropped recordFits lentRefusal roleAt openedRecord arriveStep tickedRecord tickStep transmitStep bestEffortStep openRefusal reserveRefusal arriveRefusal closedRefusal bestEffortRefusal
+silent-happens = refl

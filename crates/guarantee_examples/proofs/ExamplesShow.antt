@@ -11,10 +11,10 @@ use Rattle.ranges.specs.Ranges.{leastCharge, shareOf}
 use Rattle.port_laws.specs.Lists.{opening, reserving, arriving, ticking}
 use Rattle.guarantee.specs.Events.{Marked, reserved, none, Event, All, Some}
 use Rattle.guarantee.specs.Claims.{reservedOctets, Idle, LinkCondition, PurgesNothing, Sends, AllSentBefore}
-use Rattle.guarantee_examples.specs.Examples.{frameOf, sending, replied, busy, light, withheld}
+use Rattle.guarantee_examples.specs.Examples.{frameOf, sending, replied, busy, light, withheld, silent}
 use Rattle.guarantee_examples.specs.Shown.{ExamplesShow}
 use Rattle.guarantee_examples.proofs.LinkTest.{link-holds, none-idle}
-use Rattle.guarantee_examples.proofs.ExamplesHold.{busy-happens, light-happens, withheld-happens, permitted-200-happens, permitted-100-happens}
+use Rattle.guarantee_examples.proofs.ExamplesHold.{busy-happens, light-happens, withheld-happens, permitted-200-happens, permitted-100-happens, silent-happens}
 
 -- the refusal of the first reply
 abbrev firstRefusal : List Reply → ℕ
@@ -75,6 +75,10 @@ fails link =
     (replied (opening 2142 1) (granted 600 0) ∷ replied (reserving 5 600) (granted 0 0) ∷ replied (arriving 5 516 7) (granted 1 84) ∷ replied (arriving 5 84 8) (granted 1 600) ∷ [])
     epoch [] (replied ticking (granted 0 0)) (replied ticking (granted 1 84)) refl refl refl (refl, tt))
 
+-- the tick after the silent transmit
+silent-purged : All PurgesNothing silent → ⊥
+silent-purged (a, (b, (c, (d, (e, (f, g)))))) = let z : _≡_ {A = ℕ} 1 0 = ap (λ (r : Reply). r .first) (f refl) in omega arith
+
 pub examples-show : ExamplesShow
 examples-show =
     record {
@@ -94,4 +98,7 @@ examples-show =
       permitted-100-happens = permitted-100-happens;
       same-grants = refl;
       other-answers = λ e. let z : _≡_ {A = ℕ} 0 14 = ap (λ (rs : List Reply). firstRefusal rs) e in omega arith;
+      silent-happens = silent-happens;
+      silent-links = link-holds (shareOf 2142) silent refl;
+      silent-purges = silent-purged;
     }

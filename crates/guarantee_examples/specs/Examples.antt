@@ -2,11 +2,13 @@
 -- without a reserved frame, and where it fails a tick purges; and no number in the claims can be smaller.
 use Prim.Native.Nat.{ℕ}
 use mathlib.Core.Path.{_≡_}
-use mathlib.Core.List.{List, [], _∷_}
+use mathlib.Core.List.{List, [], _∷_, map}
 use Rattle.stream.specs.declared.Reply.{Reply}
 use Rattle.stream.specs.Replies.{granted, refusedBy}
 use Rattle.fitness.specs.Clauses.{bestEffortStream}
-use Rattle.port_laws.specs.Lists.{Call, opening, reserving, arriving, ticking, transmitting, joiningBestEffort}
+use Rattle.steps.specs.Outcome.{Outcome, outcome}
+use Rattle.sending.specs.Sending.{nothing}
+use Rattle.port_laws.specs.Lists.{Call, opening, reserving, arriving, ticking, transmitting, joiningBestEffort, called}
 use Rattle.guarantee.specs.Events.{Marked, Sent, reserved, bestEffort, none, Event}
 use Rattle.guarantee.specs.Demand3.{CallList, eventsOf}
 
@@ -78,3 +80,26 @@ permitted200 = replied (opening 2142 1) (granted 600 0) ∷ replied (reserving 5
 
 abbrev pub permitted100 : List Event
 permitted100 = replied (opening 2142 1) (granted 600 0) ∷ replied (reserving 5 100) (granted 500 0) ∷ replied (arriving 5 120 7) (refusedBy 14) ∷ []
+
+-- a machine whose transmit says nothing without looking
+abbrev pub silently : Call → List ℕ → List ℕ → Outcome
+silently (opening link delay) p m = called (opening link delay) p m
+silently (reserving s permitted) p m = called (reserving s permitted) p m
+silently (arriving s charge tag) p m = called (arriving s charge tag) p m
+silently ticking p m = called ticking p m
+silently transmitting p m = outcome (granted nothing 0) p m
+silently (joiningBestEffort charge tag) p m = called (joiningBestEffort charge tag) p m
+
+-- and what happens by it: the link condition is met by its transmit, and a tick purges
+abbrev pub silent : List Event
+silent =
+    replied (opening 2142 1) (granted 600 0)
+    ∷ replied (reserving 5 200) (granted 400 0)
+    ∷ replied (arriving 5 120 7) (granted 1 80)
+    ∷ replied ticking (granted 0 0)
+    ∷ sending none (granted nothing 0)
+    ∷ replied ticking (granted 1 120)
+    ∷ []
+
+abbrev pub callsOf : List Event → List Call
+callsOf = map (λ (e : Event). e .call)

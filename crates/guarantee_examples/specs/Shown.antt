@@ -3,9 +3,10 @@ use Prim.Native.Nat.{_-_, _<_}
 use mathlib.Core.Path.{_≡_}
 use Rattle.stream.specs.State.{lastPlace}
 use Rattle.ranges.specs.Ranges.{leastCharge, shareOf}
-use Rattle.guarantee.specs.Events.{All, Some}
+use Rattle.port_laws.specs.Cases.{freshRecord, freshMemory}
+use Rattle.guarantee.specs.Events.{events, All, Some}
 use Rattle.guarantee.specs.Claims.{reservedOctets, Idle, LinkCondition, PurgesNothing, SentBefore, AllSentBefore, grants, answers}
-use Rattle.guarantee_examples.specs.Examples.{frameOf, Happens, busy, light, afterArrival, withheld, permitted200, permitted100}
+use Rattle.guarantee_examples.specs.Examples.{frameOf, Happens, busy, light, afterArrival, withheld, permitted200, permitted100, silently, silent, callsOf}
 
 pub record ExamplesShow : Type 0 where
   -- by octets: the link condition is met, and no transmit is without a reserved frame
@@ -31,3 +32,7 @@ pub record ExamplesShow : Type 0 where
   pub permitted-100-happens : Happens permitted100
   pub same-grants : grants 5 permitted200 ≡ grants 5 permitted100
   pub other-answers : answers 5 permitted200 ≡ answers 5 permitted100 → ⊥
+  -- demand 3 is false of a machine whose transmit says nothing
+  pub silent-happens : events silently (callsOf silent) freshRecord freshMemory ≡ silent
+  pub silent-links : LinkCondition (shareOf 2142) silent
+  pub silent-purges : All PurgesNothing silent → ⊥
