@@ -10,6 +10,7 @@ pub enum Call {
     Arrive { stream: u8, charge: u32, tag: u32 },
     Tick,
     Transmit,
+    BestEffort { charge: u32, tag: u32 },
 }
 
 /// The refusal, or 0, and the two reply numbers.
@@ -40,6 +41,7 @@ impl fmt::Display for Call {
             Call::Arrive { stream, charge, tag } => write!(f, "arrive {stream} {charge} {tag}"),
             Call::Tick => write!(f, "tick"),
             Call::Transmit => write!(f, "transmit"),
+            Call::BestEffort { charge, tag } => write!(f, "best effort {charge} {tag}"),
         }
     }
 }

@@ -50,6 +50,16 @@ extern "C" {
         first: &mut u32,
         second: &mut u32,
     ) -> u8;
+    fn bunnysolder_best_effort(
+        port: *mut u8,
+        port_length: usize,
+        memory: *mut u8,
+        memory_length: usize,
+        charge: u32,
+        tag: u32,
+        first: &mut u32,
+        second: &mut u32,
+    ) -> u8;
     fn bunnysolder_open_unscanned(
         port: *mut u8,
         port_length: usize,
@@ -97,12 +107,23 @@ extern "C" {
         first: &mut u32,
         second: &mut u32,
     ) -> u8;
+    fn bunnysolder_best_effort_unscanned(
+        port: *mut u8,
+        port_length: usize,
+        memory: *mut u8,
+        memory_length: usize,
+        charge: u32,
+        tag: u32,
+        first: &mut u32,
+        second: &mut u32,
+    ) -> u8;
 }
 
 /// The calls as functions of C; Tick and Transmit have no arguments of their own.
 type Open = unsafe extern "C" fn(*mut u8, usize, *const u8, usize, u32, u32, &mut u32, &mut u32) -> u8;
 type Reserve = unsafe extern "C" fn(*mut u8, usize, *const u8, usize, u8, u32, &mut u32, &mut u32) -> u8;
 type Arrive = unsafe extern "C" fn(*mut u8, usize, *mut u8, usize, u8, u32, u32, &mut u32, &mut u32) -> u8;
+type BestEffort = unsafe extern "C" fn(*mut u8, usize, *mut u8, usize, u32, u32, &mut u32, &mut u32) -> u8;
 type Plain = unsafe extern "C" fn(*mut u8, usize, *const u8, usize, &mut u32, &mut u32) -> u8;
 
 /// One sort of call.
@@ -112,6 +133,7 @@ struct Sort {
     arrive: Arrive,
     tick: Plain,
     transmit: Plain,
+    best_effort: BestEffort,
 }
 
 /// The calls with all of document 01's checks.
@@ -121,6 +143,7 @@ const CALLS: Sort = Sort {
     arrive: bunnysolder_arrive,
     tick: bunnysolder_tick,
     transmit: bunnysolder_transmit,
+    best_effort: bunnysolder_best_effort,
 };
 
 /// The quick calls: nothing is scanned.
@@ -130,6 +153,7 @@ const UNSCANNED: Sort = Sort {
     arrive: bunnysolder_arrive_unscanned,
     tick: bunnysolder_tick_unscanned,
     transmit: bunnysolder_transmit_unscanned,
+    best_effort: bunnysolder_best_effort_unscanned,
 };
 
 /// What the two reply numbers hold before each call, so that a number which a call leaves unwritten shows.
@@ -150,6 +174,7 @@ impl Sort {
                 Call::Arrive { stream, charge, tag } => (self.arrive)(p, n, m, k, stream, charge, tag, &mut first, &mut second),
                 Call::Tick => (self.tick)(p, n, m, k, &mut first, &mut second),
                 Call::Transmit => (self.transmit)(p, n, m, k, &mut first, &mut second),
+                Call::BestEffort { charge, tag } => (self.best_effort)(p, n, m, k, charge, tag, &mut first, &mut second),
             }
         };
         Reply { refusal, first, second }

@@ -1,14 +1,14 @@
 //! The quick calls as plain Rust in place, on the layout of the record and the memory: what the quick calls are held against on records of any
 //! content, and what the benchmark measures them beside. Written from their definition (`crates/port/specs/Quick.antt` and the steps below it), which
 //! is total: the queue in a role is (prior + role) modulo 4 for every prior, a ring's place is taken modulo 256 for every start, a place that
-//! is none of the three goes by the same sentences, and W falls to no less than 0.
+//! is none of the three goes by the same sentences, W falls to no less than 0, and so does what L leaves beside R.
 
 use crate::call::{Call, Reply};
 use crate::layout::{self, entry, BOUND, DELAY, LEFT, LINK, OPEN, PERMITTED, PLACE, PRIOR, RESERVED, WAITS};
 use crate::model::octets::{MEMORY_OCTETS, RECORD_OCTETS};
 use crate::model::port::{
-    BEST_EFFORT, CHARGES, CURRENT, DELAYS, LARGEST_CHARGE, LAST, LEAST_PERMITTED, LINKS, MARK_NO, MARK_YES, NOTHING, QUEUE_PLACES,
-    RESERVED_QUEUES, STREAMS,
+    BEST_EFFORT, BEST_EFFORT_STREAM, CHARGES, CURRENT, DELAYS, LARGEST_CHARGE, LAST, LEAST_PERMITTED, LINKS, MARK_NO, MARK_YES, NOTHING,
+    QUEUE_PLACES, RESERVED_QUEUES, STREAMS,
 };
 
 /// The octets of a record and a memory that are long enough.
@@ -35,6 +35,7 @@ fn played(call: &Call, port: &mut [u8], memory: &mut [u8]) -> Result<Reply, u8> 
         Call::Arrive { stream, charge, tag } => arrive(record, memory, stream, charge, tag),
         Call::Tick => tick(record, memory),
         Call::Transmit => transmit(record, memory),
+        Call::BestEffort { charge, tag } => best_effort(record, memory, charge, tag),
     }
 }
 
@@ -234,4 +235,18 @@ fn sent(record: &mut Record, memory: &Memory, queue: usize) -> Reply {
     let frame = frame_at(queue, start, 0);
     let (stream, tag) = (two(memory, frame + layout::FRAME_STREAM), four(memory, frame + layout::FRAME_TAG));
     Reply::granted(stream as u32, tag)
+}
+
+/// Best effort(a, tag): 1, 13, 15, 16, then the step.
+#[inline(always)]
+fn best_effort(record: &mut Record, memory: &mut Memory, charge: u32, tag: u32) -> Result<Reply, u8> {
+    refuse(1, record[OPEN] != MARK_YES)?;
+    refuse(13, !CHARGES.contains(&charge))?;
+    refuse(15, ring(record, BEST_EFFORT).1 as usize >= QUEUE_PLACES)?;
+    let waits = four(record, WAITS) as u64 + charge as u64;
+    let unreserved = (two(record, LINK) as u32).saturating_sub(permitted_sum(record));
+    refuse(16, waits > record[DELAY] as u64 * unreserved as u64)?;
+    join(record, memory, BEST_EFFORT, (BEST_EFFORT_STREAM as u8, charge as u16, tag))?;
+    put_four(record, WAITS, waits as u32);
+    Ok(Reply::granted(waits as u32, 0))
 }

@@ -107,6 +107,17 @@ pub fn permitted_sum(record: &[u8]) -> u32 {
     reserved.map(|stream| two(record, entry(stream) + PERMITTED)).sum()
 }
 
+/// K × (L − R), 0 where R is above L, in a record of any content.
+pub fn best_effort_limit(record: &[u8]) -> u64 {
+    let unreserved = two(record, LINK).saturating_sub(permitted_sum(record));
+    u64::from(record[DELAY]) * u64::from(unreserved)
+}
+
+/// W with a charge more.
+pub fn waits_with(record: &[u8], charge: u32) -> u64 {
+    u64::from(four(record, WAITS)) + u64::from(charge)
+}
+
 /// What an octet of the record belongs to, for a report.
 pub fn record_field(at: usize) -> String {
     match at {

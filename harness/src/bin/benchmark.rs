@@ -1,5 +1,5 @@
-//! What a call costs: nanoseconds for arrive, transmit and tick as a call, as a quick call, and as plain Rust in place on the same layout, in one
-//! run, for a port with 4 streams and for a full one. Nothing here is a test: it prints figures and judges none.
+//! What a call costs: nanoseconds for arrive, transmit, tick and best effort as a call, as a quick call, and as plain Rust in place on the same
+//! layout, in one run, for a port with 4 streams and for a full one. Nothing here is a test: it prints figures and judges none.
 
 use std::hint::black_box;
 use std::time::Instant;
@@ -16,7 +16,7 @@ const ROUNDS: usize = 1_001;
 const LINK: u32 = *LINKS.end();
 const DELAY: u32 = 16;
 
-/// How many arrivals or transmits a batch has.
+/// How many arrivals, transmits or best-effort frames a batch has.
 const BATCH: usize = 64;
 
 /// What a frame of 84 octets takes on a link of 1 and of 10 Gbit/s, in nanoseconds: one arrive and one transmit must not take longer.
@@ -140,40 +140,48 @@ fn arrivals(streams: usize) -> Vec<Call> {
     (0..BATCH).map(|i| Call::Arrive { stream: (i % streams) as u8, charge: LEAST_CHARGE, tag: i as u32 }).collect()
 }
 
+/// A batch of best-effort frames of the least charge.
+fn best_effort() -> Vec<Call> {
+    (0..BATCH).map(|i| Call::BestEffort { charge: LEAST_CHARGE, tag: i as u32 }).collect()
+}
+
 /// The batches of a port with few streams, whose queues are nearly empty.
-fn few(streams: u8) -> [Batch; 3] {
+fn few(streams: u8) -> [Batch; 4] {
     let arrivals = arrivals(streams.into());
     let arrived = after(opened(streams), &arrivals);
     [
         Batch { what: "arrive", port: opened(streams), calls: arrivals },
         Batch { what: "transmit", port: arrived, calls: vec![Call::Transmit; BATCH] },
         Batch { what: "tick, nothing to purge", port: opened(streams), calls: vec![Call::Tick; BATCH] },
+        Batch { what: "best effort", port: opened(streams), calls: best_effort() },
     ]
 }
 
 /// The batches of a port with all streams bound, whose queues are full or become so.
-fn full() -> [Batch; 4] {
-    let purged = after(bound(QUEUE_PLACES), &[Call::Tick; 4]);
+fn full() -> [Batch; 5] {
+    let [all_full, last_fills, best_effort_fills] = [QUEUES, usize::from(LAST), BEST_EFFORT].map(bound);
+    let purged = after(all_full.clone(), &[Call::Tick; 4]);
     [
-        Batch { what: "arrive, 1,216 to 1,280 frames", port: bound(QUEUE_PLACES - BATCH), calls: arrivals(STREAMS) },
-        Batch { what: "transmit, 1,280 to 1,216 frames", port: bound(QUEUE_PLACES), calls: vec![Call::Transmit; BATCH] },
-        Batch { what: "tick, 256 frames purged", port: bound(QUEUE_PLACES), calls: vec![Call::Tick; 4] },
+        Batch { what: "arrive, 1,216 to 1,280 frames", port: last_fills, calls: arrivals(STREAMS) },
+        Batch { what: "transmit, 1,280 to 1,216 frames", port: all_full.clone(), calls: vec![Call::Transmit; BATCH] },
+        Batch { what: "tick, 256 frames purged", port: all_full, calls: vec![Call::Tick; 4] },
         Batch { what: "tick, nothing to purge", port: purged, calls: vec![Call::Tick; BATCH] },
+        Batch { what: "best effort, 1,216 to 1,280", port: best_effort_fills, calls: best_effort() },
     ]
 }
 
-/// A port with every stream bound and at last, 256 frames in each queue but the last of the reserved ones, and in that as many as are said.
-fn bound(in_last: usize) -> Octets {
+/// A port with every stream bound and at last, and 256 frames in each queue, but a batch less in the one of this number, if there is one.
+fn bound(not_full: usize) -> Octets {
     let mut port = opened(STREAMS as u8);
     for stream in 0..STREAMS {
         port.record[layout::entry(stream) + layout::PLACE] = LAST;
         port.put_binding(stream, &[0, 1, 0, 0, 0, 0, 0, stream as u8]);
     }
+    let count = |queue: usize| if queue == not_full { QUEUE_PLACES - BATCH } else { QUEUE_PLACES };
     for queue in 0..QUEUES {
-        let count = if queue == LAST.into() { in_last } else { QUEUE_PLACES };
-        fill(&mut port, queue, count);
+        fill(&mut port, queue, count(queue));
     }
-    layout::put_four(&mut port.record, layout::WAITS, QUEUE_PLACES as u32 * LEAST_CHARGE);
+    layout::put_four(&mut port.record, layout::WAITS, count(BEST_EFFORT) as u32 * LEAST_CHARGE);
     port
 }
 

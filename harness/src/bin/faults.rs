@@ -1,6 +1,6 @@
-//! Sees the comparing tests catch. Writes a package in which each module is a copy of one side with one fault, seeded by an edit of faults/; builds
-//! it once; sees every test pass over the sound sides; and runs over each fault what its edit names: kinds of test, or single tests. Where
-//! one of these does not find it, that is a failure.
+//! Sees the comparing tests catch. Writes a package in which each module is a copy of one side, or of a checker of lists, with one fault, seeded by
+//! an edit of faults/; builds it once; sees every test pass over the sound sides; and runs over each fault what its edit names: kinds of test,
+//! or single tests. Where one of these does not find it, that is a failure.
 //!
 //! `faults` prints, for each fault, what found it; `faults --all` also runs every kind on every fault. The last line is the total.
 
@@ -20,21 +20,23 @@ const AT_A_TIME: usize = 2;
 /// The size at which a fault must be found, in percent of the gate's.
 const SIZE: &str = "10";
 
-/// The name under which the package has the outside program without a fault.
+/// The name under which the package has all of that without a fault.
 const SOUND: &str = "sound";
 
-/// What a fault can be seeded in: the file or folder that is copied for it, its module, and the functions of the module that stand for a side.
+/// What a fault can be seeded in: the file or folder that is copied for it, its module, and the functions of it that stand for a side or checker.
 struct Part {
     copied: &'static str,
     module: &'static str,
     plays: &'static [(&'static str, &'static str)],
 }
 
-/// The independent model, the quick calls in plain Rust, and the exports as a host declares and calls them.
-const PARTS: [Part; 3] = [
+/// The independent model, the quick calls in plain Rust, the exports as a host declares and calls them, and the checkers of demand 3.
+const PARTS: [Part; 5] = [
     Part { copied: "model", module: "model", plays: &[("model", "call")] },
     Part { copied: "in_place.rs", module: "in_place", plays: &[("in_place", "call")] },
     Part { copied: "exports.rs", module: "exports", plays: &[("exports", "call"), ("quick", "unscanned")] },
+    Part { copied: "guarantee/claims.rs", module: "claims", plays: &[("check", "check")] },
+    Part { copied: "guarantee/pairs.rs", module: "pairs", plays: &[("pair", "check")] },
 ];
 
 /// The manifest of the package: quick to build, and a sum that overflows stops it.
@@ -160,11 +162,10 @@ fn seeded(harness: &Path, copy: &Path, fault: &Fault) -> Result<(), String> {
 
 /// The program over the copies: its first word names a fault, the others are those of `compare`.
 fn program(faults: &[Fault]) -> String {
-    let module = |fault: &Fault| format!("mod {} {{\n    pub mod {};\n}}\n", fault.name, fault.part.module);
     let modules: String = faults.iter().map(module).collect();
     let arms: String = faults.iter().map(arm).collect();
     [
-        "pub use harness::{call, layout, model};\nuse harness::comparing::{program, sides::Sides};\n\n",
+        "pub use harness::{call, guarantee, layout, model};\nuse harness::comparing::{program, sides::Sides};\n\n",
         &modules,
         "\nfn main() -> std::process::ExitCode {\n    let words: Vec<String> = std::env::args().skip(1).collect();\n",
         "    let sides = match words[0].as_str() {\n",
@@ -175,7 +176,14 @@ fn program(faults: &[Fault]) -> String {
     .concat()
 }
 
-/// The arm of the program for a fault: the sound sides, but for what the fault is seeded in.
+/// The module of a fault: the copy of what the fault is seeded in, at the path that it has in the package.
+fn module(fault: &Fault) -> String {
+    let (name, Part { copied, module, .. }) = (&fault.name, fault.part);
+    let path = if copied.ends_with(".rs") { String::from(*copied) } else { format!("{copied}/mod.rs") };
+    format!("mod {name} {{\n    #[path = \"{path}\"]\n    pub mod {module};\n}}\n")
+}
+
+/// The arm of the program for a fault: the sound sides and checkers, but for what the fault is seeded in.
 fn arm(fault: &Fault) -> String {
     let (name, part) = (&fault.name, fault.part);
     let play = |(side, function): &(&str, &str)| format!("{side}: {name}::{}::{function}, ", part.module);

@@ -7,7 +7,7 @@ use crate::call::Call;
 use crate::comparing::compared::Step;
 use crate::comparing::fit::no_mark;
 use crate::comparing::random::Random;
-use crate::layout::{self, is_reserved, permitted_sum, two};
+use crate::layout::{self, best_effort_limit, is_reserved, permitted_sum, two, waits_with};
 use crate::model::octets::RECORD_OCTETS;
 use crate::model::port::{CHARGES, DELAYS, LARGEST_CHARGE, LEAST_CHARGE, LEAST_PERMITTED, LINKS, MARK_YES, STREAMS};
 
@@ -35,6 +35,7 @@ pub struct Weights {
     pub arrive: usize,
     pub tick: usize,
     pub transmit: usize,
+    pub best_effort: usize,
     /// The host writes the open mark.
     pub close: usize,
 }
@@ -52,10 +53,10 @@ pub enum Permitted {
     Exactly(u32),
 }
 
-/// Which charges an Arrive brings.
+/// Which charges an Arrive or a Best effort brings.
 #[derive(Clone, Copy)]
 pub enum Charges {
-    /// About what is left at the stream's place.
+    /// About what is left at the stream's place, or up to the limit of best effort.
     NearLeft,
     /// The least.
     Least,
@@ -77,7 +78,7 @@ pub struct Profile {
 
 /// An ordinary profile: every stream and L, charges and P's that press what is left and free, and all calls alike.
 pub const ORDINARY: Profile = Profile {
-    weights: Weights { open: 1, reserve: 1, arrive: 1, tick: 1, transmit: 1, close: 0 },
+    weights: Weights { open: 1, reserve: 1, arrive: 1, tick: 1, transmit: 1, best_effort: 1, close: 0 },
     streams: STREAMS,
     links: LINKS,
     permitted: Permitted::NearFree,
@@ -85,8 +86,8 @@ pub const ORDINARY: Profile = Profile {
     edges: 0,
 };
 
-/// Each of the five calls with good and bad arguments, to be tried on a record of any length and content.
-pub fn each_call(random: &mut Random, record: &[u8]) -> [Call; 10] {
+/// Each of the six calls with good and bad arguments, to be tried on a record of any length and content.
+pub fn each_call(random: &mut Random, record: &[u8]) -> [Call; 13] {
     let zeros = [0; RECORD_OCTETS];
     let record = if record.len() < RECORD_OCTETS { &zeros } else { record };
     let profile = ORDINARY;
@@ -101,6 +102,9 @@ pub fn each_call(random: &mut Random, record: &[u8]) -> [Call; 10] {
         profile.arrive(random, record, true),
         Call::Tick,
         Call::Transmit,
+        profile.best_effort(random, record, false),
+        profile.best_effort(random, record, false),
+        profile.best_effort(random, record, true),
     ]
 }
 
@@ -111,13 +115,14 @@ impl Profile {
         if record[layout::OPEN] != MARK_YES && random.chance(60) {
             return Step::Call(self.open(random, edge));
         }
-        let Weights { open, reserve, arrive, tick, transmit, close } = self.weights;
-        Step::Call(match random.weighted(&[open, reserve, arrive, tick, transmit, close]) {
+        let Weights { open, reserve, arrive, tick, transmit, best_effort, close } = self.weights;
+        Step::Call(match random.weighted(&[open, reserve, arrive, tick, transmit, best_effort, close]) {
             0 => self.open(random, edge),
             1 => self.reserve(random, record, edge),
             2 => self.arrive(random, record, edge),
             3 => Call::Tick,
             4 => Call::Transmit,
+            5 => self.best_effort(random, record, edge),
             _ => return Step::HostWrites { at: layout::OPEN, octet: no_mark(random) },
         })
     }
@@ -168,8 +173,22 @@ impl Profile {
     fn arrive(&self, random: &mut Random, record: &[u8], edge: bool) -> Call {
         let stream = if edge && random.chance(30) { edge_stream(random) } else { self.stream(random, record, true) };
         let charge = if edge && random.chance(60) { random.pick(&EDGE_CHARGES) } else { self.any_charge(random, record, stream) };
-        let tag = random.number();
-        Call::Arrive { stream, charge, tag: random.pick(&[0, u32::MAX, tag, tag, tag]) }
+        Call::Arrive { stream, charge, tag: any_tag(random) }
+    }
+
+    /// A Best effort; one at an edge has its charge at an end or outside.
+    fn best_effort(&self, random: &mut Random, record: &[u8], edge: bool) -> Call {
+        let charge = if edge { random.pick(&EDGE_CHARGES) } else { self.any_best_effort(random, record) };
+        Call::BestEffort { charge, tag: any_tag(random) }
+    }
+
+    /// A best-effort charge of this profile: what the limit still allows, one octet more or less than that, or any.
+    fn any_best_effort(&self, random: &mut Random, record: &[u8]) -> u32 {
+        let Charges::NearLeft = self.charges else { return LEAST_CHARGE };
+        let any = random.between(CHARGES);
+        let free = best_effort_limit(record).saturating_sub(waits_with(record, 0)).min(u64::from(LARGEST_CHARGE)) as u32;
+        let charge = random.pick(&[free, free, free + 1, free.saturating_sub(1), LEAST_CHARGE, LARGEST_CHARGE, any, any]);
+        charge.clamp(LEAST_CHARGE, LARGEST_CHARGE)
     }
 
     /// A charge of this profile.
@@ -198,6 +217,12 @@ impl Profile {
 fn any_delay(random: &mut Random) -> u32 {
     let delay = random.between(DELAYS);
     random.pick(&[*DELAYS.start(), *DELAYS.end(), delay])
+}
+
+/// A tag, its ends more often.
+fn any_tag(random: &mut Random) -> u32 {
+    let tag = random.number();
+    random.pick(&[0, u32::MAX, tag, tag, tag])
 }
 
 /// The last stream, or one that there is not.

@@ -4,8 +4,10 @@ use std::collections::BTreeMap;
 use std::fmt;
 
 use crate::call::{Call, Reply};
+use crate::guarantee::found::Shown;
 use crate::layout;
 use crate::model::port::{BEST_EFFORT, BEST_EFFORT_STREAM, CURRENT, LAST, NOTHING, QUEUE_PLACES, RESERVED_QUEUES, STREAMS};
+use crate::model::refusal::{BEST_EFFORT_EXCEEDED, BEST_EFFORT_FULL};
 
 /// One kind of thing that can happen.
 #[derive(Clone, Copy, Debug, PartialEq, Eq, PartialOrd, Ord)]
@@ -40,8 +42,24 @@ pub enum Seen {
     SentFromBestEffort,
     /// A Transmit that found nothing to send.
     SentNothing,
+    /// A frame that joined best effort.
+    BestEffort,
+    /// A frame that joined best effort and made W just K × (L − R).
+    BestEffortAtLimit,
+    /// A best-effort frame that was refused for one octet above K × (L − R).
+    BestEffortOneAbove,
+    /// A frame that joined best effort at a place of memory before its start.
+    BestEffortWrapped,
+    /// A frame that filled best effort.
+    BestEffortFilled,
+    /// A best-effort frame that was refused with 15 and would have been with 16.
+    BestEffortFullAndAbove,
+    /// A granted Reserve after which W is above K × (L − R).
+    LimitBelowWaits,
     /// A refusal with a number.
     Refused(u8),
+    /// What a list that is held against demand 3 showed.
+    Shown(Shown),
     /// The host closed the port by writing its record.
     Closed,
     /// A record that the model calls fit.
@@ -68,7 +86,15 @@ impl fmt::Display for Seen {
             Seen::SentFromCurrent => write!(f, "sent from current"),
             Seen::SentFromBestEffort => write!(f, "sent from best effort"),
             Seen::SentNothing => write!(f, "sent nothing"),
+            Seen::BestEffort => write!(f, "joined best effort"),
+            Seen::BestEffortAtLimit => write!(f, "best effort at its limit"),
+            Seen::BestEffortOneAbove => write!(f, "best effort one above"),
+            Seen::BestEffortWrapped => write!(f, "best effort wrapped"),
+            Seen::BestEffortFilled => write!(f, "best effort filled"),
+            Seen::BestEffortFullAndAbove => write!(f, "best effort full and above"),
+            Seen::LimitBelowWaits => write!(f, "limit fell below W"),
             Seen::Refused(number) => write!(f, "refused {number}"),
+            Seen::Shown(shown) => write!(f, "{shown}"),
             Seen::Closed => write!(f, "closed by host"),
             Seen::FitRecord => write!(f, "fit"),
             Seen::UnfitRecord => write!(f, "unfit"),
@@ -89,7 +115,7 @@ impl Coverage {
     }
 
     /// Counts so many things of one kind.
-    fn add(&mut self, seen: Seen, times: u64) {
+    pub fn add(&mut self, seen: Seen, times: u64) {
         if times > 0 {
             *self.counts.entry(seen).or_default() += times;
         }
@@ -102,6 +128,9 @@ impl Coverage {
 
     /// Counts what a call did, by its reply and the record after it; `prior_waited` says whether frames waited in prior before it.
     pub fn count_call(&mut self, call: &Call, reply: &Reply, record: &[u8], prior_waited: bool) {
+        if let Call::BestEffort { charge, .. } = *call {
+            self.count_best_effort(charge, reply, record);
+        }
         if reply.refusal != 0 {
             return self.count(Seen::Refused(reply.refusal));
         }
@@ -114,6 +143,21 @@ impl Coverage {
                 self.add(Seen::PurgedFrame, u64::from(reply.first));
             }
             Call::Transmit => self.count(sent(reply, prior_waited)),
+            Call::BestEffort { .. } => self.count(Seen::BestEffort),
+        }
+    }
+
+    /// Counts how near a Best effort came to its ends.
+    fn count_best_effort(&mut self, charge: u32, reply: &Reply, record: &[u8]) {
+        let above = |waits: u64| waits > layout::best_effort_limit(record);
+        match reply.refusal {
+            0 if above(layout::waits_with(record, 1)) => self.count(Seen::BestEffortAtLimit),
+            BEST_EFFORT_FULL if above(layout::waits_with(record, charge)) => self.count(Seen::BestEffortFullAndAbove),
+            BEST_EFFORT_EXCEEDED if !above(layout::waits_with(record, charge - 1)) => self.count(Seen::BestEffortOneAbove),
+            _ => (),
+        }
+        if reply.refusal == 0 {
+            self.count_ring(record, BEST_EFFORT, Seen::BestEffortWrapped, Seen::BestEffortFilled);
         }
     }
 
@@ -125,6 +169,9 @@ impl Coverage {
         }
         if (0..STREAMS).all(|stream| layout::is_reserved(record, stream)) {
             self.count(Seen::AllReserved);
+        }
+        if layout::waits_with(record, 0) > layout::best_effort_limit(record) {
+            self.count(Seen::LimitBelowWaits);
         }
     }
 
@@ -140,13 +187,18 @@ impl Coverage {
             self.count(Seen::ExactFitAt(joined));
         }
         let queue = (usize::from(record[layout::PRIOR]) + usize::from(joined)) % RESERVED_QUEUES;
+        self.count_ring(record, queue, Seen::JoinedWrapped, Seen::QueueFilled);
+    }
+
+    /// Counts where in its queue a frame joined: before the start, or at the last place free.
+    fn count_ring(&mut self, record: &[u8], queue: usize, wrapped: Seen, filled: Seen) {
         let start = layout::two(record, layout::start(queue)) as usize;
         let count = layout::two(record, layout::count(queue)) as usize;
         if start + count > QUEUE_PLACES {
-            self.count(Seen::JoinedWrapped);
+            self.count(wrapped);
         }
         if count == QUEUE_PLACES {
-            self.count(Seen::QueueFilled);
+            self.count(filled);
         }
     }
 }

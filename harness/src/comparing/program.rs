@@ -12,7 +12,8 @@ use crate::comparing::test::{Run, Test, KINDS};
 use crate::comparing::tests;
 
 /// How the program is called.
-const USAGE: &str = "usage: compare [lists] [records] [quick] [TEST..] [--seed N] [--size PERCENT, at least 10] [--first-failure]";
+const USAGE: &str =
+    "usage: compare [lists] [records] [quick] [guarantee] [TEST..] [--seed N] [--size PERCENT, at least 10] [--first-failure]";
 /// The seed of a run that names none.
 const DEFAULT_SEED: u64 = 1;
 /// The size of a run that names none.

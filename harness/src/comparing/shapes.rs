@@ -88,7 +88,9 @@ pub fn extreme(random: &mut Random) -> Octets {
     }
     put_extreme(random, &mut octets.record, layout::LINK, &[0, 1_541, 1_542, 1_625, 23_047, u16::MAX]);
     put_extreme(random, &mut octets.record, layout::WAITS, &[0, u16::MAX]);
-    let prior = octets.record[layout::PRIOR];
+    put_extreme(random, &mut octets.record, layout::WAITS + 2, &[0, u16::MAX]);
+    let (prior, delay) = (octets.record[layout::PRIOR], octets.record[layout::DELAY]);
+    octets.record[layout::DELAY] = random.pick(&[0, 17, 255, delay, delay, delay]);
     octets.record[layout::PRIOR] = random.pick(&[4, 7, 255, prior]);
     octets
 }

@@ -1,12 +1,20 @@
-//! The ways to play a call: the proved calls and quick calls, and the outside program that they are held against.
+//! The ways to play a call: the proved calls and quick calls, and the outside program that they are held against; and how lists are checked.
 
 use std::fmt;
 
 use crate::call::{Call, Reply};
+use crate::guarantee::found::{Broken, Found};
+use crate::guarantee::list::Event;
+use crate::guarantee::{claims, pairs};
 use crate::{exports, in_place, model};
 
 /// How a call is played on a lent record and memory.
 pub type Play = fn(&Call, &mut [u8], &mut [u8]) -> Reply;
+
+/// How a list that was played is held against demand 3.
+pub type Check = fn(&[Event]) -> Result<Found, Broken>;
+/// How two lists are held beside each other for one stream: how many of its arrivals were compared, if the lists are alike in what is its own.
+pub type CheckPair = fn(&[Event], &[Event], u8) -> Result<Option<u64>, String>;
 
 /// One of the ways to play a call.
 #[derive(Clone, Copy, Debug, PartialEq, Eq)]
@@ -21,19 +29,28 @@ pub enum Side {
     InPlace,
 }
 
-/// How each side plays a call. Another function may stand for the outside program, or for what a host declares of the exports, with a fault that
-/// was seeded in it to see the tests catch.
+/// How each side plays a call, and how lists are checked. Another function may stand for the outside program, for what a host declares of the
+/// exports, or for a checker, with a fault that was seeded in it to see the tests catch.
 #[derive(Clone, Copy)]
 pub struct Sides {
     pub exports: Play,
     pub quick: Play,
     pub model: Play,
     pub in_place: Play,
+    pub check: Check,
+    pub pair: CheckPair,
 }
 
 impl Sides {
     /// The sides without a fault.
-    pub const SOUND: Sides = Sides { exports: exports::call, quick: exports::unscanned, model: model::call, in_place: in_place::call };
+    pub const SOUND: Sides = Sides {
+        exports: exports::call,
+        quick: exports::unscanned,
+        model: model::call,
+        in_place: in_place::call,
+        check: claims::check,
+        pair: pairs::check,
+    };
 
     /// How a side plays a call.
     pub fn play(&self, side: Side) -> Play {

@@ -13,10 +13,12 @@ pub enum Kind {
     Lists,
     Records,
     Quick,
+    Guarantee,
 }
 
 /// Each kind with the word that names it on the command line.
-pub const KINDS: [(&str, Kind); 3] = [("lists", Kind::Lists), ("records", Kind::Records), ("quick", Kind::Quick)];
+pub const KINDS: [(&str, Kind); 4] =
+    [("lists", Kind::Lists), ("records", Kind::Records), ("quick", Kind::Quick), ("guarantee", Kind::Guarantee)];
 
 /// A test: its kind, its name and what it does.
 #[derive(Clone, Copy)]

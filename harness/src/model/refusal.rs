@@ -22,6 +22,10 @@ pub const NOT_RESERVED: u8 = 12;
 pub const CHARGE_OUTSIDE: u8 = 13;
 /// "14 discard".
 pub const DISCARD: u8 = 14;
+/// "15 256 best-effort frames waiting".
+pub const BEST_EFFORT_FULL: u8 = 15;
+/// "16 W + a above K × (L − R)".
+pub const BEST_EFFORT_EXCEEDED: u8 = 16;
 /// "18 lent memory under 1,280 places".
 pub const MEMORY_SHORT: u8 = 18;
 /// "19 port record unfit".

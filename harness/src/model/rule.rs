@@ -1,8 +1,8 @@
 //! The steps of document 01 on a port that is fit: each call's checks in their order, then its rule in the document's words.
 
 use super::port::{
-    permitted_sum, share, Frame, Port, Stream, BEST_EFFORT, CHARGES, CURRENT, DELAYS, LAST, LEAST_PERMITTED, LINKS, MARK_NO, MARK_YES,
-    NEXT, NOTHING, QUEUE_PLACES, RESERVED_QUEUES, STREAMS,
+    permitted_sum, share, Frame, Port, Stream, BEST_EFFORT, BEST_EFFORT_STREAM, CHARGES, CURRENT, DELAYS, LAST, LEAST_PERMITTED, LINKS,
+    MARK_NO, MARK_YES, NEXT, NOTHING, QUEUE_PLACES, RESERVED_QUEUES, STREAMS,
 };
 use super::refusal;
 use crate::call::{Call, Reply};
@@ -15,6 +15,7 @@ pub fn step(call: &Call, port: &mut Port) -> Reply {
         Call::Arrive { stream, charge, tag } => arrive(port, usize::from(stream), charge, tag),
         Call::Tick => tick(port),
         Call::Transmit => transmit(port),
+        Call::BestEffort { charge, tag } => best_effort(port, charge, tag),
     }
 }
 
@@ -158,4 +159,27 @@ fn transmit(port: &mut Port) -> Reply {
         }
     }
     Reply::granted(NOTHING, 0)
+}
+
+/// "Best effort(a, tag)": "The frame is accepted if W + a ≤ K × (L − R)", and joins best effort; the reply is W after.
+fn best_effort(port: &mut Port, charge: u32, tag: u32) -> Reply {
+    if !port.is_open() {
+        return Reply::refused(refusal::PORT_CLOSED);
+    }
+    if !CHARGES.contains(&charge) {
+        return Reply::refused(refusal::CHARGE_OUTSIDE);
+    }
+    let waiting = port.queues[BEST_EFFORT].frames.len();
+    if waiting == QUEUE_PLACES {
+        return Reply::refused(refusal::BEST_EFFORT_FULL);
+    }
+    let unreserved = u64::from(port.link) - permitted_sum(&port.streams);
+    let limit = u64::from(port.delay) * unreserved;
+    let waits = port.waits + charge;
+    if u64::from(waits) > limit {
+        return Reply::refused(refusal::BEST_EFFORT_EXCEEDED);
+    }
+    port.queues[BEST_EFFORT].join(Frame { stream: BEST_EFFORT_STREAM, charge, tag });
+    port.waits = waits;
+    Reply::granted(waits, 0)
 }

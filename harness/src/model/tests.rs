@@ -65,6 +65,11 @@ impl Lent {
         self.play(Call::Transmit)
     }
 
+    /// Plays a Best effort.
+    fn best_effort(&mut self, charge: u32, tag: u32) -> (u8, u32, u32) {
+        self.play(Call::BestEffort { charge, tag })
+    }
+
     /// Writes a 16-bit number into the record.
     fn put(&mut self, at: usize, value: u16) {
         self.record[at..at + 2].copy_from_slice(&value.to_be_bytes());
@@ -87,6 +92,21 @@ impl Lent {
         }
     }
 
+    /// Gives best effort so many frames of 84 octets, from the given start on, tagged by their order.
+    fn fill_best_effort(&mut self, start: u16, count: usize) {
+        self.put(32, start);
+        self.put(34, count as u16);
+        for waiting in 0..count {
+            self.put_frame(4, (usize::from(start) + waiting) % 256, 255, 84, waiting as u32);
+        }
+        self.put_waits(84 * count as u32);
+    }
+
+    /// Writes W.
+    fn put_waits(&mut self, waits: u32) {
+        self.record[8..12].copy_from_slice(&waits.to_be_bytes());
+    }
+
     /// Gives the stream of the tests a place and a left.
     fn put_place(&mut self, place: u8, left: u16) {
         self.record[ENTRY + 1] = place;
@@ -102,6 +122,11 @@ impl Lent {
     fn queue(&self, queue: usize) -> (u16, u16) {
         let at = 16 + 4 * queue;
         (u16::from_be_bytes([self.record[at], self.record[at + 1]]), u16::from_be_bytes([self.record[at + 2], self.record[at + 3]]))
+    }
+
+    /// W.
+    fn waits(&self) -> u32 {
+        u32::from_be_bytes([self.record[8], self.record[9], self.record[10], self.record[11]])
     }
 
     /// The clauses of 19 that the record breaks; the call agrees with them.
@@ -210,6 +235,7 @@ fn closed_port_is_1() {
     assert_eq!(lent.reserve(64, 0), (1, 0, 0));
     assert_eq!(lent.tick(), (1, 0, 0));
     assert_eq!(lent.transmit(), (1, 0, 0));
+    assert_eq!(lent.best_effort(0, 0), (1, 0, 0));
     assert_eq!(lent, before);
 }
 
@@ -364,6 +390,92 @@ fn transmit_takes_prior_then_current_then_best_effort() {
     assert_eq!(lent.transmit(), (0, 254, 0));
     assert_eq!([lent.queue(0), lent.queue(1), lent.queue(2), lent.queue(4)], [(4, 0), (0, 0), (0, 1), (1, 0)]);
     assert_eq!(lent.memory, memory);
+}
+
+/// C12: W + a may be all of K × (L − R), and no more.
+#[test]
+fn c12_best_effort_to_the_limit() {
+    let mut lent = Lent::of_the_cases();
+    assert_eq!(lent.best_effort(1_542, 1), (0, 1_542, 0));
+    assert_eq!(lent.best_effort(401, 2), (16, 0, 0));
+    assert_eq!(lent.best_effort(400, 2), (0, 1_942, 0));
+    let before = lent.clone();
+    assert_eq!(lent.best_effort(84, 3), (16, 0, 0));
+    assert_eq!(lent, before);
+}
+
+/// Best effort's checks run 1, 13, 15, 16.
+#[test]
+fn best_effort_checks_in_order() {
+    let mut lent = Lent::of_the_cases();
+    lent.fill_best_effort(9, 256);
+    let before = lent.clone();
+    for charge in [0, 83, 1_543, 65_536 + 84, u32::MAX] {
+        assert_eq!(lent.best_effort(charge, 1), (13, 0, 0));
+    }
+    assert_eq!(lent.best_effort(84, 1), (15, 0, 0));
+    assert_eq!(lent.best_effort(1_542, 1), (15, 0, 0));
+    assert_eq!(lent, before);
+    assert_eq!(lent.transmit(), (0, 255, 0));
+    assert_eq!(lent.best_effort(84, 1), (16, 0, 0));
+}
+
+/// A best-effort frame is written at place (start + count) modulo 256 of queue 4, with W and the count, and nothing else changes.
+#[test]
+fn best_effort_writes_what_its_rule_names() {
+    let mut lent = Lent::zeroed();
+    lent.open(23_046, 16);
+    lent.fill_best_effort(250, 6);
+    let mut after = lent.clone();
+    assert_eq!(lent.best_effort(1_542, 0x0102_0304), (0, 2_046, 0));
+    after.put(10, 2_046);
+    after.put(34, 7);
+    after.memory[8 * 1_024..8 * 1_025].copy_from_slice(&[0, 255, 6, 6, 1, 2, 3, 4]);
+    assert_eq!(lent, after);
+}
+
+/// K × (L − R) at K 1, 2 and 16: so many frames of 1,542, then one octet more than the rest, then the rest.
+#[test]
+fn best_effort_limit_by_delay() {
+    for (delay, largest, rest) in [(1, 1, 400), (2, 2, 800), (16, 20, 232)] {
+        let mut lent = Lent::zeroed();
+        lent.open(2_142, delay);
+        lent.reserve(STREAM, 200);
+        for sent in 1..=largest {
+            assert_eq!(lent.best_effort(1_542, sent), (0, 1_542 * sent, 0));
+        }
+        assert_eq!(lent.best_effort(rest + 1, 0), (16, 0, 0));
+        assert_eq!(lent.best_effort(rest, 0), (0, delay * 1_942, 0));
+        assert_eq!(lent.best_effort(84, 0), (16, 0, 0));
+        assert_eq!(lent.unfit(), []);
+    }
+}
+
+/// R may grow after frames wait: W is then above the limit, the record fit, and nothing accepted until enough is sent.
+#[test]
+fn reservation_after_best_effort_lowers_the_limit() {
+    let mut lent = Lent::of_the_cases();
+    assert_eq!(lent.best_effort(100, 1), (0, 100, 0));
+    assert_eq!(lent.best_effort(1_542, 2), (0, 1_642, 0));
+    assert_eq!(lent.best_effort(300, 3), (0, 1_942, 0));
+    assert_eq!(lent.reserve(6, 400), (0, 0, 0));
+    assert_eq!(lent.unfit(), []);
+    assert_eq!(lent.best_effort(84, 4), (16, 0, 0));
+    assert_eq!(lent.transmit(), (0, 255, 1));
+    assert_eq!(lent.best_effort(84, 4), (16, 0, 0));
+    assert_eq!(lent.transmit(), (0, 255, 2));
+    assert_eq!(lent.waits(), 300);
+    assert_eq!(lent.best_effort(1_242, 5), (0, 1_542, 0));
+}
+
+/// Of an unreserved stream nothing counts in R, whatever its entry holds.
+#[test]
+fn best_effort_counts_reserved_streams_alone() {
+    let mut lent = Lent::of_the_cases();
+    lent.record[ENTRY + 16] = 2;
+    lent.put(ENTRY + 20, 65_535);
+    assert_eq!(lent.best_effort(1_542, 1), (0, 1_542, 0));
+    assert_eq!(lent.best_effort(400, 2), (0, 1_942, 0));
 }
 
 /// Open writes its fields and no memory, also on a record whose spare octets and marks hold anything.
@@ -521,11 +633,12 @@ fn draw(seed: &mut u64) -> u32 {
 /// One call of any kind, most of them with arguments that are near their ranges.
 fn any_call(seed: &mut u64) -> Call {
     let stream = (draw(seed) % 3) as u8 * 63;
-    match draw(seed) % 8 {
+    match draw(seed) % 10 {
         0 => Call::Open { link: 1_600 + draw(seed) % 22_000, delay: draw(seed) % 18 },
         1 => Call::Reserve { stream, permitted: draw(seed) % 2_000 },
         2 => Call::Tick,
         3 => Call::Transmit,
+        4 | 5 => Call::BestEffort { charge: draw(seed) % 1_600, tag: draw(seed) },
         _ => Call::Arrive { stream, charge: draw(seed) % 1_600, tag: draw(seed) },
     }
 }

@@ -55,5 +55,5 @@ fn between_fences(run: &mut Run, side: Side) -> Result<(), String> {
         let edges = [random.pick(&EDGES), random.pick(&EDGES)];
         Compared::fenced(side, run, &octets.record, &octets.memory, edges)
     })?;
-    run.demand(&[(Seen::FitRecord, 100), (Seen::UnfitRecord, 500), (Seen::Ticked, 40), (Seen::Opened, 40)])
+    run.demand(&[(Seen::FitRecord, 100), (Seen::UnfitRecord, 500), (Seen::Ticked, 40), (Seen::Opened, 40), (Seen::BestEffort, 40)])
 }

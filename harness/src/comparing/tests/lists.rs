@@ -1,5 +1,6 @@
 //! The kind `lists`: long lists of calls, the proved calls against the model, each test with one profile of steps.
 
+use crate::call::{Call, Reply};
 use crate::comparing::calls::{Charges, Permitted, Profile, Weights, ORDINARY};
 use crate::comparing::compared::{Compared, Step};
 use crate::comparing::coverage::Seen;
@@ -7,16 +8,20 @@ use crate::comparing::fit::Octets;
 use crate::comparing::random::Random;
 use crate::comparing::sides::Side;
 use crate::comparing::test::{Kind, Run, Test};
-use crate::model::port::{CURRENT, LARGEST_CHARGE, LAST, LINKS, NEXT, STREAMS};
+use crate::model::port::{CURRENT, LARGEST_CHARGE, LAST, LEAST_CHARGE, LEAST_PERMITTED, LINKS, NEXT, STREAMS};
 use crate::model::refusal::*;
 
 /// The tests of this kind.
-pub const TESTS: [Test; 8] = [
+pub const TESTS: [Test; 12] = [
     test("few_streams_pressed", few_streams_pressed),
     test("many_streams_pressed_to_the_share", many_streams_pressed_to_the_share),
     test("full_queues", full_queues),
     test("withheld_transmits", withheld_transmits),
     test("ring_starts_anywhere", ring_starts_anywhere),
+    test("long_best_effort_queues", long_best_effort_queues),
+    test("best_effort_to_the_limit_of_each_delay", best_effort_to_the_limit_of_each_delay),
+    test("best_effort_between_transmits", best_effort_between_transmits),
+    test("reservations_after_best_effort", reservations_after_best_effort),
     test("opened_again", opened_again),
     test("arguments_out_of_range", arguments_out_of_range),
     test("mixture", mixture),
@@ -48,7 +53,7 @@ const OF_SENDER: [u8; 2] = [NOT_RESERVED, CHARGE_OUTSIDE];
 
 /// Few streams, which arrivals press at every place: exact fits and discards.
 fn few_streams_pressed(run: &mut Run) -> Result<(), String> {
-    let weights = Weights { open: 0, reserve: 4, arrive: 70, tick: 15, transmit: 20, close: 0 };
+    let weights = Weights { open: 0, reserve: 4, arrive: 70, tick: 15, transmit: 20, best_effort: 5, close: 0 };
     let profile = Profile { weights, streams: 4, links: 10_000..=FULL_LINK, permitted: Permitted::UpTo(2_000), ..ORDINARY };
     play(run, SIDES, &Plan { lists: 200, calls: 1_000, begin: a_closed_port }, |_| profile.clone())?;
     never_met_from_opening(run)?;
@@ -59,44 +64,114 @@ fn few_streams_pressed(run: &mut Run) -> Result<(), String> {
 
 /// All 64 streams, with reservations up to the share and past it.
 fn many_streams_pressed_to_the_share(run: &mut Run) -> Result<(), String> {
-    let weights = Weights { open: 1, reserve: 150, arrive: 200, tick: 40, transmit: 60, close: 1 };
+    let weights = Weights { open: 1, reserve: 150, arrive: 200, tick: 40, transmit: 60, best_effort: 20, close: 1 };
     let profile = Profile { weights, links: 7_000..=FULL_LINK, permitted: Permitted::Parts, ..ORDINARY };
     play(run, SIDES, &Plan { lists: 150, calls: 800, begin: a_closed_port }, |_| profile.clone())?;
     never_met_from_opening(run)?;
-    run.demand(&[(Seen::Refused(SHARE_EXCEEDED), 2_000), (Seen::ShareFilled, 40), (Seen::AllReserved, 50), (Seen::Reserved, 5_000)])
+    run.demand(&[(Seen::Refused(SHARE_EXCEEDED), 2_000), (Seen::ShareFilled, 40), (Seen::AllReserved, 30), (Seen::Reserved, 5_000)])
 }
 
 /// Queues of 256 frames, each of the least charge: one stream with all of the share, or 64 with an equal part.
 fn full_queues(run: &mut Run) -> Result<(), String> {
-    let weights = Weights { open: 0, reserve: 100, arrive: 1_000, tick: 2, transmit: 3, close: 0 };
+    let weights = Weights { open: 0, reserve: 100, arrive: 1_000, tick: 2, transmit: 3, best_effort: 50, close: 0 };
     let profile = |random: &mut Random| {
         let permitted = Permitted::Exactly(random.pick(&[FULL_SHARE, FULL_SHARE / STREAMS as u32]));
         Profile { weights, links: FULL_LINK..=FULL_LINK, permitted, charges: Charges::Least, ..ORDINARY }
     };
     play(run, SIDES, &Plan { lists: 20, calls: 3_000, begin: a_closed_port }, profile)?;
     never_met_from_opening(run)?;
-    run.demand(&[(Seen::QueueFilled, 20), (Seen::Refused(DISCARD), 1_000), (Seen::PurgedFrame, 2_000)])
+    run.demand(&[(Seen::QueueFilled, 20), (Seen::Refused(DISCARD), 500), (Seen::PurgedFrame, 2_000)])
 }
 
 /// Hardly any transmits, so that ticks purge.
 fn withheld_transmits(run: &mut Run) -> Result<(), String> {
-    let weights = Weights { open: 0, reserve: 4, arrive: 60, tick: 30, transmit: 4, close: 0 };
+    let weights = Weights { open: 0, reserve: 4, arrive: 60, tick: 30, transmit: 4, best_effort: 4, close: 0 };
     let profile = Profile { weights, streams: 16, links: 5_000..=FULL_LINK, permitted: Permitted::UpTo(3_000), ..ORDINARY };
     play(run, SIDES, &Plan { lists: 120, calls: 1_000, begin: a_closed_port }, |_| profile.clone())?;
     never_met_from_opening(run)?;
     run.demand(&[(Seen::PurgedFrame, 20_000), (Seen::SentFromPrior, 500), (Seen::Ticked, 10_000)])
 }
 
-/// Lists that begin on an open port of any content: queues that wrap, full ones that refuse, best effort that drains.
+/// Lists that begin on an open port of any content: queues that wrap, full ones that refuse, best effort that drains and fills.
 fn ring_starts_anywhere(run: &mut Run) -> Result<(), String> {
     play(run, SIDES, &Plan { lists: 500, calls: 300, begin: an_open_port }, ring_profile)?;
     run.demand(&[(Seen::Refused(QUEUE_FULL), 1_500), (Seen::JoinedWrapped, 800), (Seen::SentFromBestEffort, 800)])?;
-    run.demand(&[(Seen::SentFromPrior, 3_000), (Seen::SentFromCurrent, 3_000), (Seen::SentNothing, 500)])
+    run.demand(&[(Seen::SentFromPrior, 3_000), (Seen::SentFromCurrent, 3_000), (Seen::SentNothing, 500)])?;
+    run.demand(&[(Seen::BestEffortWrapped, 100), (Seen::BestEffortFullAndAbove, 50)])
+}
+
+/// Best effort of 256 frames and one more, from any start: a limit that K raises far above them, or that reservations lower.
+fn long_best_effort_queues(run: &mut Run) -> Result<(), String> {
+    let profile = |random: &mut Random| {
+        let (transmit, reserve) = (random.pick(&[1, 20, 40]), random.pick(&[0, 0, 2]));
+        let weights = Weights { open: 0, reserve, arrive: 2, tick: 2, transmit, best_effort: 100, close: 0 };
+        Profile { weights, links: FULL_LINK..=FULL_LINK, charges: Charges::Least, edges: 2, ..ORDINARY }
+    };
+    play(run, SIDES, &Plan { lists: 80, calls: 700, begin: a_closed_port }, profile)?;
+    never_met_from_opening(run)?;
+    play(run, SIDES, &Plan { lists: 120, calls: 400, begin: an_open_port }, profile)?;
+    run.demand(&[(Seen::BestEffortFilled, 100), (Seen::BestEffortWrapped, 1_500), (Seen::SentFromBestEffort, 2_000)])?;
+    run.demand(&[(Seen::Refused(BEST_EFFORT_FULL), 2_000)])
+}
+
+/// For each K, frames until W + a is one above K × (L − R), then just that, then none more.
+fn best_effort_to_the_limit_of_each_delay(run: &mut Run) -> Result<(), String> {
+    for _ in 0..run.scaled(20) {
+        for delay in 1..=16 {
+            to_the_limit(run, delay)?;
+        }
+    }
+    run.demand(&[(Seen::BestEffortOneAbove, 320), (Seen::BestEffortAtLimit, 320), (Seen::Refused(BEST_EFFORT_EXCEEDED), 640)])
+}
+
+/// One list to the limit of a K, with any L and any one reservation or none.
+fn to_the_limit(run: &mut Run, delay: u32) -> Result<(), String> {
+    let mut random = run.next_list();
+    let begin = a_closed_port(&mut random);
+    let mut compared = Compared::guarded(SIDES, run, &begin.record, &begin.memory);
+    let link = random.between(LINKS);
+    let permitted = random.between(LEAST_PERMITTED..=link - LARGEST_CHARGE);
+    let reserved = if random.chance(80) { permitted } else { 0 };
+    compared.expect(run, &Call::Open { link, delay }, |reply| reply.refusal == 0, "a granted open")?;
+    if reserved > 0 {
+        compared.expect(run, &Call::Reserve { stream: 63, permitted }, |reply| reply.refusal == 0, "a granted reserve")?;
+    }
+    let (limit, mut waits) = (delay * (link - reserved), 0);
+    let mut offer = |run: &mut Run, charge: u32, reply: Reply| {
+        compared.expect(run, &Call::BestEffort { charge, tag: charge }, |got| *got == reply, &format!("{reply}, with limit {limit}"))
+    };
+    while limit - waits > LARGEST_CHARGE - 1 {
+        let charge = LARGEST_CHARGE.min(limit - waits - LEAST_CHARGE);
+        waits += charge;
+        offer(run, charge, Reply::granted(waits, 0))?;
+    }
+    offer(run, limit - waits + 1, Reply::refused(BEST_EFFORT_EXCEEDED))?;
+    offer(run, limit - waits, Reply::granted(limit, 0))?;
+    offer(run, LEAST_CHARGE, Reply::refused(BEST_EFFORT_EXCEEDED))
+}
+
+/// Best effort that presses its limit while transmits lower W.
+fn best_effort_between_transmits(run: &mut Run) -> Result<(), String> {
+    let weights = Weights { open: 0, reserve: 1, arrive: 5, tick: 5, transmit: 60, best_effort: 90, close: 0 };
+    let profile = Profile { weights, streams: 8, permitted: Permitted::UpTo(1_000), ..ORDINARY };
+    play(run, SIDES, &Plan { lists: 150, calls: 600, begin: a_closed_port }, |_| profile.clone())?;
+    never_met_from_opening(run)?;
+    run.demand(&[(Seen::SentFromBestEffort, 15_000), (Seen::BestEffort, 15_000), (Seen::Refused(BEST_EFFORT_EXCEEDED), 3_000)])?;
+    run.demand(&[(Seen::BestEffortAtLimit, 500), (Seen::BestEffortOneAbove, 200)])
+}
+
+/// Reservations that are granted while frames wait in best effort, so that its limit falls, also below W.
+fn reservations_after_best_effort(run: &mut Run) -> Result<(), String> {
+    let weights = Weights { open: 0, reserve: 10, arrive: 10, tick: 5, transmit: 15, best_effort: 60, close: 0 };
+    let profile = Profile { weights, ..ORDINARY };
+    play(run, SIDES, &Plan { lists: 400, calls: 150, begin: a_closed_port }, |_| profile.clone())?;
+    never_met_from_opening(run)?;
+    run.demand(&[(Seen::LimitBelowWaits, 150), (Seen::SentFromBestEffort, 1_500), (Seen::Refused(BEST_EFFORT_EXCEEDED), 4_000)])
 }
 
 /// Ports that are opened though open, and used records that the host closes and opens again.
 fn opened_again(run: &mut Run) -> Result<(), String> {
-    let weights = Weights { open: 6, reserve: 12, arrive: 60, tick: 8, transmit: 15, close: 2 };
+    let weights = Weights { open: 6, reserve: 12, arrive: 60, tick: 8, transmit: 15, best_effort: 10, close: 2 };
     let profile = Profile { weights, streams: 24, edges: 5, ..ORDINARY };
     play(run, SIDES, &Plan { lists: 250, calls: 600, begin: an_open_port }, |_| profile.clone())?;
     run.demand(&[(Seen::Opened, 1_500), (Seen::Closed, 1_500)])?;
@@ -105,7 +180,7 @@ fn opened_again(run: &mut Run) -> Result<(), String> {
 
 /// Every argument outside its range, at its ends and where fewer bits would hide it.
 fn arguments_out_of_range(run: &mut Run) -> Result<(), String> {
-    let weights = Weights { open: 15, reserve: 30, arrive: 40, tick: 3, transmit: 7, close: 5 };
+    let weights = Weights { open: 15, reserve: 30, arrive: 40, tick: 3, transmit: 7, best_effort: 15, close: 5 };
     let profile = Profile { weights, edges: 60, ..ORDINARY };
     play(run, SIDES, &Plan { lists: 200, calls: 600, begin: a_closed_port }, |_| profile.clone())?;
     never_met_from_opening(run)?;
@@ -119,7 +194,8 @@ fn mixture(run: &mut Run) -> Result<(), String> {
     run.demand(&at_each_place(Seen::JoinedAt, 1_000))?;
     run.demand(&at_each_place(Seen::ExactFitAt, 200))?;
     run.demand(&[(Seen::PurgedFrame, 5_000), (Seen::SentFromPrior, 2_000), (Seen::SentFromCurrent, 2_000), (Seen::SentNothing, 500)])?;
-    run.demand(&[(Seen::Opened, 500), (Seen::Reserved, 1_500), (Seen::Ticked, 5_000), (Seen::Refused(DISCARD), 1_000)])
+    run.demand(&[(Seen::Opened, 500), (Seen::Reserved, 1_500), (Seen::Ticked, 5_000), (Seen::Refused(DISCARD), 1_000)])?;
+    run.demand(&[(Seen::BestEffort, 3_000), (Seen::SentFromBestEffort, 1_000), (Seen::Refused(BEST_EFFORT_EXCEEDED), 1_000)])
 }
 
 /// A demand for each of the three places.
@@ -133,7 +209,7 @@ fn never_met_from_opening(run: &Run) -> Result<(), String> {
 }
 
 /// A closed port: all zeros, or fit with any content.
-fn a_closed_port(random: &mut Random) -> Octets {
+pub fn a_closed_port(random: &mut Random) -> Octets {
     match random.chance(50) {
         true => Octets::zero(),
         false => Octets::fit(random, false),
@@ -154,7 +230,7 @@ pub fn any_port(random: &mut Random) -> Octets {
 /// A profile with few ticks, so that queues keep the starts that they have, and fill or drain.
 pub fn ring_profile(random: &mut Random) -> Profile {
     let (tick, transmit) = (random.pick(&[0, 1, 4]), random.pick(&[5, 60]));
-    let weights = Weights { open: 1, reserve: 10, arrive: 60, tick, transmit, close: 0 };
+    let weights = Weights { open: 1, reserve: 10, arrive: 60, tick, transmit, best_effort: 10, close: 0 };
     Profile { weights, charges: random.pick(&[Charges::NearLeft, Charges::Least]), edges: 2, ..ORDINARY }
 }
 
@@ -162,9 +238,9 @@ pub fn ring_profile(random: &mut Random) -> Profile {
 pub fn any_profile(random: &mut Random) -> Profile {
     let mut any = |least: u32, most: u32| random.between(least..=most) as usize;
     let (open, reserve, arrive) = (any(0, 4), any(1, 30), any(10, 100));
-    let (tick, transmit, close) = (any(0, 30), any(0, 60), any(0, 2));
+    let (tick, transmit, best_effort, close) = (any(0, 30), any(0, 60), any(0, 30), any(0, 2));
     Profile {
-        weights: Weights { open, reserve, arrive, tick, transmit, close },
+        weights: Weights { open, reserve, arrive, tick, transmit, best_effort, close },
         streams: any(1, STREAMS as u32),
         edges: any(0, 20),
         permitted: random.pick(&[Permitted::NearFree, Permitted::UpTo(1_000), Permitted::UpTo(6_000)]),

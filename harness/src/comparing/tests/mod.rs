@@ -1,8 +1,9 @@
 //! The tests of each kind: `lists` and `sample` hold the calls against the model on lists of calls, `records` on records of any content, and `quick`
-//! and `fences` are about the quick calls and about octets outside the lent ones.
+//! and `fences` are about the quick calls and about octets outside the lent ones; `guarantee` holds lists of calls against demand 3.
 
 pub mod each_call;
 pub mod fences;
+pub mod guarantee;
 pub mod lists;
 pub mod quick;
 pub mod records;
@@ -12,5 +13,5 @@ use crate::comparing::test::Test;
 
 /// All tests, in the order in which they are run.
 pub fn all() -> Vec<Test> {
-    [&sample::TESTS[..], &lists::TESTS, &records::TESTS, &quick::TESTS, &fences::TESTS].concat()
+    [&sample::TESTS[..], &lists::TESTS, &records::TESTS, &quick::TESTS, &fences::TESTS, &guarantee::TESTS].concat()
 }

@@ -34,7 +34,9 @@ const fn test(name: &'static str, body: fn(&mut Run) -> Result<(), String>) -> T
 fn as_the_call_on_fit_records(run: &mut Run) -> Result<(), String> {
     try_shape(run, WITH_CALLS, ("fit", any_fit), 20_000)?;
     run.demand_none(Seen::UnfitRecord)?;
-    run.demand(&[DISCARD, QUEUE_FULL, SHARE_EXCEEDED, PORT_CLOSED].map(|refusal| (Seen::Refused(refusal), 1_000)))
+    run.demand(&[DISCARD, QUEUE_FULL, SHARE_EXCEEDED, PORT_CLOSED].map(|refusal| (Seen::Refused(refusal), 1_000)))?;
+    run.demand(&[BEST_EFFORT_FULL, BEST_EFFORT_EXCEEDED].map(|refusal| (Seen::Refused(refusal), 1_000)))?;
+    run.demand(&[(Seen::BestEffort, 5_000), (Seen::BestEffortAtLimit, 200)])
 }
 
 /// In lists from fit records the quick calls are the calls.
@@ -42,7 +44,8 @@ fn as_the_call_in_lists(run: &mut Run) -> Result<(), String> {
     play(run, WITH_CALLS, &Plan { lists: 1_000, calls: 500, begin: any_port }, any_profile)?;
     play(run, WITH_CALLS, &Plan { lists: 500, calls: 300, begin: an_open_port }, ring_profile)?;
     run.demand(&[(Seen::PurgedFrame, 10_000), (Seen::SentFromBestEffort, 500)])?;
-    run.demand(&[(Seen::JoinedWrapped, 800), (Seen::Refused(QUEUE_FULL), 1_500)])
+    run.demand(&[(Seen::JoinedWrapped, 800), (Seen::Refused(QUEUE_FULL), 1_500)])?;
+    run.demand(&[(Seen::BestEffort, 10_000), (Seen::BestEffortWrapped, 500), (Seen::Refused(BEST_EFFORT_EXCEEDED), 5_000)])
 }
 
 /// On records of every shape, fit or far from it, the quick calls are what is defined.
@@ -50,14 +53,17 @@ fn as_defined_on_every_shape(run: &mut Run) -> Result<(), String> {
     for shape in SHAPES {
         try_shape(run, WITH_DEFINITION, shape, 5_000)?;
     }
-    run.demand(&[(Seen::UnfitRecord, 10_000), (Seen::JoinedElsewhere, 500), (Seen::PurgedFrame, 10_000)])
+    run.demand(&[(Seen::UnfitRecord, 10_000), (Seen::JoinedElsewhere, 500), (Seen::PurgedFrame, 10_000)])?;
+    run.demand(&[BEST_EFFORT_FULL, BEST_EFFORT_EXCEEDED].map(|refusal| (Seen::Refused(refusal), 1_000)))?;
+    run.demand(&[(Seen::BestEffort, 5_000), (Seen::BestEffortAtLimit, 200), (Seen::BestEffortWrapped, 500)])
 }
 
 /// In lists that begin on an open record far outside what is fit, the quick calls are what is defined.
 fn as_defined_in_lists(run: &mut Run) -> Result<(), String> {
     play(run, WITH_DEFINITION, &Plan { lists: 1_000, calls: 300, begin: extreme }, any_profile)?;
     play(run, WITH_DEFINITION, &Plan { lists: 500, calls: 300, begin: any_open }, any_profile)?;
-    run.demand(&[(Seen::JoinedElsewhere, 500), (Seen::SentFromBestEffort, 500), (Seen::Refused(QUEUE_FULL), 500)])
+    run.demand(&[(Seen::JoinedElsewhere, 500), (Seen::SentFromBestEffort, 500), (Seen::Refused(QUEUE_FULL), 500)])?;
+    run.demand(&[(Seen::BestEffort, 1_000), (Seen::Refused(BEST_EFFORT_FULL), 500), (Seen::Refused(BEST_EFFORT_EXCEEDED), 1_000)])
 }
 
 /// On records with one broken clause the quick calls are what is defined.

@@ -42,7 +42,14 @@ fn fit_records(run: &mut Run) -> Result<(), String> {
     run.demand_none(Seen::UnfitRecord)?;
     let met = [PORT_CLOSED, OPEN_ALREADY, LINK_OUTSIDE, DELAY_OUTSIDE, STREAM_ABOVE, RESERVED_ALREADY, PERMITTED_BELOW, SHARE_EXCEEDED];
     run.demand(&met.map(|refusal| (Seen::Refused(refusal), 100)))?;
-    run.demand(&[NOT_RESERVED, CHARGE_OUTSIDE, DISCARD, QUEUE_FULL].map(|refusal| (Seen::Refused(refusal), 100)))
+    run.demand(&[NOT_RESERVED, CHARGE_OUTSIDE, DISCARD, QUEUE_FULL].map(|refusal| (Seen::Refused(refusal), 100)))?;
+    run.demand(&[BEST_EFFORT_FULL, BEST_EFFORT_EXCEEDED].map(|refusal| (Seen::Refused(refusal), 100)))?;
+    run.demand(&[
+        (Seen::BestEffort, 1_000),
+        (Seen::BestEffortAtLimit, 50),
+        (Seen::BestEffortFullAndAbove, 100),
+        (Seen::BestEffortWrapped, 50),
+    ])
 }
 
 /// Records of any octets, and such with the mark of an open port.

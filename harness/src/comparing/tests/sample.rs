@@ -1,16 +1,16 @@
-//! Document 01's sample and its cases C1 to C11, with the replies that the document states, through the proved calls and the model.
+//! Document 01's sample and its cases C1 to C12, with the replies that the document states, through the proved calls and the model.
 
 use crate::call::{Call, Reply};
 use crate::comparing::compared::Compared;
 use crate::comparing::fit::Octets;
 use crate::comparing::sides::Side;
 use crate::comparing::test::{Kind, Run, Test};
-use crate::model::refusal::{CHARGE_OUTSIDE, DISCARD, LINK_OUTSIDE, PERMITTED_BELOW, SHARE_EXCEEDED};
+use crate::model::refusal::{BEST_EFFORT_EXCEEDED, CHARGE_OUTSIDE, DISCARD, LINK_OUTSIDE, PERMITTED_BELOW, SHARE_EXCEEDED};
 
 /// The tests of this file.
 pub const TESTS: [Test; 2] = [
     Test { kind: Kind::Lists, name: "document_sample", body: document_sample },
-    Test { kind: Kind::Lists, name: "document_cases_c1_to_c11", body: document_cases_c1_to_c11 },
+    Test { kind: Kind::Lists, name: "document_cases_c1_to_c12", body: document_cases_c1_to_c12 },
 ];
 
 /// A call and its reply as the document states it.
@@ -29,6 +29,11 @@ const fn reserve(stream: u8, permitted: u32, reply: Reply) -> Stated {
 /// An Arrive on stream 5.
 const fn arrive(charge: u32, tag: u32, reply: Reply) -> Stated {
     (Call::Arrive { stream: 5, charge, tag }, reply)
+}
+
+/// A Best effort.
+const fn best_effort(charge: u32, tag: u32, reply: Reply) -> Stated {
+    (Call::BestEffort { charge, tag }, reply)
 }
 
 /// Open of the cases: L 2,142.
@@ -50,8 +55,8 @@ const SAMPLE: [Stated; 8] = [
     (Call::Transmit, Reply::granted(5, 8)),
 ];
 
-/// C1 to C11, those of one number with each their own list.
-const CASES: [(&str, &[Stated]); 13] = [
+/// C1 to C12, those of one number with each their own list.
+const CASES: [(&str, &[Stated]); 14] = [
     ("C1, 1,625", &[open(1_625, Reply::refused(LINK_OUTSIDE))]),
     ("C1, 1,626", &[open(1_626, Reply::granted(84, 0))]),
     ("C2, 23,046", &[open(23_046, Reply::granted(21_504, 0))]),
@@ -87,6 +92,16 @@ const CASES: [(&str, &[Stated]); 13] = [
     ),
     ("C10", &[OPEN, RESERVE, arrive(201, 1, Reply::refused(DISCARD)), arrive(84, 2, Reply::refused(DISCARD))]),
     ("C11", &[OPEN, RESERVE, arrive(83, 1, Reply::refused(CHARGE_OUTSIDE)), arrive(1_543, 2, Reply::refused(CHARGE_OUTSIDE))]),
+    (
+        "C12",
+        &[
+            OPEN,
+            RESERVE,
+            best_effort(1_542, 1, Reply::granted(1_542, 0)),
+            best_effort(400, 2, Reply::granted(1_942, 0)),
+            best_effort(84, 3, Reply::refused(BEST_EFFORT_EXCEEDED)),
+        ],
+    ),
 ];
 
 /// "200 three times: current, next, last".
@@ -98,8 +113,8 @@ fn document_sample(run: &mut Run) -> Result<(), String> {
     play_stated(run, "sample", &SAMPLE)
 }
 
-/// C1 to C11 of document 01.
-fn document_cases_c1_to_c11(run: &mut Run) -> Result<(), String> {
+/// C1 to C12 of document 01.
+fn document_cases_c1_to_c12(run: &mut Run) -> Result<(), String> {
     for (name, case) in CASES {
         play_stated(run, name, case)?;
     }

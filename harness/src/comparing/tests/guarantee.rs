@@ -1,0 +1,320 @@
+//! The kind `guarantee`: demand 3 held against lists of calls through the proved calls and quick calls, and through the model, each test with
+//! lists of one manner. To each list others are written that are alike in one stream's own calls.
+
+use crate::call::Call;
+use crate::comparing::calls::Profile;
+use crate::comparing::coverage::Seen;
+use crate::comparing::fit::{no_mark, Octets};
+use crate::comparing::random::Random;
+use crate::comparing::sides::{Play, Side};
+use crate::comparing::test::{Kind, Run, Test};
+use crate::comparing::tests::lists::{a_closed_port, any_profile};
+use crate::guarantee::alike;
+use crate::guarantee::found::Link::{ByBoth, ByIdle, ByOctets, Failed};
+use crate::guarantee::found::Shown::{self, *};
+use crate::guarantee::found::{Broken, Found};
+use crate::guarantee::list::{Event, Playing};
+use crate::guarantee::writing::{write, write_any, Manner, Service};
+use crate::layout;
+use crate::model::port::{LINKS, STREAMS};
+
+/// The tests of this kind.
+pub const TESTS: [Test; 9] = [
+    test("guarantee_in_lists_of_any_calls", lists_of_any_calls),
+    test("guarantee_beside_overfilled_streams", beside_overfilled_streams),
+    test("guarantee_where_just_the_share_is_sent", where_just_the_share_is_sent),
+    test("guarantee_where_one_frame_too_few_is_sent", where_one_frame_too_few_is_sent),
+    test("guarantee_where_the_link_is_idle", where_the_link_is_idle),
+    test("guarantee_in_full_queues", in_full_queues),
+    test("guarantee_of_many_streams_in_long_lists", of_many_streams_in_long_lists),
+    test("guarantee_is_tight", is_tight),
+    test("guarantee_of_the_model", of_the_model),
+];
+
+/// The proved calls and quick calls, on which lists are played in turn.
+const PROVED: [Side; 2] = [Side::Exports, Side::Quick];
+
+/// How many events before a broken claim its report tells.
+const TOLD: usize = 12;
+/// How many lists are written that are alike to a list.
+const ALIKE: usize = 2;
+
+/// A test of this kind.
+const fn test(name: &'static str, body: fn(&mut Run) -> Result<(), String>) -> Test {
+    Test { kind: Kind::Guarantee, name, body }
+}
+
+/// Streams that overfill beside streams that offer all they may and no more, with the share filled and the link serving either way.
+const OVERFILLED: Manner = Manner {
+    links: 2_142..=12_000,
+    streams: 2..=12,
+    conforming: 50,
+    least: false,
+    exact: 60,
+    pressed: true,
+    turns: 0..=30,
+    best_effort: 3,
+    transmit: 8,
+    services: &[Service::Share, Service::Share, Service::Share, Service::Idle],
+    ticks: 4..=14,
+};
+
+/// Streams of which most overfill, with no octet of the share left over, and a link that serves the share and no frame more.
+const JUST_THE_SHARE: Manner =
+    Manner { streams: 1..=8, conforming: 20, exact: 100, turns: 0..=12, services: &[Service::Share], links: 1_626..=9_000, ..OVERFILLED };
+
+/// The same with a link that now and then serves one frame too few.
+const ONE_FRAME_SHORT: Manner =
+    Manner { conforming: 0, services: &[Service::Share, Service::Share, Service::Share, Service::OneFrameShort], ..JUST_THE_SHARE };
+
+/// Streams that offer less than they may, beside best effort, and a link that has time left.
+const IDLE: Manner = Manner {
+    links: LINKS,
+    streams: 1..=16,
+    conforming: 70,
+    pressed: false,
+    turns: 5..=50,
+    best_effort: 8,
+    services: &[Service::Idle],
+    ..OVERFILLED
+};
+
+/// Queues of 256 frames, each of the least charge.
+const FULL: Manner = Manner {
+    links: *LINKS.end()..=*LINKS.end(),
+    streams: 1..=6,
+    conforming: 30,
+    least: true,
+    turns: 0..=20,
+    services: &[Service::Share, Service::Share, Service::Idle],
+    ticks: 4..=7,
+    ..OVERFILLED
+};
+
+/// All 64 streams, and many ticks.
+const MANY: Manner = Manner {
+    links: 15_000..=*LINKS.end(),
+    streams: STREAMS as u32..=STREAMS as u32,
+    turns: 0..=60,
+    services: &[Service::Share, Service::Share, Service::Share, Service::Share, Service::Idle],
+    ticks: 20..=40,
+    ..OVERFILLED
+};
+
+/// Lists of any calls, refused ones included; before their ticks the link serves always, most often or never.
+fn lists_of_any_calls(run: &mut Run) -> Result<(), String> {
+    hold(run, &PROVED, 4_000, any_list)?;
+    demand(run, &[(Link(ByBoth), 20), (Link(ByIdle), 1_000), (Link(Failed), 1_000), (Purging, 3_000)])?;
+    demand(run, &[(SentInTime, 50_000), (Conforming, 30_000), (ConformingSent, 20_000)])?;
+    demand(run, &[(Pair, 4_000), (ArrivalCompared, 80_000)])
+}
+
+/// Conforming streams beside streams that overfill.
+fn beside_overfilled_streams(run: &mut Run) -> Result<(), String> {
+    hold(run, &PROVED, 2_000, in_manner(&OVERFILLED))?;
+    run.demand_none(Seen::Shown(Link(Failed)))?;
+    demand(run, &[(Link(ByBoth), 800), (SentInTime, 80_000), (SentAfterThird, 1_000)])?;
+    demand(run, &[(Conforming, 50_000), (ConformingSent, 40_000), (ConformingAfterFirst, 10_000)])?;
+    demand(run, &[(Pair, 2_000), (ArrivalCompared, 50_000)])
+}
+
+/// A link that sends the share, or just above it, and is idle only where less than that waits.
+fn where_just_the_share_is_sent(run: &mut Run) -> Result<(), String> {
+    hold(run, &PROVED, 3_000, in_manner(&JUST_THE_SHARE))?;
+    run.demand_none(Seen::Shown(Link(Failed)))?;
+    demand(run, &[(Link(ByOctets), 1_000), (SentInTime, 80_000), (SentAfterThird, 20_000)])?;
+    demand(run, &[(Conforming, 20_000), (ConformingSent, 15_000), (ConformingAfterFirst, 8_000)])?;
+    demand(run, &[(Pair, 3_000), (ArrivalCompared, 80_000)])
+}
+
+/// A link that sends one frame too few, so that ticks purge; the last sentence of the demand holds all the same.
+fn where_one_frame_too_few_is_sent(run: &mut Run) -> Result<(), String> {
+    hold(run, &PROVED, 2_000, in_manner(&ONE_FRAME_SHORT))?;
+    demand(run, &[(Link(Failed), 1_000), (Purging, 800), (Pair, 2_000), (ArrivalCompared, 60_000)])
+}
+
+/// A link with time left: between any two ticks a transmit sends nothing, or best effort.
+fn where_the_link_is_idle(run: &mut Run) -> Result<(), String> {
+    hold(run, &PROVED, 3_000, in_manner(&IDLE))?;
+    run.demand_none(Seen::Shown(Link(Failed)))?;
+    demand(run, &[(Link(ByIdle), 1_000), (SentInTime, 60_000)])?;
+    demand(run, &[(Conforming, 80_000), (ConformingSent, 60_000), (ConformingAfterFirst, 10_000)])?;
+    demand(run, &[(Pair, 3_000), (ArrivalCompared, 40_000)])
+}
+
+/// Queues of 256 frames, which no list from an opening finds full.
+fn in_full_queues(run: &mut Run) -> Result<(), String> {
+    hold(run, &PROVED, 200, in_manner(&FULL))?;
+    run.demand_none(Seen::Shown(Link(Failed)))?;
+    demand(run, &[(SentInTime, 80_000), (SentAfterThird, 100), (Conforming, 10_000), (ConformingAfterFirst, 300)])?;
+    demand(run, &[(Pair, 150), (ArrivalCompared, 60_000)])
+}
+
+/// All 64 streams over many ticks.
+fn of_many_streams_in_long_lists(run: &mut Run) -> Result<(), String> {
+    hold(run, &PROVED, 100, in_manner(&MANY))?;
+    run.demand_none(Seen::Shown(Link(Failed)))?;
+    demand(run, &[(SentInTime, 100_000), (Conforming, 60_000), (ConformingAfterFirst, 2_000)])?;
+    demand(run, &[(Pair, 80), (ArrivalCompared, 2_000)])
+}
+
+/// The model keeps the demand too; faults that cannot be seeded in the exports are seeded there.
+fn of_the_model(run: &mut Run) -> Result<(), String> {
+    hold(run, &[Side::Model], 60, any_list)?;
+    for manner in [&OVERFILLED, &JUST_THE_SHARE, &ONE_FRAME_SHORT, &IDLE] {
+        hold(run, &[Side::Model], 80, in_manner(manner))?;
+    }
+    hold(run, &[Side::Model], 10, in_manner(&FULL))?;
+    demand(run, &[(Link(ByOctets), 10), (Link(ByIdle), 20), (Link(Failed), 20), (Purging, 10)])?;
+    demand(run, &[(SentInTime, 5_000), (Conforming, 3_000), (Pair, 100), (ArrivalCompared, 5_000)])
+}
+
+/// Fails if lists showed a thing less often than is asked at full size.
+fn demand(run: &Run, demands: &[(Shown, u64)]) -> Result<(), String> {
+    let demands: Vec<(Seen, u64)> = demands.iter().map(|&(shown, times)| (Seen::Shown(shown), times)).collect();
+    run.demand(&demands)
+}
+
+/// Writes lists of any calls.
+fn any_list(random: &mut Random, play: Play, begin: &Octets) -> Vec<Event> {
+    let mut profile: Profile = any_profile(random);
+    profile.weights.close = 0;
+    profile.weights.tick = profile.weights.tick.max(1);
+    let served = random.pick(&[0, 90, 100, 100]);
+    write_any(random, play, begin, &profile, 300, served)
+}
+
+/// Writes lists in a manner.
+fn in_manner(manner: &Manner) -> impl Fn(&mut Random, Play, &Octets) -> Vec<Event> + '_ {
+    |random, play, begin| write(random, play, begin, manner)
+}
+
+/// What a list's Open is given: closed and fit, or, for the quick calls, closed and any octets.
+fn a_port_to_open(random: &mut Random, side: Side) -> Octets {
+    let mut octets = if side == Side::Quick { Octets::any(random) } else { a_closed_port(random) };
+    if octets.is_open() {
+        octets.record[layout::OPEN] = no_mark(random);
+    }
+    octets
+}
+
+/// Holds so many lists against the demand, played on the sides in turn, each alone and beside lists that are alike in one stream's own calls.
+fn hold(run: &mut Run, sides: &[Side], lists: usize, write: impl Fn(&mut Random, Play, &Octets) -> Vec<Event>) -> Result<(), String> {
+    for number in 0..run.scaled(lists) {
+        let side = sides[number % sides.len()];
+        let mut random = run.next_list();
+        let begin = a_port_to_open(&mut random, side);
+        let events = write(&mut random, run.sides.play(side), &begin);
+        hold_one(run, side, &events)?;
+        for _ in 0..ALIKE {
+            hold_pair(run, &mut random, side, &events)?;
+        }
+    }
+    Ok(())
+}
+
+/// Holds one list against the demand, and counts what it showed.
+fn hold_one(run: &mut Run, side: Side, events: &[Event]) -> Result<Found, String> {
+    let found = (run.sides.check)(events).map_err(|broken| report(run, side, events, &broken))?;
+    run.calls += events.len() as u64;
+    let counts = [
+        (Link(found.link), 1),
+        (Purging, found.purging),
+        (SentInTime, found.sent_in_time),
+        (SentAfterThird, found.sent_after_third),
+        (Conforming, found.conforming),
+        (ConformingSent, found.conforming_sent),
+        (ConformingAfterFirst, found.conforming_after_first),
+    ];
+    for (shown, times) in counts {
+        run.coverage.add(Seen::Shown(shown), times);
+    }
+    Ok(found)
+}
+
+/// Holds a list beside another that is alike in one stream's own calls; the other is a list too.
+fn hold_pair(run: &mut Run, random: &mut Random, side: Side, events: &[Event]) -> Result<(), String> {
+    let stream = a_stream_of(random, events);
+    let begin = a_port_to_open(random, side);
+    let other = alike::write(random, run.sides.play(side), &begin, events, stream);
+    (run.sides.check)(&other).map_err(|broken| report(run, side, &other, &broken))?;
+    run.calls += other.len() as u64;
+    match (run.sides.pair)(events, &other, stream).map_err(|words| format!("{}, {side}: {words}", run.place))? {
+        Some(arrivals) => {
+            run.coverage.count(Seen::Shown(Pair));
+            run.coverage.add(Seen::Shown(ArrivalCompared), arrivals);
+        }
+        None => run.coverage.count(Seen::Shown(PairApart)),
+    }
+    Ok(())
+}
+
+/// A stream that a call of the list names, or any.
+fn a_stream_of(random: &mut Random, events: &[Event]) -> u8 {
+    let any = random.below(STREAMS) as u8;
+    let named = |event: &Event| match event.call {
+        Call::Arrive { stream, .. } => Some(stream),
+        _ => None,
+    };
+    let streams: Vec<u8> = events.iter().filter_map(named).collect();
+    match streams.is_empty() || random.chance(5) {
+        true => any,
+        false => random.pick(&streams),
+    }
+}
+
+/// All that a person needs to see a broken claim again.
+fn report(run: &Run, side: Side, events: &[Event], broken: &Broken) -> String {
+    let shown = broken.call.saturating_sub(TOLD)..=broken.call;
+    let told: Vec<String> = events.iter().enumerate().filter(|(number, _)| shown.contains(number)).map(told).collect();
+    format!("{}, {side}: call {}: {}\n    {}\n    {}", run.place, broken.call, broken.words, events[0].call, told.join("; "))
+}
+
+/// One event in a report.
+fn told((number, event): (usize, &Event)) -> String {
+    format!("{number} {} ({})", event.call, event.reply)
+}
+
+/// L 2,142, with a share of 600, and stream 5, which may have all of it and offers it three times over before the first tick.
+const THREE_TIMES_THE_SHARE: [Call; 8] = [
+    Call::Open { link: 2_142, delay: 1 },
+    Call::Reserve { stream: 5, permitted: 600 },
+    Call::Arrive { stream: 5, charge: 300, tag: 0 },
+    Call::Arrive { stream: 5, charge: 300, tag: 0 },
+    Call::Arrive { stream: 5, charge: 300, tag: 0 },
+    Call::Arrive { stream: 5, charge: 300, tag: 0 },
+    Call::Arrive { stream: 5, charge: 300, tag: 0 },
+    Call::Arrive { stream: 5, charge: 300, tag: 0 },
+];
+
+/// Nothing sooner can be promised: a frame that is not sent before the third tick, a conforming one that is not before the first; and nothing for
+/// less: one frame too few, and a tick purges. One octet too few fails the condition as well, though no tick purges for it.
+fn is_tight(run: &mut Run) -> Result<(), String> {
+    let epoch = [Call::Tick, Call::Transmit, Call::Transmit];
+    let just_served = [&THREE_TIMES_THE_SHARE[..], &epoch, &epoch, &epoch, &[Call::Tick]].concat();
+    let one_too_few = [&THREE_TIMES_THE_SHARE[..], &epoch, &epoch, &epoch[..2], &[Call::Tick]].concat();
+    let one_octet_too_few = [&[Call::Open { link: 2_143, delay: 1 }], &just_served[1..]].concat();
+    let conforming = [&THREE_TIMES_THE_SHARE[..4], &epoch, &[Call::Transmit, Call::Tick]].concat();
+    for side in [Side::Exports, Side::Quick, Side::Model] {
+        let none = Found::with(ByOctets);
+        expect(run, side, &just_served, Found { sent_in_time: 6, sent_after_third: 2, ..none })?;
+        expect(run, side, &one_too_few, Found { link: Failed, purging: 1, ..none })?;
+        expect(run, side, &one_octet_too_few, Found { link: Failed, ..none })?;
+        let sent = Found { conforming: 2, conforming_sent: 2, conforming_after_first: 2, ..none };
+        expect(run, side, &conforming, Found { link: ByBoth, ..sent })?;
+    }
+    Ok(())
+}
+
+/// Just this is found in a list.
+fn expect(run: &mut Run, side: Side, calls: &[Call], expected: Found) -> Result<(), String> {
+    let mut random = run.next_list();
+    let mut playing = Playing::new(run.sides.play(side), &a_port_to_open(&mut random, side));
+    for call in calls {
+        playing.call(*call);
+    }
+    match hold_one(run, side, &playing.events)? {
+        found if found == expected => Ok(()),
+        found => Err(format!("{}, {side}: {found:?} is found, and expected {expected:?}", run.place)),
+    }
+}

@@ -1,0 +1,53 @@
+//! A list of calls as it is played: twice at a time, as it is and with every frame marked by its call's number, which tells frames apart whose
+//! stream, charge and tag are the same.
+
+use crate::call::{Call, Reply};
+use crate::comparing::fit::Octets;
+use crate::comparing::sides::Play;
+
+/// A call of a list, its reply, and its reply in the marked play.
+#[derive(Clone, Copy, Debug, PartialEq, Eq)]
+pub struct Event {
+    pub call: Call,
+    pub reply: Reply,
+    pub marked: Reply,
+}
+
+/// A list that is being played, each play on a record and memory of its own.
+pub struct Playing {
+    play: Play,
+    plain: Octets,
+    marked: Octets,
+    pub events: Vec<Event>,
+}
+
+impl Playing {
+    /// A list that begins on copies of a record and memory.
+    pub fn new(play: Play, begin: &Octets) -> Playing {
+        Playing { play, plain: begin.clone(), marked: begin.clone(), events: Vec::new() }
+    }
+
+    /// Plays the next call of the list in both plays.
+    pub fn call(&mut self, call: Call) -> Event {
+        let number = self.events.len() as u32;
+        let reply = (self.play)(&call, &mut self.plain.record, &mut self.plain.memory);
+        let marked = (self.play)(&with_tag(call, number), &mut self.marked.record, &mut self.marked.memory);
+        let event = Event { call, reply, marked };
+        self.events.push(event);
+        event
+    }
+
+    /// Record and memory as the calls so far left them.
+    pub fn octets(&self) -> &Octets {
+        &self.plain
+    }
+}
+
+/// The call with another tag, where it has one.
+fn with_tag(call: Call, tag: u32) -> Call {
+    match call {
+        Call::Arrive { stream, charge, .. } => Call::Arrive { stream, charge, tag },
+        Call::BestEffort { charge, .. } => Call::BestEffort { charge, tag },
+        other => other,
+    }
+}

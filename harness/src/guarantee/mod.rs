@@ -1,0 +1,13 @@
+//! Demand 3 seen from outside: lists of calls from a granted Open, played on a port of any make, and its claims read off the replies alone.
+//!
+//! `list` plays a list twice, `claims` holds one list against the demand and `pairs` two, both without a model of the port; `writing` and
+//! `alike` make the lists, and may look into the record to make them hard.
+
+pub mod alike;
+pub mod claims;
+pub mod found;
+pub mod list;
+pub mod pairs;
+#[cfg(test)]
+mod tests;
+pub mod writing;

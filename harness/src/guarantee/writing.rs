@@ -1,0 +1,337 @@
+//! Lists that are hard for demand 3: reservations that fill the share, streams that offer all that they may beside streams that offer more, and a
+//! link that serves just enough or one frame less. A writer looks into the record and memory to know what is left and what waits.
+
+use std::ops::RangeInclusive;
+
+use crate::call::Call;
+use crate::comparing::calls::Profile;
+use crate::comparing::compared::Step;
+use crate::comparing::fit::Octets;
+use crate::comparing::random::Random;
+use crate::comparing::sides::Play;
+use crate::guarantee::list::{Event, Playing};
+use crate::layout::{self, two};
+use crate::model::port::{
+    CHARGES, CURRENT, DELAYS, LARGEST_CHARGE, LAST, LEAST_CHARGE, LEAST_PERMITTED, LINKS, QUEUES, QUEUE_PLACES, RESERVED_QUEUES, STREAMS,
+};
+
+/// How the link serves a port before a tick.
+#[derive(Clone, Copy, PartialEq, Eq)]
+pub enum Service {
+    /// Until the reserved octets sent are the share or just above it; where too few wait, until a transmit sends no reserved frame.
+    Share,
+    /// Until a transmit sends no reserved frame.
+    Idle,
+    /// As long as the reserved octets sent stay below the share, so that one frame more would make them the share or more.
+    OneFrameShort,
+    /// Any number of transmits.
+    Any,
+    /// Not at all, as it may before the first tick.
+    Withheld,
+}
+
+/// What a list is like.
+#[derive(Clone)]
+pub struct Manner {
+    pub links: RangeInclusive<u32>,
+    /// How many streams are reserved.
+    pub streams: RangeInclusive<u32>,
+    /// How many streams in a hundred never offer more than P between ticks.
+    pub conforming: usize,
+    /// Whether every charge is the least, and every P a multiple of it.
+    pub least: bool,
+    /// How many arrivals in a hundred leave nothing, or enough for a frame more, at their place.
+    pub exact: usize,
+    /// Whether all streams offer all that they can between any two ticks, or most of them and the others later.
+    pub pressed: bool,
+    /// How many calls of any sort stand between two ticks besides.
+    pub turns: RangeInclusive<u32>,
+    /// How often such a call is a best effort or a transmit, beside 10 for an arrival.
+    pub best_effort: usize,
+    pub transmit: usize,
+    pub services: &'static [Service],
+    pub ticks: RangeInclusive<u32>,
+}
+
+/// A list that is being written.
+struct Writer<'a> {
+    random: &'a mut Random,
+    playing: Playing,
+    share: u32,
+    /// The reserved octets sent since the last tick, and whether a transmit sent no reserved frame.
+    sent: u32,
+    idle: bool,
+    /// What each stream offered since the last tick, and whether it never offers more than P.
+    offered: [u32; STREAMS],
+    conforming: [bool; STREAMS],
+    /// Reservations that are still to come.
+    later: Vec<(u8, u32)>,
+    /// How many streams in a hundred offer all that they can between two ticks; the others can still fill all their queues later.
+    pressed: usize,
+}
+
+/// Writes a list in a manner; before the first tick, where the link condition asks nothing, the link most often does not serve.
+pub fn write(random: &mut Random, play: Play, begin: &Octets, manner: &Manner) -> Vec<Event> {
+    let link = random.between(manner.links.clone());
+    let mut writer = Writer::open(random, play, begin, link);
+    writer.plan(manner);
+    for tick in 0..writer.random.between(manner.ticks.clone()) {
+        let withheld = tick == 0 && writer.random.chance(75);
+        let service = if withheld { Service::Withheld } else { writer.random.pick(manner.services) };
+        writer.stretch(manner, service);
+        writer.serve(service);
+        writer.tick();
+    }
+    writer.stretch(manner, Service::Any);
+    writer.playing.events
+}
+
+/// Writes a list of any calls; before a tick the link serves so many times in a hundred.
+pub fn write_any(random: &mut Random, play: Play, begin: &Octets, profile: &Profile, calls: usize, served: usize) -> Vec<Event> {
+    let link = random.between(LINKS);
+    let mut writer = Writer::open(random, play, begin, link);
+    for _ in 0..calls {
+        match profile.step(writer.random, &writer.playing.octets().record) {
+            Step::Call(Call::Tick) => {
+                if writer.random.chance(served) {
+                    let service = writer.random.pick(&[Service::Share, Service::Idle]);
+                    writer.serve(service);
+                }
+                writer.tick();
+            }
+            Step::Call(call) => writer.call(call),
+            Step::HostWrites { .. } => unreachable!("nobody else writes the record of a list"),
+        }
+    }
+    writer.playing.events
+}
+
+impl<'a> Writer<'a> {
+    /// Begins a list with an Open.
+    fn open(random: &'a mut Random, play: Play, begin: &Octets, link: u32) -> Writer<'a> {
+        let mut playing = Playing::new(play, begin);
+        playing.call(Call::Open { link, delay: random.between(DELAYS) });
+        let (offered, conforming) = ([0; STREAMS], [false; STREAMS]);
+        let pressed = random.pick(&[100, 100, 75]);
+        Writer { random, playing, share: link - LARGEST_CHARGE, sent: 0, idle: false, offered, conforming, later: Vec::new(), pressed }
+    }
+
+    /// Plays a call, and keeps what the link sent and what a stream offered.
+    fn call(&mut self, call: Call) {
+        let event = self.playing.call(call);
+        match call {
+            Call::Transmit => match self.charge_sent(&event) {
+                Some(charge) => self.sent += charge,
+                None => self.idle = true,
+            },
+            Call::Arrive { stream, charge, .. } if CHARGES.contains(&charge) => {
+                self.offered[usize::from(stream) % STREAMS] += charge;
+            }
+            _ => (),
+        }
+    }
+
+    /// The charge of the reserved frame that a Transmit sent, by its mark.
+    fn charge_sent(&self, event: &Event) -> Option<u32> {
+        match self.playing.events.get(event.marked.second as usize)?.call {
+            Call::Arrive { charge, .. } if event.reply.first < STREAMS as u32 => Some(charge),
+            _ => None,
+        }
+    }
+
+    /// Plays a Tick.
+    fn tick(&mut self) {
+        self.call(Call::Tick);
+        (self.sent, self.idle, self.offered) = (0, false, [0; STREAMS]);
+    }
+
+    /// Reserves streams whose P's fill the share, some of them later; then asks for a frame more than is free.
+    fn plan(&mut self, manner: &Manner) {
+        let most = (self.share / LEAST_PERMITTED).min(STREAMS as u32);
+        let count = self.random.between(manner.streams.clone()).min(most);
+        let streams = self.random.shuffled(STREAMS);
+        let mut free = self.share;
+        for (number, &stream) in streams.iter().take(count as usize).enumerate() {
+            let others = count - 1 - number as u32;
+            let permitted = self.part(manner, free - LEAST_PERMITTED * others, others);
+            free -= permitted;
+            self.conforming[stream] = self.random.chance(manner.conforming);
+            self.later.push((stream as u8, permitted));
+        }
+        for _ in 0..count {
+            if self.random.chance(90) {
+                self.reserve_later();
+            }
+        }
+        let other = streams[count as usize % STREAMS];
+        self.call(Call::Reserve { stream: other as u8, permitted: free + LEAST_PERMITTED });
+    }
+
+    /// The P of a stream: all that it may take where no other follows, else about an even part of it.
+    fn part(&mut self, manner: &Manner, most: u32, others: u32) -> u32 {
+        let even = (2 * most / (others + 1)).clamp(LEAST_PERMITTED, most);
+        let some = self.random.between(LEAST_PERMITTED..=even);
+        match (others, manner.least) {
+            (0, false) => most,
+            (0, true) => most - most % LEAST_CHARGE,
+            (_, false) => some,
+            (_, true) => some - some % LEAST_CHARGE,
+        }
+    }
+
+    /// Reserves the next stream that is to be reserved.
+    fn reserve_later(&mut self) {
+        if let Some((stream, permitted)) = self.later.pop() {
+            self.call(Call::Reserve { stream, permitted });
+        }
+    }
+
+    /// The calls between two ticks, but for those by which the link serves at their end.
+    fn stretch(&mut self, manner: &Manner, service: Service) {
+        if manner.pressed {
+            for stream in self.random.shuffled(STREAMS) {
+                if self.random.chance(self.pressed) {
+                    self.press(manner, stream);
+                }
+            }
+        }
+        for _ in 0..self.random.between(manner.turns.clone()) {
+            match self.random.weighted(&[10, manner.best_effort, manner.transmit, 1, 1]) {
+                0 => self.offer_any(manner),
+                1 => self.best_effort(),
+                2 if self.may_send(service) => self.call(Call::Transmit),
+                3 => self.reserve_later(),
+                4 => self.refused_call(),
+                _ => (),
+            }
+        }
+    }
+
+    /// The reserved streams.
+    fn reserved(&self) -> Vec<usize> {
+        (0..STREAMS).filter(|&stream| layout::is_reserved(&self.playing.octets().record, stream)).collect()
+    }
+
+    /// A number of two octets in a stream's entry.
+    fn of_stream(&self, stream: usize, field: usize) -> u32 {
+        two(&self.playing.octets().record, layout::entry(stream) + field)
+    }
+
+    /// A stream offers all that it can until the next tick.
+    fn press(&mut self, manner: &Manner, stream: usize) {
+        for _ in 0..RESERVED_QUEUES * QUEUE_PLACES {
+            let record = &self.playing.octets().record;
+            let spent = record[layout::entry(stream) + layout::PLACE] >= LAST && self.of_stream(stream, layout::LEFT) < LEAST_CHARGE;
+            if !layout::is_reserved(record, stream) || spent || !self.offer(manner, stream) {
+                return;
+            }
+        }
+    }
+
+    /// An arrival on any reserved stream.
+    fn offer_any(&mut self, manner: &Manner) {
+        let reserved = self.reserved();
+        if !reserved.is_empty() {
+            let stream = self.random.pick(&reserved);
+            self.offer(manner, stream);
+        }
+    }
+
+    /// An arrival on a stream, unless the stream never offers more than P and has done so; whether the frame was accepted.
+    fn offer(&mut self, manner: &Manner, stream: usize) -> bool {
+        let (left, permitted) = (self.of_stream(stream, layout::LEFT), self.of_stream(stream, layout::PERMITTED));
+        let room = match self.conforming[stream] {
+            true => permitted.saturating_sub(self.offered[stream]),
+            false if left < LEAST_CHARGE => permitted,
+            false => left,
+        };
+        if room < LEAST_CHARGE {
+            return false;
+        }
+        let charge = self.charge(manner, room);
+        let tag = self.random.number();
+        let tag = self.random.pick(&[0, 1, u32::MAX, tag]);
+        self.call(Call::Arrive { stream: stream as u8, charge, tag });
+        self.playing.events.last().is_some_and(|event| event.reply.refusal == 0)
+    }
+
+    /// A charge that has room; an exact one leaves nothing of it, or enough for a frame more.
+    fn charge(&mut self, manner: &Manner, room: u32) -> u32 {
+        let exact = self.random.chance(manner.exact);
+        let most = room.min(LARGEST_CHARGE);
+        if manner.least {
+            return LEAST_CHARGE;
+        }
+        if room < 2 * LEAST_CHARGE || (room == most && self.random.chance(40)) {
+            return most;
+        }
+        self.random.between(LEAST_CHARGE..=if exact { most.min(room - LEAST_CHARGE) } else { most })
+    }
+
+    /// A best-effort frame.
+    fn best_effort(&mut self) {
+        let (charge, tag) = (self.random.between(CHARGES), self.random.number());
+        self.call(Call::BestEffort { charge, tag });
+    }
+
+    /// A call that is refused, or changes nothing that a stream can see.
+    fn refused_call(&mut self) {
+        let (stream, number) = (self.random.octet(), self.random.number());
+        let reserved = self.reserved().contains(&usize::from(stream));
+        let call = match self.random.below(4) {
+            0 => Call::Open { link: self.random.between(LINKS), delay: 1 },
+            1 => Call::BestEffort { charge: number % LEAST_CHARGE, tag: number },
+            2 if !reserved => Call::Arrive { stream, charge: LEAST_CHARGE, tag: number },
+            _ => Call::Arrive { stream, charge: LARGEST_CHARGE + 1 + number % 100, tag: number },
+        };
+        self.call(call);
+    }
+
+    /// The charge of the frame that the next Transmit sends, if one waits in prior or current.
+    fn next_charge(&self) -> Option<u32> {
+        let Octets { record, memory } = self.playing.octets();
+        let role = |role: u8| (usize::from(record[layout::PRIOR]) + usize::from(role)) % RESERVED_QUEUES;
+        let waits = |queue: &usize| two(record, layout::count(*queue)) > 0;
+        let queue = [role(0), role(CURRENT)].into_iter().find(waits)?;
+        let start = two(record, layout::start(queue)) as usize;
+        Some(two(memory, layout::frame(queue, start, 0) + layout::FRAME_CHARGE))
+    }
+
+    /// Whether a Transmit now leaves it to the service how the stretch ends.
+    fn may_send(&self, service: Service) -> bool {
+        match service {
+            Service::Share => self.next_charge().is_some() && self.sent < self.share,
+            Service::OneFrameShort => self.next_charge().is_some_and(|charge| self.sent + charge < self.share),
+            Service::Idle | Service::Any => true,
+            Service::Withheld => false,
+        }
+    }
+
+    /// The link serves at the end of a stretch.
+    fn serve(&mut self, service: Service) {
+        match service {
+            Service::Share => {
+                self.transmit_while(|writer| !writer.idle && writer.may_send(service));
+                self.transmit_while(|writer| !writer.idle && writer.sent < writer.share);
+            }
+            Service::OneFrameShort => self.transmit_while(|writer| writer.may_send(service)),
+            Service::Idle => self.transmit_while(|writer| !writer.idle),
+            Service::Any => {
+                for _ in 0..self.random.between(0..=40) {
+                    self.call(Call::Transmit);
+                }
+            }
+            Service::Withheld => (),
+        }
+    }
+
+    /// Transmits as long as a test says so, but no more often than frames can wait, and once more.
+    fn transmit_while(&mut self, test: impl Fn(&Writer) -> bool) {
+        for _ in 0..=QUEUES * QUEUE_PLACES {
+            if !test(self) {
+                return;
+            }
+            self.call(Call::Transmit);
+        }
+    }
+}
