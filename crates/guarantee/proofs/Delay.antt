@@ -17,7 +17,7 @@ use Rattle.stream.specs.Replies.{granted, replyOf}
 use Rattle.stream.proofs.FitLaws.{joins-onward, joins-within}
 use Rattle.port_laws.specs.Lists.{Call, arriving}
 use Rattle.guarantee.specs.Events.{Marked, Sent, reserved, Event, All, Some}
-use Rattle.guarantee.specs.Claims.{isTick, Tick, PurgesNothing, ticks as ticksOf, Sends, SentBefore, AllSentBefore}
+use Rattle.guarantee.specs.Claims.{isTick, Tick, PurgesNothing, ticks as ticksOf, Sends, SentBefore, AllSentBefore, SentByReply}
 use Rattle.guarantee.proofs.ListLaws.{differ, all-rest}
 use Rattle.guarantee.proofs.Run.{View, queueAfter, Ticks, Effect, quiet, refuses-reservation, reserves, refuses-arrival, arrives, ticks, sends, idles, Run}
 use Rattle.guarantee.proofs.Room.{Sound, stays-sound}
@@ -164,17 +164,35 @@ module _ (last share n : ℕ) (v w : View) (r : Reply) (t : Sent) (s charge tag 
   accepted (refuses-arrival e d) h no-refusal = absurd (d .refused (ap (λ (x : Reply). x .refusal) (sym (d .reply)) ∙ no-refusal))
   accepted (arrives e d) h no-refusal = joined-accepted h (arriveOf last (v .stream s) charge) refl (d .reply) (d .queues) no-refusal
 
--- every accepted frame is sent before the tick whose number is that of the queues for reserved traffic, or any later one
-pub all-sent : (last share number : ℕ) (v : View) (es : List Event) → currentPlace ≤ last → Run last share 0 v es → Sound last share v → All PurgesNothing es
-    → last + 1 ≤ number → AllSentBefore number es
-all-sent last share number v es some run h purges enough before after e s charge tag split call no-refusal =
-    let rest = run-rest last share some before (e ∷ after) 0 v (subst (Run last share 0 v) split run) h in
-    let later = rest .run in
-    let effect = subst (Effect last share (rest .number) (rest .view) (later .0) (e .reply) (e .sent)) call (later .1) in
-    let a = accepted last share (rest .number) (rest .view) (later .0) (e .reply) (e .sent) s charge tag effect (rest .sound) no-refusal in
-    let counted : length before ≡ rest .number = omega (arith, rest .counted) in
-    rw counted
-    (waits-sent last share some _ (suc (rest .number)) (e .reply .first) (later .0) _ after (later .2)
-    (all-rest PurgesNothing before (e ∷ after) (subst (All PurgesNothing) split purges) .1)
-    (a .waits)
-    (omega (arith, enough, a .to-last)))
+-- an accepted frame is sent before the tick of a number above that of the queue that the reply names
+module _ (last share : ℕ) (v : View) (es : List Event) (some : currentPlace ≤ last) (run : Run last share 0 v es) (h : Sound last share v) (purges : All PurgesNothing es)
+    (before after : List Event) (e : Event) (s charge tag : ℕ) (split : es ≡ before ++ (e ∷ after)) (call : e .call ≡ arriving s charge tag)
+    (no-refusal : e .reply .refusal ≡ 0) where
+  rest : Rest last share 0 before (e ∷ after)
+  rest = run-rest last share some before (e ∷ after) 0 v (subst (Run last share 0 v) split run) h
+
+  joined : Accepted last (rest .run .0) (e .reply) (record { stream = s; charge = charge; tag = tag; number = rest .number })
+  joined =
+      accepted last share (rest .number) (rest .view) (rest .run .0) (e .reply) (e .sent) s charge tag
+      (subst (Effect last share (rest .number) (rest .view) (rest .run .0) (e .reply) (e .sent)) call (rest .run .1))
+      (rest .sound) no-refusal
+
+  accepted-sent : (number : ℕ) → e .reply .first + 1 ≤ number → SentBefore number (record { stream = s; charge = charge; tag = tag; number = length before }) after
+  accepted-sent number enough =
+      let counted : length before ≡ rest .number = omega (arith, rest .counted) in
+      rw counted
+      (waits-sent last share some number (suc (rest .number)) (e .reply .first) (rest .run .0) _ after (rest .run .2)
+      (all-rest PurgesNothing before (e ∷ after) (subst (All PurgesNothing) split purges) .1)
+      (joined .waits)
+      enough)
+
+module _ (last share : ℕ) (v : View) (es : List Event) (some : currentPlace ≤ last) (run : Run last share 0 v es) (h : Sound last share v) (purges : All PurgesNothing es) where
+  pub sent-by-reply : SentByReply es
+  sent-by-reply before after e s charge tag split call no-refusal =
+      accepted-sent last share v es some run h purges before after e s charge tag split call no-refusal _ (omega arith)
+
+  -- every accepted frame is sent before the tick whose number is that of the queues for reserved traffic, or any later one
+  pub all-sent : (number : ℕ) → last + 1 ≤ number → AllSentBefore number es
+  all-sent number enough before after e s charge tag split call no-refusal =
+      accepted-sent last share v es some run h purges before after e s charge tag split call no-refusal _
+      (omega (arith, enough, joined last share v es some run h purges before after e s charge tag split call no-refusal .to-last))

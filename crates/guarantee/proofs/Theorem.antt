@@ -30,12 +30,12 @@ use Rattle.port_laws.proofs.QuickLaws.{quick-call}
 use Rattle.port_laws.proofs.StayLaws.{let-through, stays-fit}
 use Rattle.port_laws.proofs.OpenLaws.{opened-open, opened-link, opened-queue, opened-stream}
 use Rattle.guarantee.specs.Events.{reserved, bestEffort as sentBestEffort, Event, marked, sentBy, happened, events}
-use Rattle.guarantee.specs.Claims.{LinkCondition}
-use Rattle.guarantee.specs.Demand3.{CallList, eventsOf, Promised, Demand3}
+use Rattle.guarantee.specs.Claims.{LinkCondition, SentByReply}
+use Rattle.guarantee.specs.Demand3.{CallList, eventsOf, LinkHolds, Promised, Demand3}
 use Rattle.guarantee.proofs.Run.{View, free, octets, quiet, Run}
 use Rattle.guarantee.proofs.Room.{Sound}
 use Rattle.guarantee.proofs.Purge.{no-transmit, no-purge}
-use Rattle.guarantee.proofs.Delay.{all-sent}
+use Rattle.guarantee.proofs.Delay.{sent-by-reply, all-sent}
 use Rattle.guarantee.proofs.Conforming.{prompt}
 use Rattle.guarantee.proofs.Alone.{alike}
 use Rattle.guarantee.proofs.Tied.{tied-empty}
@@ -135,7 +135,7 @@ promises last share es more run link =
     let purges = no-purge last share (omega arith) es 0 emptyView run sound link refl in
     record {
       no-purge = purges;
-      all-sent = all-sent last share _ emptyView es (omega arith) run sound purges (omega arith);
+      all-sent = all-sent last share emptyView es (omega arith) run sound purges _ (omega arith);
       prompt = prompt last share emptyView es more run sound purges;
     }
 
@@ -149,6 +149,12 @@ demand-3 l =
       says = (λ e. absurd (no-transmit (opening (l .link) (l .delay)) tt e), later-plays l .1 .0);
       not-by-host = ((λ e. omega (arith, l .opened), (λ e. omega (arith, l .opened), λ e. omega (arith, l .opened))), later-plays l .1 .1);
     }
+
+-- and beyond the demand
+pub sent-as-replied : (l : CallList) → LinkHolds l → SentByReply (eventsOf l)
+sent-as-replied l link =
+    sent-by-reply lastPlace (shareOf (l .link)) emptyView (eventsOf l) (omega arith) (run l) (empty-sound lastPlace (shareOf (l .link)) (omega arith))
+    (demand-3 l .promised link .no-purge)
 
 -- a call's event in front of the later ones
 abbrev withFirst : List Call → Call → Outcome → Outcome → List Event → List Event
