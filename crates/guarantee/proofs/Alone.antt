@@ -55,7 +55,7 @@ module _ (last share n s : ℕ) (v w : View) (r : Reply) (t : Sent) (es : List E
   -- and from the view before it on, with the call in front of the rest
   abbrev AloneWith : Call → Type 0
   AloneWith c =
-      let here : List Event = record { call = c; reply = r; sent = t } ∷ es in
+      let here : List Event = record { call = c; reply = r; shown = r; sent = t } ∷ es in
       answers s here ≡ replyAlone last s (v .stream s) (remaining s here) (grants s here)
 
   -- the reply to an arrival on stream i, and that stream after it

@@ -6,6 +6,7 @@ use mathlib.Core.Logic.{⊎-elim}
 use mathlib.Core.List.{List, []}
 use lib.ListN.{length}
 use Rattle.lists.proofs.Order.{eq-or-not}
+use Rattle.stream.specs.declared.Reply.{Reply}
 use Rattle.stream.specs.State.{lastPlace}
 use Rattle.stream.specs.Replies.{refusedBy}
 use Rattle.queue.specs.Waiting.{waiting}
@@ -19,7 +20,7 @@ use Rattle.steps.specs.Outcome.{Outcome, refused}
 use Rattle.gates.specs.Gated.{gated}
 use Rattle.gates.proofs.GateLaws.{grants, refuses}
 use Rattle.port_laws.specs.Lists.{Call, transmitting}
-use Rattle.guarantee.specs.Events.{Marked, reserved, bestEffort as sentBestEffort, sentBy}
+use Rattle.guarantee.specs.Events.{Marked, Sent, reserved, bestEffort as sentBestEffort, sentBy}
 use Rattle.guarantee.specs.Claims.{replyOfSent}
 use Rattle.guarantee.proofs.Run.{View, Effect}
 use Rattle.guarantee.proofs.Tied.{Tied}
@@ -33,6 +34,10 @@ pub record Moved (all : List Call) (p q m k : List ℕ) (w : View) (best : List 
   pub above : (role : ℕ) → queueCount ≤ role → w .queue role ≡ []
   pub waits : Tied all sentBestEffort (waiting m bestEffort (queueAt q bestEffort)) (waiting k bestEffort (queueAt q bestEffort)) best
 
+-- a transmit and the marked one say what is sent
+abbrev pub Says : Reply → Reply → Sent → Type 0
+Says reply shown sent = (reply ≡ replyOfSent (λ f. f .tag) sent) × (shown ≡ replyOfSent (λ f. f .number) sent)
+
 -- what call number n leaves: o its outcome, u that of the marked call
 pub record Next (all : List Call) (n link : ℕ) (p m k : List ℕ) (v : View) (c : Call) (o u : Outcome) : Type 0 where
   pub view : View
@@ -42,7 +47,8 @@ pub record Next (all : List Call) (n link : ℕ) (p m k : List ℕ) (v : View) (
   pub long : length (o .memory) ≡ length m
   pub long-marked : length (u .memory) ≡ length k
   pub moved : Moved all p (o .port) (o .memory) (u .memory) view best
-  pub says : c ≡ transmitting → o .reply ≡ replyOfSent (sentBy all c (u .reply))
+  pub says : c ≡ transmitting → Says (o .reply) (u .reply) (sentBy all c (u .reply))
+  pub marks : (c ≡ transmitting → ⊥) → u .reply ≡ o .reply
   pub not-lent : o .reply .refusal < 18
 
 -- a record keeps what it has
@@ -71,6 +77,7 @@ module _ (all : List Call) (n link : ℕ) (p m k : List ℕ) (v : View) (best : 
         long-marked = refl;
         moved = unmoved;
         says = λ e. absurd (other e);
+        marks = λ e. refl;
         not-lent = below;
       }
 

@@ -240,6 +240,7 @@ module _ (all : List Call) (n link : ℕ) (p m k : List ℕ) (v : View) (best : 
           long-marked = joins-length k number (queueAt p number) (numbered frame);
           moved = joined-moved;
           says = λ z. absurd (no-transmit (arriving s a tag) tt z);
+          marks = λ z. refl;
           not-lent = omega arith;
         })
 
@@ -275,6 +276,7 @@ module _ (all : List Call) (n link : ℕ) (p m k : List ℕ) (v : View) (best : 
                 waits = rw (queue-place p s (spent .place) (spent .left) bestEffort (omega arith)) (h .waits);
               };
           says = λ z. absurd (no-transmit (arriving s a tag) tt z);
+          marks = λ z. refl;
           not-lent = omega arith;
         })
 

@@ -103,6 +103,7 @@ module _ (all : List Call) (n link : ℕ) (p m k : List ℕ) (v : View) (best : 
                   (tied-joins all sentBestEffort (waiting m bestEffort x) (waiting k bestEffort x) best f (h .waits) (ap (broughtBy n) here));
             };
         says = λ z. absurd (no-transmit (joiningBestEffort a tag) tt z);
+        marks = λ z. refl;
         not-lent = omega arith;
       }
 

@@ -79,6 +79,7 @@ module _ (all : List Call) (n link : ℕ) (p m k : List ℕ) (v : View) (best : 
               waits = rw (queue-stream p s (reserveOf permitted) bestEffort (omega arith)) (h .waits);
             };
         says = λ z. absurd (no-transmit (reserving s permitted) tt z);
+        marks = λ z. refl;
         not-lent = omega arith;
       }
 

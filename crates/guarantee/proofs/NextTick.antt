@@ -32,7 +32,7 @@ use Rattle.gates.specs.Refusals.{closedRefusal}
 use Rattle.port_laws.specs.Lists.{Call, ticking, called}
 use Rattle.guarantee.specs.Events.{Marked, reserved, marked}
 use Rattle.guarantee.proofs.Run.{View, free, octets, ticks}
-use Rattle.guarantee.proofs.Tied.{Tied, tied-empty, tied-length, tied-octets}
+use Rattle.guarantee.proofs.Tied.{Tied, tied-empty, tied-length, tied-octets, tied-octets-shown}
 use Rattle.guarantee.proofs.Purge.{no-transmit}
 use Rattle.guarantee.proofs.Held.{Holds, inRole, seen, seenAt, seen-below, seen-above, seen-as-is, seen-free}
 use Rattle.guarantee.proofs.Next.{Next, keeps-same, by-gate}
@@ -217,6 +217,15 @@ module _ (all : List Call) (n link : ℕ) (p m k : List ℕ) (v : View) (best : 
       (sym (length-waiting m (roleAt p priorRole) x) ∙ tied-length all reserved (inRole p m priorRole) (inRole p k priorRole) (v .queue 0) prior)
       (tied-octets all reserved (inRole p m priorRole) (inRole p k priorRole) (v .queue 0) prior)
 
+  -- as many octets in the memory of the marked calls
+  tick-marks : tickStep p k .reply ≡ tickStep p m .reply
+  unfolding tickStep
+  tick-marks =
+      let prior = h .queues priorRole (omega arith) in
+      ap (granted (queueAt p (roleAt p priorRole) .count))
+      (tied-octets-shown all reserved (inRole p m priorRole) (inRole p k priorRole) (v .queue 0) prior
+      ∙ sym (tied-octets all reserved (inRole p m priorRole) (inRole p k priorRole) (v .queue 0) prior))
+
   tick-next : Next all n link p m k v ticking (tickStep p m) (tickStep p k)
   unfolding tickStep
   tick-next =
@@ -236,6 +245,7 @@ module _ (all : List Call) (n link : ℕ) (p m k : List ℕ) (v : View) (best : 
               waits = rw tick-waits (h .waits);
             };
         says = λ z. absurd (no-transmit ticking tt z);
+        marks = λ z. tick-marks;
         not-lent = omega arith;
       }
 

@@ -138,7 +138,11 @@ module _ (all : List Call) (n link : ℕ) (p m k : List ℕ) (v : View) (best : 
                 above = λ j c. sent-else j (λ e. omega arith) ∙ h .above j c;
                 waits = rw (other-queue p number (sentQueue there) bestEffort (λ e. omega (arith, role-below p role))) (h .waits);
               };
-          says = λ z. reply ∙ sym (ap replyOfSent sends-it);
+          says = λ z. (
+            reply ∙ sym (ap (replyOfSent (λ g. g .tag)) sends-it),
+            ap (λ (g : Frame). granted (g .stream) (g .tag)) (front .shown) ∙ sym (ap (replyOfSent (λ g. g .number)) sends-it),
+          );
+          marks = λ z. absurd (z refl);
           not-lent = omega arith;
         }
 
@@ -188,7 +192,11 @@ module _ (all : List Call) (n link : ℕ) (p m k : List ℕ) (v : View) (best : 
                 above = h .above;
                 waits = rw (effort-here octets) (oldest-there .rest);
               };
-          says = λ z. ap (λ (g : Frame). granted (g .stream) (g .tag)) (oldest-there .real) ∙ sym (ap replyOfSent sends-it);
+          says = λ z. (
+            ap (λ (g : Frame). granted (g .stream) (g .tag)) (oldest-there .real) ∙ sym (ap (replyOfSent (λ g. g .tag)) sends-it),
+            ap (λ (g : Frame). granted (g .stream) (g .tag)) (oldest-there .shown) ∙ sym (ap (replyOfSent (λ g. g .number)) sends-it),
+          );
+          marks = λ z. absurd (z refl);
           not-lent = omega arith;
         }
 
@@ -204,7 +212,8 @@ module _ (all : List Call) (n link : ℕ) (p m k : List ℕ) (v : View) (best : 
           long = refl;
           long-marked = refl;
           moved = unmoved all n link p m k v best h;
-          says = λ z. sym (ap replyOfSent first);
+          says = λ z. (sym (ap (replyOfSent (λ g. g .tag)) first), sym (ap (replyOfSent (λ g. g .number)) first));
+          marks = λ z. absurd (z refl);
           not-lent = omega arith;
         }
 

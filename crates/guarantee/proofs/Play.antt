@@ -11,7 +11,7 @@ use Rattle.fitness.specs.Fit.{recordFits}
 use Rattle.port_laws.specs.Lists.{Call, opening, reserving, arriving, ticking, transmitting, joiningBestEffort, called}
 use Rattle.port_laws.proofs.StayLaws.{stays-fit}
 use Rattle.guarantee.specs.Events.{Marked, none, broughtBy, marked, Event, happened, All}
-use Rattle.guarantee.specs.Claims.{SaysWhatItSends, NotByHost}
+use Rattle.guarantee.specs.Claims.{SaysWhatItSends, AlikeMarked, NotByHost}
 use Rattle.guarantee.proofs.Run.{View, Run}
 use Rattle.guarantee.proofs.Room.{Sound, stays-sound}
 use Rattle.guarantee.proofs.Held.{Holds}
@@ -52,11 +52,14 @@ holds-next all n link p m k v best c h next =
     }
 
 -- what is shown of the events from call number n on
-abbrev pub Plays : ℕ → ℕ → View → List Event → Type 0
-Plays link n v es = (Run lastPlace (shareOf link) n v es × (All SaysWhatItSends es × All NotByHost es))
+pub record Plays (link n : ℕ) (v : View) (es : List Event) : Type 0 where
+  pub run : Run lastPlace (shareOf link) n v es
+  pub says : All SaysWhatItSends es
+  pub marks : All AlikeMarked es
+  pub not-by-host : All NotByHost es
 
-not-by-host : (r : ℕ) → r < 18 → (r ≡ 18 → ⊥) × ((r ≡ 19 → ⊥) × (r ≡ 20 → ⊥))
-not-by-host r h = (λ z. omega arith, (λ z. omega arith, λ z. omega arith))
+not-lent : (r : ℕ) → r < 18 → (r ≡ 18 → ⊥) × ((r ≡ 19 → ⊥) × (r ≡ 20 → ⊥))
+not-lent r h = (λ z. omega arith, (λ z. omega arith, λ z. omega arith))
 
 -- the number of a call in the list
 next-numbers : (all : List Call) (n : ℕ) (c : Call) (cs : List Call) → ((i : ℕ) → getD all (n + i) ticking ≡ getD (c ∷ cs) i ticking)
@@ -66,7 +69,7 @@ next-numbers all n c cs numbers i = ap (λ (j : ℕ). getD all j ticking) (omega
 module _ (all : List Call) (link : ℕ) (first : broughtBy 0 (getD all 0 ticking) ≡ none) where
   pub plays : (cs : List Call) (n : ℕ) (p m k : List ℕ) (v : View) (best : List Marked) → Holds all link p m k v best → Sound lastPlace (shareOf link) v
       → ((i : ℕ) → getD all (n + i) ticking ≡ getD cs i ticking) → Plays link n v (happened called all n cs p m p k)
-  plays [] n p m k v best h sound numbers = (tt, (tt, tt))
+  plays [] n p m k v best h sound numbers = record { run = tt; says = tt; marks = tt; not-by-host = tt }
   plays (c ∷ cs) n p m k v best h sound numbers =
       let here : getD all n ticking ≡ c = ap (λ (j : ℕ). getD all j ticking) (omega arith) ∙ numbers 0 in
       let next = next-call all n link p m k v best h sound first c here in
@@ -75,7 +78,10 @@ module _ (all : List Call) (link : ℕ) (first : broughtBy 0 (getD all 0 ticking
       let later = subst (λ (l : List ℕ). Plays link (suc n) (next .view) (happened called all (suc n) cs (o .port) (o .memory) l (u .memory))) (sym (next .same))
       (plays cs (suc n) (o .port) (o .memory) (u .memory) (next .view) (next .best) (holds-next all n link p m k v best c h next)
       (stays-sound lastPlace (shareOf link) n v (next .view) (o .reply) _ c (omega arith) (next .effect) sound)
-      (next-numbers all n c cs numbers)) in (
-        (next .view, next .effect, later .0),
-        ((next .says, later .1 .0), (not-by-host (o .reply .refusal) (next .not-lent), later .1 .1)),
-      )
+      (next-numbers all n c cs numbers)) in
+      record {
+        run = (next .view, next .effect, later .run);
+        says = (next .says, later .says);
+        marks = (next .marks, later .marks);
+        not-by-host = (not-lent (o .reply .refusal) (next .not-lent), later .not-by-host);
+      }

@@ -126,7 +126,7 @@ module _ (l : CallList) where
 
   -- the Open touches nothing of an empty view
   run : Run lastPlace (shareOf (l .link)) 0 emptyView (eventsOf l)
-  run = (emptyView, quiet tt refl (λ role. refl) (λ s. refl), later-plays .0)
+  run = (emptyView, quiet tt refl (λ role. refl) (λ s. refl), later-plays .run)
 
 -- what the link condition promises, whatever the number of queues
 pub promises : (last share : ℕ) (es : List Event) → currentPlace < last → Run last share 0 emptyView es → LinkCondition share es → Promised (last + 1) es
@@ -146,8 +146,9 @@ demand-3 l =
       promised = promises lastPlace (shareOf (l .link)) (eventsOf l) (omega arith) (run l);
       alike = λ other s.
           alike lastPlace (shareOf (l .link)) (shareOf (other .link)) s (eventsOf l) (eventsOf other) emptyView emptyView refl (run l) (run other);
-      says = (λ e. absurd (no-transmit (opening (l .link) (l .delay)) tt e), later-plays l .1 .0);
-      not-by-host = ((λ e. omega (arith, l .opened), (λ e. omega (arith, l .opened), λ e. omega (arith, l .opened))), later-plays l .1 .1);
+      says = (λ e. absurd (no-transmit (opening (l .link) (l .delay)) tt e), later-plays l .says);
+      marks = (λ e. refl, later-plays l .marks);
+      not-by-host = ((λ e. omega (arith, l .opened), (λ e. omega (arith, l .opened), λ e. omega (arith, l .opened))), later-plays l .not-by-host);
     }
 
 -- and beyond the demand
@@ -158,7 +159,7 @@ sent-as-replied l link =
 
 -- a call's event in front of the later ones
 abbrev withFirst : List Call → Call → Outcome → Outcome → List Event → List Event
-withFirst all c o shown later = record { call = c; reply = o .reply; sent = sentBy all c (shown .reply) } ∷ later
+withFirst all c o u later = record { call = c; reply = o .reply; shown = u .reply; sent = sentBy all c (u .reply) } ∷ later
 
 -- the quick calls, which do not scan the record, are these calls in every such list
 quick-happened : (all cs : List Call) (n : ℕ) (p m q k : List ℕ) → recordFits p m ≡ true → recordFits q k ≡ true
@@ -166,10 +167,10 @@ quick-happened : (all cs : List Call) (n : ℕ) (p m q k : List ℕ) → recordF
 quick-happened all [] n p m q k fits marked-fits = refl
 quick-happened all (c ∷ cs) n p m q k fits marked-fits =
     let o = called c p m in
-    let shown = called (marked n c) q k in
+    let u = called (marked n c) q k in
     ap₂ (λ (x y : Outcome). withFirst all c x y (happened quicklyCalled all (suc n) cs (x .port) (x .memory) (y .port) (y .memory)))
     (quick-call c p m fits) (quick-call (marked n c) q k marked-fits)
-    ∙ ap (withFirst all c o shown) (quick-happened all cs (suc n) (o .port) (o .memory) (shown .port) (shown .memory) (stays-fit c p m fits) (stays-fit (marked n c) q k marked-fits))
+    ∙ ap (withFirst all c o u) (quick-happened all cs (suc n) (o .port) (o .memory) (u .port) (u .memory) (stays-fit c p m fits) (stays-fit (marked n c) q k marked-fits))
 
 pub quick-events : (l : CallList) → events quicklyCalled (opening (l .link) (l .delay) ∷ l .later) (l .port) (l .memory) ≡ eventsOf l
 quick-events l =

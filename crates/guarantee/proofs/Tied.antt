@@ -1,6 +1,6 @@
 -- A queue's frames in the memory, and in the memory of the marked calls, as one list of marked frames. Assumes nothing.
-use Prim.Native.Nat.{ℕ, suc, _+_}
-use mathlib.Core.Path.{_≡_, refl, sym, ap, _∙_}
+use Prim.Native.Nat.{suc, _+_}
+use mathlib.Core.Path.{_≡_, refl, sym, ap, ap₂, _∙_}
 use mathlib.Core.List.{List, [], _∷_, _++_, map}
 use native.Mathlib.Omega.{arith}
 use lib.ListN.{length, getD}
@@ -54,12 +54,16 @@ module _ (all : List Call) (kind : Marked → Sent) where
       as-long [] = refl
       as-long (g ∷ gs) = ap suc (as-long gs)
 
+  -- the charge of a frame is the same in both memories
+  as-heavy : (g : Marked → Frame) → ((f : Marked) → g f .charge ≡ f .charge) → (fs : List Marked) → chargesOf (map g fs) ≡ octets fs
+  as-heavy g same [] = refl
+  as-heavy g same (f ∷ fs) = ap₂ _+_ (same f) (as-heavy g same fs)
+
   pub tied-octets : (ws ks : List Frame) (fs : List Marked) → Tied all kind ws ks fs → chargesOf ws ≡ octets fs
-  tied-octets ws ks fs h = ap chargesOf (h .real) ∙ as-heavy fs
-    where
-      as-heavy : (gs : List Marked) → chargesOf (map plain gs) ≡ octets gs
-      as-heavy [] = refl
-      as-heavy (g ∷ gs) = ap (λ (n : ℕ). g .charge + n) (as-heavy gs)
+  tied-octets ws ks fs h = ap chargesOf (h .real) ∙ as-heavy plain (λ f. refl) fs
+
+  pub tied-octets-shown : (ws ks : List Frame) (fs : List Marked) → Tied all kind ws ks fs → chargesOf ks ≡ octets fs
+  tied-octets-shown ws ks fs h = ap chargesOf (h .shown) ∙ as-heavy numbered (λ f. refl) fs
 
 -- the oldest frame of a queue
 pub record Oldest (all : List Call) (kind : Marked → Sent) (w k : Frame) (ws ks : List Frame) (fs : List Marked) : Type 0 where

@@ -60,14 +60,19 @@ LinkCondition share es =
 abbrev pub PurgesNothing : Event → Type 0
 PurgesNothing e = Tick e → e .reply ≡ granted 0 0
 
--- "the reply is that frame's stream and tag"; "stream (255 best effort, 254 nothing), tag (0 for nothing)"
-abbrev pub replyOfSent : Sent → Reply
-replyOfSent (reserved f) = granted (f .stream) (f .tag)
-replyOfSent (bestEffort f) = granted (f .stream) (f .tag)
-replyOfSent none = granted nothing 0
+-- "the reply is that frame's stream and tag", and where the tag is the call's number its stream and that; "stream (255 best effort, 254 nothing), tag
+-- (0 for nothing)"
+abbrev pub replyOfSent : (Marked → ℕ) → Sent → Reply
+replyOfSent tag (reserved f) = granted (f .stream) (tag f)
+replyOfSent tag (bestEffort f) = granted (f .stream) (tag f)
+replyOfSent tag none = granted nothing 0
 
 abbrev pub SaysWhatItSends : Event → Type 0
-SaysWhatItSends e = e .call ≡ transmitting → e .reply ≡ replyOfSent (e .sent)
+SaysWhatItSends e = e .call ≡ transmitting → (e .reply ≡ replyOfSent (λ f. f .tag) (e .sent)) × (e .shown ≡ replyOfSent (λ f. f .number) (e .sent))
+
+-- every other call replies the same, whatever the tags
+abbrev pub AlikeMarked : Event → Type 0
+AlikeMarked e = (e .call ≡ transmitting → ⊥) → e .shown ≡ e .reply
 
 -- a frame is sent before the tick of that number among the events after it: "claimed where the list reaches that tick"
 abbrev pub Sends : Marked → Event → Type 0

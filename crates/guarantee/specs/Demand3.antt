@@ -7,7 +7,7 @@ use Rattle.ranges.specs.Ranges.{shareOf}
 use Rattle.port.specs.Calls.{openCall}
 use Rattle.port_laws.specs.Lists.{Call, opening, called}
 use Rattle.guarantee.specs.Events.{Event, All, events}
-use Rattle.guarantee.specs.Claims.{LinkCondition, PurgesNothing, SaysWhatItSends, AllSentBefore, ConformingPrompt, Alike, NotByHost}
+use Rattle.guarantee.specs.Claims.{LinkCondition, PurgesNothing, SaysWhatItSends, AlikeMarked, AllSentBefore, ConformingPrompt, Alike, NotByHost}
 
 -- "The first is a granted Open, whatever record and memory it was given": these two, the Open's L and K, and the calls after it
 pub record CallList : Type 0 where
@@ -42,7 +42,8 @@ pub record Demand3 (l : CallList) : Type 0 where
   pub promised : LinkHolds l → Promised queueCount (eventsOf l)
   -- "With or without the link condition, two lists alike [..] give its arrivals the same replies", also where they open with another L and K
   pub alike : (other : CallList) (s : ℕ) → Alike s (eventsOf l) (eventsOf other)
-  -- the frames that the events show as sent are those that the transmits reply
+  -- the frames that the events show as sent are those that the transmits reply, and the marks change no other reply
   pub says : All SaysWhatItSends (eventsOf l)
+  pub marks : All AlikeMarked (eventsOf l)
   -- and no call is refused with 18, 19 or 20
   pub not-by-host : All NotByHost (eventsOf l)

@@ -21,10 +21,11 @@ pub data Sent : Type 0 where
   bestEffort : Marked → Sent
   none : Sent
 
--- a call of the list, its reply, and what it sent
+-- a call of the list, its reply, its reply where each frame's tag is its call's number, and what it sent
 pub record Event : Type 0 where
   pub call : Call
   pub reply : Reply
+  pub shown : Reply
   pub sent : Sent
 
 -- the call with its number for a tag
@@ -60,8 +61,8 @@ abbrev pub happened : (Call → List ℕ → List ℕ → Outcome) → List Call
 happened call all n [] p m q k = []
 happened call all n (c ∷ cs) p m q k =
     let o = call c p m in
-    let shown = call (marked n c) q k in
-    record { call = c; reply = o .reply; sent = sentBy all c (shown .reply) } ∷ happened call all (suc n) cs (o .port) (o .memory) (shown .port) (shown .memory)
+    let u = call (marked n c) q k in
+    record { call = c; reply = o .reply; shown = u .reply; sent = sentBy all c (u .reply) } ∷ happened call all (suc n) cs (o .port) (o .memory) (u .port) (u .memory)
 
 -- a whole list, on a record and a memory; "each later call gets both as the last one left them, and nobody else writes them meanwhile"
 abbrev pub events : (Call → List ℕ → List ℕ → Outcome) → List Call → List ℕ → List ℕ → List Event

@@ -10,17 +10,18 @@ use Rattle.steps.specs.Outcome.{Outcome, outcome}
 use Rattle.sending.specs.Sending.{nothing}
 use Rattle.port_laws.specs.Lists.{Call, opening, reserving, arriving, ticking, transmitting, joiningBestEffort, called}
 use Rattle.guarantee.specs.Events.{Marked, Sent, reserved, bestEffort, none, Event}
+use Rattle.guarantee.specs.Claims.{replyOfSent}
 use Rattle.guarantee.specs.Demand3.{CallList, eventsOf}
 
 -- an event that sends nothing, and a transmit that sends the frame of a call
 abbrev pub replied : Call → Reply → Event
-replied c reply = record { call = c; reply = reply; sent = none }
+replied c reply = record { call = c; reply = reply; shown = reply; sent = none }
 
 abbrev pub frameOf : ℕ → ℕ → ℕ → ℕ → Marked
 frameOf stream charge tag number = record { stream = stream; charge = charge; tag = tag; number = number }
 
 abbrev pub sending : Sent → Reply → Event
-sending sent reply = record { call = transmitting; reply = reply; sent = sent }
+sending sent reply = record { call = transmitting; reply = reply; shown = replyOfSent (λ f. f .number) sent; sent = sent }
 
 -- these are the events of a list of calls
 pub record Happens (es : List Event) : Type 0 where
