@@ -8,6 +8,7 @@ pub mod Conforming
 pub mod Alone
 pub mod Tied
 pub mod Held
+pub mod BestEffortWritten
 pub mod Next
 pub mod NextReserve
 pub mod NextBestEffort

@@ -7,19 +7,16 @@ use native.Mathlib.Omega.{arith}
 use lib.ListN.{length, getD}
 use lib.Dec.{leb, ltb}
 use Rattle.queue.specs.declared.Frame.{Frame}
+use Rattle.queue.specs.declared.Queue.{Queue}
 use Rattle.queue.specs.Ring.{placeCount, joinedMemory, joinedQueue}
 use Rattle.queue.specs.Waiting.{waiting}
 use Rattle.queue.proofs.WaitingLaws.{joins, joins-elsewhere, joins-length}
 use Rattle.record.specs.Layout.{Whole, bestEffort, memoryLength}
-use Rattle.record.specs.Head.{openAt, priorAt, waitsAt, withWaits, queueAt, withQueue}
-use Rattle.record.specs.Entry.{streamAt}
-use Rattle.record.proofs.HeadPairs.{queue-waits, prior-waits, stream-waits, queue-queue, other-queue, prior-queue, stream-queue}
-use Rattle.record.proofs.KeepLaws.{keeps-both, keeps-queue, keeps-waits}
+use Rattle.record.specs.Head.{openAt, waitsAt, queueAt}
 use Rattle.ranges.specs.Ranges.{chargeFits}
 use Rattle.fitness.specs.Clauses.{bestEffortStream}
 use Rattle.fitness.proofs.FitLaws.{fit-record}
 use Rattle.steps.specs.Roles.{roleAt}
-use Rattle.steps.proofs.RoleLaws.{role-below}
 use Rattle.best_effort.specs.BestEffort.{bestEffortFrame, bestEffortStep}
 use Rattle.gates.specs.Refusals.{bestEffortLimit, bestEffortRefusal}
 use Rattle.gates.proofs.GateLaws.{best-effort-allowed}
@@ -28,7 +25,8 @@ use Rattle.guarantee.specs.Events.{Marked, bestEffort as sentBestEffort,
 use Rattle.guarantee.proofs.Run.{View, quiet}
 use Rattle.guarantee.proofs.Tied.{tied-joins}
 use Rattle.guarantee.proofs.Purge.{no-transmit}
-use Rattle.guarantee.proofs.Held.{Holds, inRole, role-kept, same-seen}
+use Rattle.guarantee.proofs.BestEffortWritten.{written, written-keeps, written-here, written-stream, role-not-effort, written-role}
+use Rattle.guarantee.proofs.Held.{Holds, inRole, same-seen}
 use Rattle.guarantee.proofs.Next.{Next, gate-below, next-refused, by-gate}
 
 effort-below : (p : List ℕ) (charge : ℕ) → bestEffortRefusal p charge < 18
@@ -39,42 +37,28 @@ effort-below p charge =
     let thirteen = gate-below (not (chargeFits charge)) 13 _ (omega arith) fifteen in
     gate-below (not (openAt p)) 1 _ (omega arith) thirteen
 
--- the record after the step
-abbrev effortRecord : List ℕ → ℕ → List ℕ
-effortRecord p a = withWaits (withQueue p bestEffort (joinedQueue (queueAt p bestEffort))) (waitsAt p + a)
+-- the queue of best effort and W after the step
+abbrev queueAfter : List ℕ → Queue
+queueAfter p = joinedQueue (queueAt p bestEffort)
 
-module _ (p : List ℕ) (a : ℕ) where
-  effort-prior : priorAt (effortRecord p a) ≡ priorAt p
-  effort-prior = prior-waits (withQueue p bestEffort (joinedQueue (queueAt p bestEffort))) (waitsAt p + a) ∙ prior-queue p bestEffort (joinedQueue (queueAt p bestEffort))
+module _ (p : List ℕ) (a : ℕ) (m : List ℕ) (f : Frame) where
+  abbrev memoryAfter : List ℕ
+  memoryAfter = joinedMemory m bestEffort (queueAt p bestEffort) f
 
-  effort-other : (q : ℕ) → (q ≡ bestEffort → ⊥) → queueAt (effortRecord p a) q ≡ queueAt p q
-  effort-other q o =
-      queue-waits (withQueue p bestEffort (joinedQueue (queueAt p bestEffort))) (waitsAt p + a) q ∙ other-queue p bestEffort (joinedQueue (queueAt p bestEffort)) q o
-
-  effort-queue : Whole p → queueAt (effortRecord p a) bestEffort ≡ joinedQueue (queueAt p bestEffort)
-  effort-queue whole =
-      queue-waits (withQueue p bestEffort (joinedQueue (queueAt p bestEffort))) (waitsAt p + a) bestEffort
-      ∙ queue-queue p bestEffort (joinedQueue (queueAt p bestEffort)) whole (omega arith)
-
-  effort-stream : (s : ℕ) → streamAt (effortRecord p a) s ≡ streamAt p s
-  effort-stream s =
-      stream-waits (withQueue p bestEffort (joinedQueue (queueAt p bestEffort))) (waitsAt p + a) s
-      ∙ stream-queue p bestEffort (joinedQueue (queueAt p bestEffort)) s (omega arith)
+  abbrev recordAfter : List ℕ
+  recordAfter = written p (queueAfter p) (waitsAt p + a)
 
   -- a role's frames stay, whatever frame joins best effort
-  effort-role : (m : List ℕ) (f : Frame) (role : ℕ) → inRole (effortRecord p a) (joinedMemory m bestEffort (queueAt p bestEffort) f) role ≡ inRole p m role
-  effort-role m f role =
-      let apart : roleAt p role ≡ bestEffort → ⊥ = λ e. omega (arith, role-below p role) in
-      role-kept p (effortRecord p a) (joinedMemory m bestEffort (queueAt p bestEffort) f) role effort-prior (effort-other (roleAt p role) apart)
-      ∙ joins-elsewhere m bestEffort (roleAt p role) (queueAt p bestEffort) (queueAt p (roleAt p role)) f apart
+  effort-role : (role : ℕ) → inRole recordAfter memoryAfter role ≡ inRole p m role
+  effort-role role =
+      written-role p (queueAfter p) (waitsAt p + a) memoryAfter role
+      ∙ joins-elsewhere m bestEffort (roleAt p role) (queueAt p bestEffort) (queueAt p (roleAt p role)) f (role-not-effort p (queueAfter p) (waitsAt p + a) role)
 
   -- and the frame is the last in best effort
-  effort-joins : (m : List ℕ) (f : Frame) → Whole p → memoryLength ≤ length m → queueAt p bestEffort .count < placeCount
-      → waiting (joinedMemory m bestEffort (queueAt p bestEffort) f) bestEffort (queueAt (effortRecord p a) bestEffort)
-      ≡ waiting m bestEffort (queueAt p bestEffort) ++ (f ∷ [])
-  effort-joins m f whole long room =
-      ap (waiting (joinedMemory m bestEffort (queueAt p bestEffort) f) bestEffort) (effort-queue whole)
-      ∙ joins m bestEffort (queueAt p bestEffort) f room (omega arith)
+  effort-joins : Whole p → memoryLength ≤ length m → queueAt p bestEffort .count < placeCount
+      → waiting memoryAfter bestEffort (queueAt recordAfter bestEffort) ≡ waiting m bestEffort (queueAt p bestEffort) ++ (f ∷ [])
+  effort-joins whole long room =
+      ap (waiting memoryAfter bestEffort) (written-here p (queueAfter p) (waitsAt p + a) whole) ∙ joins m bestEffort (queueAt p bestEffort) f room (omega arith)
 
 module _ (all : List Call) (n link : ℕ) (p m k : List ℕ) (v : View) (best : List Marked) (h : Holds all link p m k v best) where
   effort-next : (a tag : ℕ) → getD all n ticking ≡ joiningBestEffort a tag → bestEffortRefusal p a ≡ 0
@@ -94,8 +78,8 @@ module _ (all : List Call) (n link : ℕ) (p m k : List ℕ) (v : View) (best : 
         long-marked = joins-length k bestEffort x (bestEffortFrame a n);
         moved =
             record {
-              keeps = keeps-both p _ _ (keeps-queue p bestEffort (joinedQueue x) (omega arith)) (keeps-waits (withQueue p bestEffort (joinedQueue x)) (waitsAt p + a));
-              streams = same-seen p (effortRecord p a) v (h .streams) (λ i b. effort-stream p a i);
+              keeps = written-keeps p (queueAfter p) (waitsAt p + a);
+              streams = same-seen p (written p (queueAfter p) (waitsAt p + a)) v (h .streams) (λ i b. written-stream p (queueAfter p) (waitsAt p + a) i);
               queues = λ role b. rw (effort-role p a m (bestEffortFrame a tag) role, effort-role p a k (bestEffortFrame a n) role) (h .queues role b);
               above = h .above;
               waits =

@@ -16,9 +16,9 @@ use Rattle.queue.specs.Ring.{frontOf, sentQueue}
 use Rattle.queue.specs.Waiting.{waiting}
 use Rattle.queue.proofs.WaitingLaws.{sends, length-waiting}
 use Rattle.record.specs.Layout.{Whole, queueCount, bestEffort, queueRoom}
-use Rattle.record.specs.Head.{waitsAt, withWaits, queueAt, withQueue}
-use Rattle.record.proofs.HeadPairs.{queue-waits, prior-waits, stream-waits, queue-queue, other-queue, prior-queue, stream-queue}
-use Rattle.record.proofs.KeepLaws.{keeps-both, keeps-queue, keeps-waits}
+use Rattle.record.specs.Head.{waitsAt, queueAt, withQueue}
+use Rattle.record.proofs.HeadPairs.{queue-queue, other-queue, prior-queue, stream-queue}
+use Rattle.record.proofs.KeepLaws.{keeps-queue}
 use Rattle.fitness.proofs.FitLaws.{fit-record}
 use Rattle.steps.specs.Outcome.{outcome}
 use Rattle.steps.specs.Roles.{roleAt, priorRole, currentRole}
@@ -32,6 +32,7 @@ use Rattle.guarantee.specs.Claims.{replyOfSent}
 use Rattle.guarantee.proofs.ListLaws.{none-long}
 use Rattle.guarantee.proofs.Run.{View, sends as sends-frame, idles}
 use Rattle.guarantee.proofs.Tied.{Tied, Oldest, oldest, tied-length}
+use Rattle.guarantee.proofs.BestEffortWritten.{written, written-keeps, written-here, written-stream, written-role}
 use Rattle.guarantee.proofs.Held.{Holds, inRole, role-kept, same-seen}
 use Rattle.guarantee.proofs.Next.{Next, unmoved, by-gate}
 use Rattle.guarantee.proofs.NextTick.{closed-not}
@@ -151,9 +152,6 @@ module _ (all : List Call) (n link : ℕ) (p m k : List ℕ) (v : View) (best : 
     abbrev waitingThere : Queue
     waitingThere = queueAt p bestEffort
 
-    abbrev cut : List ℕ
-    cut = withQueue p bestEffort (sentQueue waitingThere)
-
     oldest-there : Oldest all bestEffortFrame (frontOf m bestEffort waitingThere) (frontOf k bestEffort waitingThere) (waiting m bestEffort (sentQueue waitingThere))
         (waiting k bestEffort (sentQueue waitingThere)) best
     oldest-there = first-of bestEffortFrame bestEffort waitingThere best (h .waits) some
@@ -161,14 +159,6 @@ module _ (all : List Call) (n link : ℕ) (p m k : List ℕ) (v : View) (best : 
     -- the charge is the same in both memories
     same-charge : frontOf k bestEffort waitingThere .charge ≡ frontOf m bestEffort waitingThere .charge
     same-charge = ap (λ (g : Frame). g .charge) (oldest-there .shown) ∙ sym (ap (λ (g : Frame). g .charge) (oldest-there .real))
-
-    effort-role : (octets : ℕ) (l : List ℕ) (role : ℕ) → inRole (withWaits cut octets) l role ≡ inRole p l role
-    effort-role octets l role =
-        role-kept p (withWaits cut octets) l role (prior-waits cut octets ∙ prior-queue p bestEffort (sentQueue waitingThere))
-        (queue-waits cut octets (roleAt p role) ∙ other-queue p bestEffort (sentQueue waitingThere) (roleAt p role) (λ e. omega (arith, role-below p role)))
-
-    effort-here : (octets : ℕ) → queueAt (withWaits cut octets) bestEffort ≡ sentQueue waitingThere
-    effort-here octets = queue-waits cut octets bestEffort ∙ queue-queue p bestEffort (sentQueue waitingThere) whole (omega arith)
 
     effort-next : Next all n link p m k v transmitting (sentBestEffort p m waitingThere) (sentBestEffort p k waitingThere)
     effort-next =
@@ -179,18 +169,16 @@ module _ (all : List Call) (n link : ℕ) (p m k : List ℕ) (v : View) (best : 
           view = v;
           best = oldest-there .others;
           effect = idles prior-empty (λ g e. not-reserved f g (sym sends-it ∙ e)) (λ j. refl) (λ s. refl);
-          same = ap (λ (charge : ℕ). withWaits cut (waitsAt p - charge)) same-charge;
+          same = ap (λ (charge : ℕ). written p (sentQueue waitingThere) (waitsAt p - charge)) same-charge;
           long = refl;
           long-marked = refl;
           moved =
               record {
-                keeps = keeps-both p _ _ (keeps-queue p bestEffort (sentQueue waitingThere) (omega arith)) (keeps-waits cut octets);
-                streams =
-                    same-seen p (withWaits cut octets) v (h .streams)
-                    (λ i c. stream-waits cut octets i ∙ stream-queue p bestEffort (sentQueue waitingThere) i (omega arith));
-                queues = λ role b. rw (effort-role octets m role, effort-role octets k role) (h .queues role b);
+                keeps = written-keeps p (sentQueue waitingThere) octets;
+                streams = same-seen p (written p (sentQueue waitingThere) octets) v (h .streams) (λ i c. written-stream p (sentQueue waitingThere) octets i);
+                queues = λ role b. rw (written-role p (sentQueue waitingThere) octets m role, written-role p (sentQueue waitingThere) octets k role) (h .queues role b);
                 above = h .above;
-                waits = rw (effort-here octets) (oldest-there .rest);
+                waits = rw (written-here p (sentQueue waitingThere) octets whole) (oldest-there .rest);
               };
           says = λ z. (
             ap (λ (g : Frame). granted (g .stream) (g .tag)) (oldest-there .real) ∙ sym (ap (replyOfSent (λ g. g .tag)) sends-it),
