@@ -38,27 +38,27 @@ effort-below p charge =
     gate-below (not (openAt p)) 1 _ (omega arith) thirteen
 
 -- the queue of best effort and W after the step
-abbrev queueAfter : List ℕ → Queue
-queueAfter p = joinedQueue (queueAt p bestEffort)
+abbrev queueJoined : List ℕ → Queue
+queueJoined p = joinedQueue (queueAt p bestEffort)
 
 module _ (p : List ℕ) (a : ℕ) (m : List ℕ) (f : Frame) where
   abbrev memoryAfter : List ℕ
   memoryAfter = joinedMemory m bestEffort (queueAt p bestEffort) f
 
   abbrev recordAfter : List ℕ
-  recordAfter = written p (queueAfter p) (waitsAt p + a)
+  recordAfter = written p (queueJoined p) (waitsAt p + a)
 
   -- a role's frames stay, whatever frame joins best effort
   effort-role : (role : ℕ) → inRole recordAfter memoryAfter role ≡ inRole p m role
   effort-role role =
-      written-role p (queueAfter p) (waitsAt p + a) memoryAfter role
-      ∙ joins-elsewhere m bestEffort (roleAt p role) (queueAt p bestEffort) (queueAt p (roleAt p role)) f (role-not-effort p (queueAfter p) (waitsAt p + a) role)
+      written-role p (queueJoined p) (waitsAt p + a) memoryAfter role
+      ∙ joins-elsewhere m bestEffort (roleAt p role) (queueAt p bestEffort) (queueAt p (roleAt p role)) f (role-not-effort p (queueJoined p) (waitsAt p + a) role)
 
   -- and the frame is the last in best effort
   effort-joins : Whole p → memoryLength ≤ length m → queueAt p bestEffort .count < placeCount
       → waiting memoryAfter bestEffort (queueAt recordAfter bestEffort) ≡ waiting m bestEffort (queueAt p bestEffort) ++ (f ∷ [])
   effort-joins whole long room =
-      ap (waiting memoryAfter bestEffort) (written-here p (queueAfter p) (waitsAt p + a) whole) ∙ joins m bestEffort (queueAt p bestEffort) f room (omega arith)
+      ap (waiting memoryAfter bestEffort) (written-here p (queueJoined p) (waitsAt p + a) whole) ∙ joins m bestEffort (queueAt p bestEffort) f room (omega arith)
 
 module _ (all : List Call) (n link : ℕ) (p m k : List ℕ) (v : View) (best : List Marked) (h : Holds all link p m k v best) where
   effort-next : (a tag : ℕ) → getD all n ticking ≡ joiningBestEffort a tag → bestEffortRefusal p a ≡ 0
@@ -78,8 +78,8 @@ module _ (all : List Call) (n link : ℕ) (p m k : List ℕ) (v : View) (best : 
         long-marked = joins-length k bestEffort x (bestEffortFrame a n);
         moved =
             record {
-              keeps = written-keeps p (queueAfter p) (waitsAt p + a);
-              streams = same-seen p (written p (queueAfter p) (waitsAt p + a)) v (h .streams) (λ i b. written-stream p (queueAfter p) (waitsAt p + a) i);
+              keeps = written-keeps p (queueJoined p) (waitsAt p + a);
+              streams = same-seen p (written p (queueJoined p) (waitsAt p + a)) v (h .streams) (λ i b. written-stream p (queueJoined p) (waitsAt p + a) i);
               queues = λ role b. rw (effort-role p a m (bestEffortFrame a tag) role, effort-role p a k (bestEffortFrame a n) role) (h .queues role b);
               above = h .above;
               waits =

@@ -108,7 +108,7 @@ pub record SendsFrom (v w : View) (r : Reply) (t : Sent) (k : ℕ) (f : Marked) 
   pub queues : OneQueue v w k fs
   pub streams : SameStreams v w
 
--- call number n, its reply and what it sent, between two views of a port with so many places and that share
+-- call number n, its reply and what it sent, between two views of a port with this last place and share
 pub data Effect (last share n : ℕ) (v w : View) (r : Reply) (t : Sent) : Call → Type 0 where
   quiet : {c : Call} → Quiet c → t ≡ none → SameQueues v w → SameStreams v w → Effect last share n v w r t c
   refuses-reservation : {s permitted : ℕ} → (r .refusal ≡ 0 → ⊥) → t ≡ none → SameQueues v w → SameStreams v w
