@@ -9,6 +9,7 @@ use native.Mathlib.Omega.{arith}
 use borrow.Author.Tests.{eq-eqb, ne-eqb, lt-leb}
 use lib.ListN.{length}
 use lib.Dec.{eqb}
+use Rattle.lists.specs.Each.{All}
 use Rattle.lists.proofs.Order.{eq-or-not}
 use Rattle.stream.specs.declared.Reply.{Reply}
 use Rattle.stream.specs.declared.Stream.{Stream}
@@ -23,9 +24,9 @@ use Rattle.record.specs.Layout.{streamCount}
 use Rattle.ranges.specs.Ranges.{leastCharge, greatestCharge, chargeFits}
 use Rattle.ranges.proofs.RangeLaws.{within-bounds}
 use Rattle.port_laws.specs.Lists.{Call, opening, reserving, arriving, joiningBestEffort}
-use Rattle.guarantee.specs.Events.{Sent, Event, All}
+use Rattle.guarantee.specs.Events.{Sent, Event}
 use Rattle.guarantee.specs.Claims.{isTick, NoTick, PurgesNothing, offer, offers, OffersWithin, Prompt, ConformingPrompt}
-use Rattle.guarantee.proofs.ListLaws.{differ, all-rest}
+use Rattle.lists.proofs.EachLaws.{differ, all-rest}
 use Rattle.guarantee.proofs.Run.{View, ownRefusal, Quiet, Arrives, Reserves, RefusesArrival, Effect, quiet, refuses-reservation, reserves, refuses-arrival, arrives, ticks, sends, idles, Run}
 use Rattle.guarantee.proofs.Room.{Sound, stays-sound}
 use Rattle.guarantee.proofs.Purge.{tick-effect}

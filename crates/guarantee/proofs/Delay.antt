@@ -7,6 +7,7 @@ use mathlib.Core.List.{List, [], _∷_, _++_}
 use native.Mathlib.Omega.{arith}
 use borrow.Author.Tests.{eq-eqb, ne-eqb}
 use lib.ListN.{length}
+use Rattle.lists.specs.Each.{All, Some}
 use Rattle.lists.proofs.Order.{eq-or-not}
 use Rattle.stream.specs.declared.Reply.{Reply}
 use Rattle.stream.specs.declared.Arrival.{Arrival}
@@ -16,9 +17,9 @@ use Rattle.stream.specs.Steps.{arriveOf}
 use Rattle.stream.specs.Replies.{granted, replyOf}
 use Rattle.stream.proofs.FitLaws.{joins-onward, joins-within}
 use Rattle.port_laws.specs.Lists.{Call, arriving}
-use Rattle.guarantee.specs.Events.{Marked, Sent, reserved, Event, All, Some}
+use Rattle.guarantee.specs.Events.{Marked, Sent, reserved, Event}
 use Rattle.guarantee.specs.Claims.{isTick, Tick, PurgesNothing, ticks as ticksOf, Sends, SentBefore, AllSentBefore, SentByReply}
-use Rattle.guarantee.proofs.ListLaws.{differ, all-rest}
+use Rattle.lists.proofs.EachLaws.{differ, all-rest, some-before, some-last}
 use Rattle.guarantee.proofs.Run.{View, queueAfter, Ticks, Effect, quiet, refuses-reservation, reserves, refuses-arrival, arrives, ticks, sends, idles, Run}
 use Rattle.guarantee.proofs.Room.{Sound, stays-sound}
 use Rattle.guarantee.proofs.Purge.{tick-effect}
@@ -28,18 +29,10 @@ abbrev pub Waits : ℕ → Marked → View → Type 0
 Waits k f v = Some (λ g. g ≡ f) (v .queue k)
 
 -- a frame that joins leaves those that wait
-waits-snoc : (f g : Marked) (fs : List Marked) → Some (λ h. h ≡ f) fs → Some (λ h. h ≡ f) (fs ++ (g ∷ []))
-waits-snoc f g (h ∷ fs) (inl e) = inl e
-waits-snoc f g (h ∷ fs) (inr s) = inr (waits-snoc f g fs s)
-
-joins-waits : (f : Marked) (fs : List Marked) → Some (λ h. h ≡ f) (fs ++ (f ∷ []))
-joins-waits f [] = inl refl
-joins-waits f (h ∷ fs) = inr (joins-waits f fs)
-
 waits-after : (k : ℕ) (f g : Marked) (r : Arrival) (fs : List Marked) → Some (λ h. h ≡ f) fs → Some (λ h. h ≡ f) (queueAfter k g r fs)
 waits-after k f g (Joined place x) fs h =
     ⊎-elim
-    (λ (e : place ≡ k). rw (eq-eqb place k e) (waits-snoc f g fs h))
+    (λ (e : place ≡ k). rw (eq-eqb place k e) (some-before (λ x. x ≡ f) fs g h))
     (λ (o : place ≡ k → ⊥). rw (ne-eqb place k o) h)
     (eq-or-not place k)
 waits-after k f g (Discarded x) fs h = h
@@ -155,7 +148,7 @@ module _ (last share n : ℕ) (v w : View) (r : Reply) (t : Sent) (s charge tag 
       (record {
         from-current = omega (arith, joins-onward last (v .stream s) charge place x e, h .fit s .first-place);
         to-last = joins-within last (v .stream s) charge place x (h .fit s) e;
-        waits = rw (queues place, eq-eqb place place refl) (joins-waits frame (v .queue place));
+        waits = rw (queues place, eq-eqb place place refl) (some-last (λ x. x ≡ frame) (v .queue place) frame refl);
       })
   joined-accepted h (Discarded x) e reply queues no-refusal = absurd (omega (arith, ap (λ (y : Reply). y .refusal) reply))
 

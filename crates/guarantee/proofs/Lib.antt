@@ -1,6 +1,6 @@
 -- Demand 3, proved.
-pub mod ListLaws
 pub mod Run
+pub mod CallLaws
 pub mod Room
 pub mod Purge
 pub mod Delay

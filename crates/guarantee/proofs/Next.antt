@@ -38,16 +38,17 @@ pub record Moved (all : List Call) (p q m k : List ℕ) (w : View) (best : List 
 abbrev pub Says : Reply → Reply → Sent → Type 0
 Says reply shown sent = (reply ≡ replyOfSent (λ f. f .tag) sent) × (shown ≡ replyOfSent (λ f. f .number) sent)
 
--- what call number n leaves: o its outcome, u that of the marked call
-pub record Next (all : List Call) (n link : ℕ) (p m k : List ℕ) (v : View) (c : Call) (o u : Outcome) : Type 0 where
+-- what call number n leaves: o its outcome, u that of the marked call; `earlier` are the calls before it, `all` those by which frames are known
+-- afterwards
+pub record Next (earlier all : List Call) (n link : ℕ) (p m k : List ℕ) (v : View) (c : Call) (o u : Outcome) : Type 0 where
   pub view : View
   pub best : List Marked
-  pub effect : Effect lastPlace (shareOf link) n v view (o .reply) (sentBy all c (u .reply)) c
+  pub effect : Effect lastPlace (shareOf link) n v view (o .reply) (sentBy earlier c (u .reply)) c
   pub same : u .port ≡ o .port
   pub long : length (o .memory) ≡ length m
   pub long-marked : length (u .memory) ≡ length k
   pub moved : Moved all p (o .port) (o .memory) (u .memory) view best
-  pub says : c ≡ transmitting → Says (o .reply) (u .reply) (sentBy all c (u .reply))
+  pub says : c ≡ transmitting → Says (o .reply) (u .reply) (sentBy earlier c (u .reply))
   pub marks : (c ≡ transmitting → ⊥) → u .reply ≡ o .reply
   pub not-lent : o .reply .refusal < 18
 
@@ -66,7 +67,7 @@ module _ (all : List Call) (n link : ℕ) (p m k : List ℕ) (v : View) (best : 
   unmoved = record { keeps = keeps-same p; streams = h .streams; queues = h .queues; above = h .above; waits = h .waits }
 
   pub next-refused : (g : ℕ) (c : Call) → g < 18 → (c ≡ transmitting → ⊥) → Effect lastPlace (shareOf link) n v v (refusedBy g) (sentBy all c (refusedBy g)) c
-      → Next all n link p m k v c (refused g p m) (refused g p k)
+      → Next all all n link p m k v c (refused g p m) (refused g p k)
   next-refused g c below other effect =
       record {
         view = v;
@@ -83,9 +84,9 @@ module _ (all : List Call) (n link : ℕ) (p m k : List ℕ) (v : View) (best : 
 
   -- by a call's own refusals, since the port is fit in both memories
   pub by-gate : (g : ℕ) (c : Call) (o u : Outcome)
-      → ((g ≡ 0 → ⊥) → Next all n link p m k v c (refused g p m) (refused g p k))
-      → (g ≡ 0 → Next all n link p m k v c o u)
-      → Next all n link p m k v c (gated (lentRefusal p m) p m (gated g p m o)) (gated (lentRefusal p k) p k (gated g p k u))
+      → ((g ≡ 0 → ⊥) → Next all all n link p m k v c (refused g p m) (refused g p k))
+      → (g ≡ 0 → Next all all n link p m k v c o u)
+      → Next all all n link p m k v c (gated (lentRefusal p m) p m (gated g p m o)) (gated (lentRefusal p k) p k (gated g p k u))
   by-gate g c o u no-pass pass =
       rw (grants (lentRefusal p m) p m (gated g p m o) (fit-lent p m (h .long) (h .fit)), grants (lentRefusal p k) p k (gated g p k u) (fit-lent p k (h .long-marked) (h .fit-marked)))
       (⊎-elim

@@ -41,7 +41,7 @@ use Rattle.guarantee.specs.Events.{Marked, reserved, none, broughtBy, ma
 use Rattle.guarantee.proofs.Run.{View, octets, ownRefusal, queueAfter, Effect, arrives, refuses-arrival}
 use Rattle.guarantee.proofs.Room.{Sound, octets-most, charged-length, stays-sound}
 use Rattle.guarantee.proofs.Tied.{Tied, plain, numbered, tied-joins, tied-length}
-use Rattle.guarantee.proofs.Purge.{no-transmit}
+use Rattle.guarantee.proofs.CallLaws.{no-transmit}
 use Rattle.guarantee.proofs.Held.{Holds, inRole, seen-below, seen-as-is, own-refusal, role-kept, changed, changed-here, changed-else, changed-seen}
 use Rattle.guarantee.proofs.Next.{Moved, Next, gate-below, next-refused, by-gate}
 
@@ -101,7 +101,7 @@ after-else : (f : Marked) (j place : ℕ) (x : Stream) (fs : List Marked) → (j
 after-else f j place x fs o = rw (ne-eqb place j (λ e. o (sym e)))
 
 module _ (all : List Call) (n link : ℕ) (p m k : List ℕ) (v : View) (best : List Marked) (h : Holds all link p m k v best) (sound : Sound lastPlace (shareOf link) v)
-    (s a tag : ℕ) (here : getD all n ticking ≡ arriving s a tag) (free-of : arriveRefusal p s a ≡ 0) where
+    (s a tag : ℕ) (counted : n < length all) (here : getD all n ticking ≡ arriving s a tag) (free-of : arriveRefusal p s a ≡ 0) where
   abbrev frame : Marked
   frame = record { stream = s; charge = a; tag = tag; number = n }
 
@@ -201,7 +201,7 @@ module _ (all : List Call) (n link : ℕ) (p m k : List ℕ) (v : View) (best : 
         ⊎-elim
         (λ (same : role ≡ place).
         rw (same, here-joins m (plain frame) (h .long), here-joins k (numbered frame) (h .long-marked), after-here frame place next (v .queue place))
-        (tied-joins all reserved (inRole p m place) (inRole p k place) (v .queue place) frame (h .queues place within-roles) (ap (broughtBy n) here)))
+        (tied-joins all reserved (inRole p m place) (inRole p k place) (v .queue place) frame (h .queues place within-roles) (counted, ap (broughtBy n) here)))
         (λ (o : role ≡ place → ⊥).
         rw (else-kept m (plain frame) role b o, else-kept k (numbered frame) role b o, after-else frame role place next (v .queue role) o) (h .queues role b))
         (eq-or-not role place)
@@ -228,7 +228,7 @@ module _ (all : List Call) (n link : ℕ) (p m k : List ℕ) (v : View) (best : 
           waits = rw (effort-kept m (plain frame), effort-kept k (numbered frame)) (h .waits);
         }
 
-    joined-next : Next all n link p m k v (arriving s a tag) (arriveStep p m s a tag) (arriveStep p k s a n)
+    joined-next : Next all all n link p m k v (arriving s a tag) (arriveStep p m s a tag) (arriveStep p k s a n)
     joined-next =
         rw (step-joins p m s a tag place next e room, step-joins p k s a n place next e room)
         (record {
@@ -254,7 +254,7 @@ module _ (all : List Call) (n link : ℕ) (p m k : List ℕ) (v : View) (best : 
         role-kept p (moved p s spent) l role (prior-place p s (spent .place) (spent .left))
         (queue-place p s (spent .place) (spent .left) (roleAt p role) (omega (arith, role-below p role)))
 
-    discarded-next : Next all n link p m k v (arriving s a tag) (arriveStep p m s a tag) (arriveStep p k s a n)
+    discarded-next : Next all all n link p m k v (arriving s a tag) (arriveStep p m s a tag) (arriveStep p k s a n)
     discarded-next =
         rw (step-discards p m s a tag spent e, step-discards p k s a n spent e)
         (record {
@@ -281,21 +281,21 @@ module _ (all : List Call) (n link : ℕ) (p m k : List ℕ) (v : View) (best : 
         })
 
   -- by what the stream's rule says
-  arrive-next : Next all n link p m k v (arriving s a tag) (arriveStep p m s a tag) (arriveStep p k s a n)
+  arrive-next : Next all all n link p m k v (arriving s a tag) (arriveStep p m s a tag) (arriveStep p k s a n)
   arrive-next = told (arriveOf lastPlace held a) refl
     where
-      told : (z : Arrival) → arriveOf lastPlace held a ≡ z → Next all n link p m k v (arriving s a tag) (arriveStep p m s a tag) (arriveStep p k s a n)
+      told : (z : Arrival) → arriveOf lastPlace held a ≡ z → Next all all n link p m k v (arriving s a tag) (arriveStep p m s a tag) (arriveStep p k s a n)
       told (Joined place next) e = joined-next place next e
       told (Discarded spent) e = discarded-next spent e
 
 module _ (all : List Call) (n link : ℕ) (p m k : List ℕ) (v : View) (best : List Marked) (h : Holds all link p m k v best) (sound : Sound lastPlace (shareOf link) v) where
-  pub next-arrive : (s a tag : ℕ) → getD all n ticking ≡ arriving s a tag
-      → Next all n link p m k v (arriving s a tag) (called (arriving s a tag) p m) (called (marked n (arriving s a tag)) p k)
-  next-arrive s a tag here =
+  pub next-arrive : (s a tag : ℕ) → n < length all → getD all n ticking ≡ arriving s a tag
+      → Next all all n link p m k v (arriving s a tag) (called (arriving s a tag) p m) (called (marked n (arriving s a tag)) p k)
+  next-arrive s a tag counted here =
       let own : arriveRefusal p s a ≡ ownRefusal s (v .stream s) a = own-refusal p s a (h .opened) ∙ ap (λ (x : Stream). ownRefusal s x a) (sym (h .streams s)) in
       by-gate all n link p m k v best h (arriveRefusal p s a) (arriving s a tag) (arriveStep p m s a tag) (arriveStep p k s a n)
       (λ z.
       next-refused all n link p m k v best h (arriveRefusal p s a) (arriving s a tag) (arrive-below p s a)
       (no-transmit (arriving s a tag) tt)
       (refuses-arrival refl (record { refused = λ e. z (own ∙ e); reply = ap refusedBy own; queues = λ j. refl; streams = λ j. refl })))
-      (arrive-next all n link p m k v best h sound s a tag here)
+      (arrive-next all n link p m k v best h sound s a tag counted here)

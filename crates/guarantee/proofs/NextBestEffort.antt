@@ -24,7 +24,7 @@ use Rattle.port_laws.specs.Lists.{Call, ticking, joiningBestEffort, called}
 use Rattle.guarantee.specs.Events.{Marked, bestEffort as sentBestEffort, broughtBy, marked}
 use Rattle.guarantee.proofs.Run.{View, quiet}
 use Rattle.guarantee.proofs.Tied.{tied-joins}
-use Rattle.guarantee.proofs.Purge.{no-transmit}
+use Rattle.guarantee.proofs.CallLaws.{no-transmit}
 use Rattle.guarantee.proofs.BestEffortWritten.{written, written-keeps, written-here, written-stream, role-not-effort, written-role}
 use Rattle.guarantee.proofs.Held.{Holds, inRole, same-seen}
 use Rattle.guarantee.proofs.Next.{Next, gate-below, next-refused, by-gate}
@@ -61,10 +61,10 @@ module _ (p : List ℕ) (a : ℕ) (m : List ℕ) (f : Frame) where
       ap (waiting memoryAfter bestEffort) (written-here p (queueJoined p) (waitsAt p + a) whole) ∙ joins m bestEffort (queueAt p bestEffort) f room (omega arith)
 
 module _ (all : List Call) (n link : ℕ) (p m k : List ℕ) (v : View) (best : List Marked) (h : Holds all link p m k v best) where
-  effort-next : (a tag : ℕ) → getD all n ticking ≡ joiningBestEffort a tag → bestEffortRefusal p a ≡ 0
-      → Next all n link p m k v (joiningBestEffort a tag) (bestEffortStep p m a tag) (bestEffortStep p k a n)
+  effort-next : (a tag : ℕ) → n < length all → getD all n ticking ≡ joiningBestEffort a tag → bestEffortRefusal p a ≡ 0
+      → Next all all n link p m k v (joiningBestEffort a tag) (bestEffortStep p m a tag) (bestEffortStep p k a n)
   unfolding bestEffortStep
-  effort-next a tag here e =
+  effort-next a tag counted here e =
       let d = best-effort-allowed p a e in
       let x = queueAt p bestEffort in
       let f : Marked = record { stream = bestEffortStream; charge = a; tag = tag; number = n } in
@@ -84,19 +84,19 @@ module _ (all : List Call) (n link : ℕ) (p m k : List ℕ) (v : View) (best : 
               above = h .above;
               waits =
                   rw (effort-joins p a m (bestEffortFrame a tag) whole (h .long) (d .free), effort-joins p a k (bestEffortFrame a n) whole (h .long-marked) (d .free))
-                  (tied-joins all sentBestEffort (waiting m bestEffort x) (waiting k bestEffort x) best f (h .waits) (ap (broughtBy n) here));
+                  (tied-joins all sentBestEffort (waiting m bestEffort x) (waiting k bestEffort x) best f (h .waits) (counted, ap (broughtBy n) here));
             };
         says = λ z. absurd (no-transmit (joiningBestEffort a tag) tt z);
         marks = λ z. refl;
         not-lent = omega arith;
       }
 
-  pub next-best-effort : (a tag : ℕ) → getD all n ticking ≡ joiningBestEffort a tag
-      → Next all n link p m k v (joiningBestEffort a tag) (called (joiningBestEffort a tag) p m) (called (marked n (joiningBestEffort a tag)) p k)
-  next-best-effort a tag here =
+  pub next-best-effort : (a tag : ℕ) → n < length all → getD all n ticking ≡ joiningBestEffort a tag
+      → Next all all n link p m k v (joiningBestEffort a tag) (called (joiningBestEffort a tag) p m) (called (marked n (joiningBestEffort a tag)) p k)
+  next-best-effort a tag counted here =
       by-gate all n link p m k v best h (bestEffortRefusal p a) (joiningBestEffort a tag) (bestEffortStep p m a tag) (bestEffortStep p k a n)
       (λ z.
       next-refused all n link p m k v best h (bestEffortRefusal p a) (joiningBestEffort a tag) (effort-below p a)
       (no-transmit (joiningBestEffort a tag) tt)
       (quiet tt refl (λ j. refl) (λ j. refl)))
-      (effort-next a tag here)
+      (effort-next a tag counted here)

@@ -22,7 +22,7 @@ use Rattle.gates.proofs.GateLaws.{reserve-allowed}
 use Rattle.port_laws.specs.Lists.{Call, opening, reserving, called}
 use Rattle.guarantee.specs.Events.{Marked, marked}
 use Rattle.guarantee.proofs.Run.{View, free, quiet, refuses-reservation, reserves}
-use Rattle.guarantee.proofs.Purge.{no-transmit}
+use Rattle.guarantee.proofs.CallLaws.{no-transmit}
 use Rattle.guarantee.proofs.Held.{Holds, seen-below, seen-free, seen-sum, role-kept, changed, changed-here, changed-else, changed-seen}
 use Rattle.guarantee.proofs.Next.{Next, gate-below, next-refused, by-gate}
 
@@ -43,7 +43,7 @@ open-taken p link delay opened = rw opened
 module _ (all : List Call) (n link : ℕ) (p m k : List ℕ) (v : View) (best : List Marked) (h : Holds all link p m k v best) where
   -- Reserve, granted
   reserve-next : (s permitted : ℕ) → reserveRefusal p s permitted ≡ 0
-      → Next all n link p m k v (reserving s permitted) (reserveStep p m s permitted) (reserveStep p k s permitted)
+      → Next all all n link p m k v (reserving s permitted) (reserveStep p m s permitted) (reserveStep p k s permitted)
   reserve-next s permitted e =
       let a = reserve-allowed p s permitted e in
       let q = withStream p s (reserveOf permitted) in
@@ -83,7 +83,7 @@ module _ (all : List Call) (n link : ℕ) (p m k : List ℕ) (v : View) (best : 
         not-lent = omega arith;
       }
 
-  pub next-reserve : (s permitted : ℕ) → Next all n link p m k v (reserving s permitted) (called (reserving s permitted) p m) (called (marked n (reserving s permitted)) p k)
+  pub next-reserve : (s permitted : ℕ) → Next all all n link p m k v (reserving s permitted) (called (reserving s permitted) p m) (called (marked n (reserving s permitted)) p k)
   next-reserve s permitted =
       by-gate all n link p m k v best h (reserveRefusal p s permitted) (reserving s permitted) (reserveStep p m s permitted) (reserveStep p k s permitted)
       (λ z.
@@ -93,7 +93,7 @@ module _ (all : List Call) (n link : ℕ) (p m k : List ℕ) (v : View) (best : 
       (reserve-next s permitted)
 
   -- Open, refused
-  pub next-open : (l d : ℕ) → Next all n link p m k v (opening l d) (called (opening l d) p m) (called (marked n (opening l d)) p k)
+  pub next-open : (l d : ℕ) → Next all all n link p m k v (opening l d) (called (opening l d) p m) (called (marked n (opening l d)) p k)
   next-open l d =
       let two = open-taken p l d (h .opened) in
       by-gate all n link p m k v best h (openRefusal p l d) (opening l d) (openStep p m l d) (openStep p k l d)

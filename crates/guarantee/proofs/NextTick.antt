@@ -33,7 +33,7 @@ use Rattle.port_laws.specs.Lists.{Call, ticking, called}
 use Rattle.guarantee.specs.Events.{Marked, reserved, marked}
 use Rattle.guarantee.proofs.Run.{View, free, octets, ticks}
 use Rattle.guarantee.proofs.Tied.{Tied, tied-empty, tied-length, tied-octets, tied-octets-shown}
-use Rattle.guarantee.proofs.Purge.{no-transmit}
+use Rattle.guarantee.proofs.CallLaws.{no-transmit}
 use Rattle.guarantee.proofs.Held.{Holds, inRole, seen, seenAt, seen-below, seen-above, seen-as-is, seen-free}
 use Rattle.guarantee.proofs.Next.{Next, keeps-same, by-gate}
 
@@ -226,7 +226,7 @@ module _ (all : List Call) (n link : ℕ) (p m k : List ℕ) (v : View) (best : 
       (tied-octets-shown all reserved (inRole p m priorRole) (inRole p k priorRole) (v .queue 0) prior
       ∙ sym (tied-octets all reserved (inRole p m priorRole) (inRole p k priorRole) (v .queue 0) prior))
 
-  tick-next : Next all n link p m k v ticking (tickStep p m) (tickStep p k)
+  tick-next : Next all all n link p m k v ticking (tickStep p m) (tickStep p k)
   unfolding tickStep
   tick-next =
       record {
@@ -249,6 +249,6 @@ module _ (all : List Call) (n link : ℕ) (p m k : List ℕ) (v : View) (best : 
         not-lent = omega arith;
       }
 
-  pub next-tick : Next all n link p m k v ticking (called ticking p m) (called (marked n ticking) p k)
+  pub next-tick : Next all all n link p m k v ticking (called ticking p m) (called (marked n ticking) p k)
   next-tick =
       by-gate all n link p m k v best h (closedRefusal p) ticking (tickStep p m) (tickStep p k) (λ z. absurd (z (closed-not p (h .opened)))) (λ z. tick-next)

@@ -29,7 +29,7 @@ use Rattle.gates.specs.Refusals.{closedRefusal}
 use Rattle.port_laws.specs.Lists.{Call, ticking, transmitting, called}
 use Rattle.guarantee.specs.Events.{Marked, Sent, reserved, bestEffort as bestEffortFrame, none, broughtBy, marked}
 use Rattle.guarantee.specs.Claims.{replyOfSent}
-use Rattle.guarantee.proofs.ListLaws.{none-long}
+use Rattle.lists.proofs.EachLaws.{none-long}
 use Rattle.guarantee.proofs.Run.{View, sends as sends-frame, idles}
 use Rattle.guarantee.proofs.Tied.{Tied, Oldest, oldest, tied-length}
 use Rattle.guarantee.proofs.BestEffortWritten.{written, written-keeps, written-here, written-stream, written-role}
@@ -67,7 +67,7 @@ module _ (all : List Call) (n link : ℕ) (p m k : List ℕ) (v : View) (best : 
   names : (kind : Marked → Sent) (number : ℕ) (x : Queue) (fs : List Marked)
       (o : Oldest all kind (frontOf m number x) (frontOf k number x) (waiting m number (sentQueue x)) (waiting k number (sentQueue x)) fs)
       → broughtBy (frontOf k number x .tag) (getD all (frontOf k number x .tag) ticking) ≡ kind (o .first)
-  names kind number x fs o = ap (λ (g : Frame). broughtBy (g .tag) (getD all (g .tag) ticking)) (o .shown) ∙ o .known
+  names kind number x fs o = ap (λ (g : Frame). broughtBy (g .tag) (getD all (g .tag) ticking)) (o .shown) ∙ o .known .1
 
   -- a reserved frame is sent from a role
   module _ (role : ℕ) (b : role < queueCount) (some : queueAt p (roleAt p role) .count ≡ 0 → ⊥) (earlier : (j : ℕ) → j < role → v .queue j ≡ []) where
@@ -109,7 +109,7 @@ module _ (all : List Call) (n link : ℕ) (p m k : List ℕ) (v : View) (best : 
         (λ (o : j ≡ role → ⊥). rw (after-else m j c o, after-else k j c o, sent-else j o) (h .queues j c))
         (eq-or-not j role)
 
-    sent-next : Next all n link p m k v transmitting (sent p m number there) (sent p k number there)
+    sent-next : Next all all n link p m k v transmitting (sent p m number there) (sent p k number there)
     sent-next =
         let f = front .first in
         let sends-it = names reserved number there (v .queue role) front in
@@ -160,7 +160,7 @@ module _ (all : List Call) (n link : ℕ) (p m k : List ℕ) (v : View) (best : 
     same-charge : frontOf k bestEffort waitingThere .charge ≡ frontOf m bestEffort waitingThere .charge
     same-charge = ap (λ (g : Frame). g .charge) (oldest-there .shown) ∙ sym (ap (λ (g : Frame). g .charge) (oldest-there .real))
 
-    effort-next : Next all n link p m k v transmitting (sentBestEffort p m waitingThere) (sentBestEffort p k waitingThere)
+    effort-next : Next all all n link p m k v transmitting (sentBestEffort p m waitingThere) (sentBestEffort p k waitingThere)
     effort-next =
         let f = oldest-there .first in
         let octets = waitsAt p - frontOf m bestEffort waitingThere .charge in
@@ -190,7 +190,7 @@ module _ (all : List Call) (n link : ℕ) (p m k : List ℕ) (v : View) (best : 
 
   module _ (first : broughtBy 0 (getD all 0 ticking) ≡ none) where
     -- nothing is sent
-    nothing-next : v .queue 0 ≡ [] → Next all n link p m k v transmitting (outcome (granted nothing 0) p m) (outcome (granted nothing 0) p k)
+    nothing-next : v .queue 0 ≡ [] → Next all all n link p m k v transmitting (outcome (granted nothing 0) p m) (outcome (granted nothing 0) p k)
     nothing-next prior-empty =
         record {
           view = v;
@@ -206,7 +206,7 @@ module _ (all : List Call) (n link : ℕ) (p m k : List ℕ) (v : View) (best : 
         }
 
     -- by which queue has a frame
-    transmit-next : Next all n link p m k v transmitting (transmitStep p m) (transmitStep p k)
+    transmit-next : Next all all n link p m k v transmitting (transmitStep p m) (transmitStep p k)
     unfolding transmitStep
     transmit-next =
         let prior = roleAt p priorRole in
@@ -232,7 +232,7 @@ module _ (all : List Call) (n link : ℕ) (p m k : List ℕ) (v : View) (best : 
         rw (sends-prior p m prior current a b c i, sends-prior p k prior current a b c i) (sent-next priorRole (omega arith) i (λ role z. absurd (omega arith))))
         (eq-or-not (a .count) 0)
 
-    pub next-transmit : Next all n link p m k v transmitting (called transmitting p m) (called (marked n transmitting) p k)
+    pub next-transmit : Next all all n link p m k v transmitting (called transmitting p m) (called (marked n transmitting) p k)
     next-transmit =
         by-gate all n link p m k v best h (closedRefusal p) transmitting (transmitStep p m) (transmitStep p k) (λ z. absurd (z (closed-not p (h .opened))))
         (λ z. transmit-next)

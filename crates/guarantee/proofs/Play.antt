@@ -1,55 +1,148 @@
 -- A list of calls, from a port that holds a view on, is a run of the views. Assumes nothing.
-use Prim.Native.Nat.{ℕ, suc, _+_, _<_}
+use Prim.Native.Nat.{ℕ, suc, _<_}
 use mathlib.Core.Bool.{true}
-use mathlib.Core.Path.{_≡_, sym, ap, subst, _∙_}
-use mathlib.Core.List.{List, [], _∷_}
+use mathlib.Core.Path.{_≡_, refl, sym, ap, ap₂, subst, _∙_}
+use mathlib.Core.List.{List, [], _∷_, _++_}
 use native.Mathlib.Omega.{arith}
-use lib.ListN.{getD}
+use lib.ListN.{length, getD, length-append}
+use Rattle.lists.specs.Each.{All}
+use Rattle.lists.proofs.EachLaws.{getD-before, getD-last}
 use Rattle.stream.specs.State.{lastPlace}
 use Rattle.ranges.specs.Ranges.{shareOf}
 use Rattle.fitness.specs.Fit.{recordFits}
-use Rattle.port_laws.specs.Lists.{Call, opening, reserving, arriving, ticking, transmitting, joiningBestEffort, called}
+use Rattle.steps.specs.Outcome.{Outcome}
+use Rattle.port_laws.specs.Lists.{Call, opening, reserving, arriving, ticking, transmitting, joiningBestEffort, called, quicklyCalled}
+use Rattle.port_laws.proofs.QuickLaws.{quick-call}
 use Rattle.port_laws.proofs.StayLaws.{stays-fit}
-use Rattle.guarantee.specs.Events.{Marked, none, broughtBy, marked, Event, happened, All}
+use Rattle.guarantee.specs.Events.{Marked, Sent, reserved, bestEffort as sentBestEffort, none, broughtBy, marked, sentBy, Event, happened}
 use Rattle.guarantee.specs.Claims.{SaysWhatItSends, AlikeMarked, NotByHost}
-use Rattle.guarantee.proofs.Run.{View, Run}
+use Rattle.guarantee.proofs.Run.{View, Effect, Run}
+use Rattle.guarantee.proofs.CallLaws.{NoTransmit, no-transmit, sends-none}
 use Rattle.guarantee.proofs.Room.{Sound, stays-sound}
-use Rattle.guarantee.proofs.Held.{Holds}
-use Rattle.guarantee.proofs.Next.{Next}
+use Rattle.guarantee.proofs.Tied.{tied-later}
+use Rattle.guarantee.proofs.Held.{Holds, inRole}
+use Rattle.guarantee.proofs.Next.{Moved, Next}
 use Rattle.guarantee.proofs.NextReserve.{next-reserve, next-open}
 use Rattle.guarantee.proofs.NextBestEffort.{next-best-effort}
 use Rattle.guarantee.proofs.NextArrive.{next-arrive}
 use Rattle.guarantee.proofs.NextTick.{next-tick}
 use Rattle.guarantee.proofs.NextTransmit.{next-transmit}
 
--- any call
-next-call : (all : List Call) (n link : ℕ) (p m k : List ℕ) (v : View) (best : List Marked) → Holds all link p m k v best → Sound lastPlace (shareOf link) v
-    → broughtBy 0 (getD all 0 ticking) ≡ none → (c : Call) → getD all n ticking ≡ c → Next all n link p m k v c (called c p m) (called (marked n c) p k)
-next-call all n link p m k v best h sound first (opening l d) here = next-open all n link p m k v best h l d
-next-call all n link p m k v best h sound first (reserving s permitted) here = next-reserve all n link p m k v best h s permitted
-next-call all n link p m k v best h sound first (arriving s charge tag) here = next-arrive all n link p m k v best h sound s charge tag here
-next-call all n link p m k v best h sound first ticking here = next-tick all n link p m k v best h
-next-call all n link p m k v best h sound first transmitting here = next-transmit all n link p m k v best h first
-next-call all n link p m k v best h sound first (joiningBestEffort charge tag) here = next-best-effort all n link p m k v best h charge tag here
+-- what holds of a port holds after one more call, of which nothing is known yet
+module _ (earlier : List Call) (c : Call) where
+  abbrev withCall : List Call
+  withCall = earlier ++ (c ∷ [])
 
--- the port holds the view after a call
-holds-next : (all : List Call) (n link : ℕ) (p m k : List ℕ) (v : View) (best : List Marked) (c : Call) → Holds all link p m k v best
-    → (next : Next all n link p m k v c (called c p m) (called (marked n c) p k))
-    → Holds all link (called c p m .port) (called c p m .memory) (called (marked n c) p k .memory) (next .view) (next .best)
-holds-next all n link p m k v best c h next =
-    let moved = next .moved in
-    record {
-      fit = stays-fit c p m (h .fit);
-      fit-marked = subst (λ (l : List ℕ). recordFits l (called (marked n c) p k .memory) ≡ true) (next .same) (stays-fit (marked n c) p k (h .fit-marked));
-      long = omega (arith, next .long, h .long);
-      long-marked = omega (arith, next .long-marked, h .long-marked);
-      opened = moved .keeps .opened ∙ h .opened;
-      octets = moved .keeps .link ∙ h .octets;
-      streams = moved .streams;
-      queues = moved .queues;
-      above = moved .above;
-      waits = moved .waits;
-    }
+  holds-later : (link : ℕ) (p m k : List ℕ) (v : View) (best : List Marked) → Holds earlier link p m k v best → Holds withCall link p m k v best
+  holds-later link p m k v best h =
+      record {
+        fit = h .fit;
+        fit-marked = h .fit-marked;
+        long = h .long;
+        long-marked = h .long-marked;
+        opened = h .opened;
+        octets = h .octets;
+        streams = h .streams;
+        queues = λ role b. tied-later earlier reserved c (inRole p m role) (inRole p k role) (v .queue role) (h .queues role b);
+        above = h .above;
+        waits = tied-later earlier sentBestEffort c _ _ best (h .waits);
+      }
+
+  moved-later : (p q m k : List ℕ) (w : View) (best : List Marked) → Moved earlier p q m k w best → Moved withCall p q m k w best
+  moved-later p q m k w best h =
+      record {
+        keeps = h .keeps;
+        streams = h .streams;
+        queues = λ role b. tied-later earlier reserved c (inRole q m role) (inRole q k role) (w .queue role) (h .queues role b);
+        above = h .above;
+        waits = tied-later earlier sentBestEffort c _ _ best (h .waits);
+      }
+
+  -- its place in the list
+  counted : length earlier < length withCall
+  counted = omega (arith, length-append earlier (c ∷ []))
+
+module _ (earlier : List Call) (link : ℕ) (p m k : List ℕ) (v : View) where
+  -- what a call leaves, by the calls up to it
+  abbrev pub After : Call → Type 0
+  After c = Next earlier (withCall earlier c) (length earlier) link p m k v c (called c p m) (called (marked (length earlier) c) p k)
+
+  -- a call that sends nothing sends nothing by whichever calls
+  no-sender : (c : Call) (all : List Call) (o u : Outcome) → NoTransmit c → Next all all (length earlier) link p m k v c o u → Next earlier all (length earlier) link p m k v c o u
+  no-sender c all o u h x =
+      record {
+        view = x .view;
+        best = x .best;
+        effect =
+        subst (λ (t : Sent). Effect lastPlace (shareOf link) (length earlier) v (x .view) (o .reply) t c)
+        (sends-none all c (u .reply) h ∙ sym (sends-none earlier c (u .reply) h))
+        (x .effect);
+        same = x .same;
+        long = x .long;
+        long-marked = x .long-marked;
+        moved = x .moved;
+        says = λ e. absurd (no-transmit c h e);
+        marks = x .marks;
+        not-lent = x .not-lent;
+      }
+
+  -- a transmit sends by the calls before it, and brings no frame
+  sender : (c : Call) (o u : Outcome) → Next earlier earlier (length earlier) link p m k v c o u → Next earlier (withCall earlier c) (length earlier) link p m k v c o u
+  sender c o u x =
+      record {
+        view = x .view;
+        best = x .best;
+        effect = x .effect;
+        same = x .same;
+        long = x .long;
+        long-marked = x .long-marked;
+        moved = moved-later earlier c p (o .port) (o .memory) (u .memory) (x .view) (x .best) (x .moved);
+        says = x .says;
+        marks = x .marks;
+        not-lent = x .not-lent;
+      }
+
+  -- any call
+  module _ (best : List Marked) (h : Holds earlier link p m k v best) (sound : Sound lastPlace (shareOf link) v) (first : broughtBy 0 (getD earlier 0 ticking) ≡ none) where
+    abbrev held : (c : Call) → Holds (withCall earlier c) link p m k v best
+    held c = holds-later earlier c link p m k v best h
+
+    next-call : (c : Call) → After c
+    next-call (opening l d) =
+        no-sender (opening l d) _ _ _ tt (next-open (withCall earlier (opening l d)) (length earlier) link p m k v best (held (opening l d)) l d)
+    next-call (reserving s permitted) =
+        no-sender (reserving s permitted) _ _ _ tt
+        (next-reserve (withCall earlier (reserving s permitted)) (length earlier) link p m k v best (held (reserving s permitted)) s permitted)
+    next-call (arriving s charge tag) =
+        let c = arriving s charge tag in
+        no-sender (arriving s charge tag) _ _ _ tt
+        (next-arrive (withCall earlier c) (length earlier) link p m k v best (held c) sound s charge tag (counted earlier c) (getD-last earlier c ticking))
+    next-call ticking = no-sender ticking _ _ _ tt (next-tick (withCall earlier ticking) (length earlier) link p m k v best (held ticking))
+    next-call transmitting = sender transmitting _ _ (next-transmit earlier (length earlier) link p m k v best h first)
+    next-call (joiningBestEffort charge tag) =
+        let c = joiningBestEffort charge tag in
+        no-sender (joiningBestEffort charge tag) _ _ _ tt
+        (next-best-effort (withCall earlier c) (length earlier) link p m k v best (held c) charge tag (counted earlier c) (getD-last earlier c ticking))
+
+  -- the port holds the view after a call
+  holds-next : (best : List Marked) (c : Call) → Holds earlier link p m k v best → (next : After c)
+      → Holds (withCall earlier c) link (called c p m .port) (called c p m .memory) (called (marked (length earlier) c) p k .memory) (next .view) (next .best)
+  holds-next best c h next =
+      let moved = next .moved in
+      record {
+        fit = stays-fit c p m (h .fit);
+        fit-marked =
+        subst (λ (l : List ℕ). recordFits l (called (marked (length earlier) c) p k .memory) ≡ true) (next .same)
+        (stays-fit (marked (length earlier) c) p k (h .fit-marked));
+        long = omega (arith, next .long, h .long);
+        long-marked = omega (arith, next .long-marked, h .long-marked);
+        opened = moved .keeps .opened ∙ h .opened;
+        octets = moved .keeps .link ∙ h .octets;
+        streams = moved .streams;
+        queues = moved .queues;
+        above = moved .above;
+        waits = moved .waits;
+      }
 
 -- what is shown of the events from call number n on
 pub record Plays (link n : ℕ) (v : View) (es : List Event) : Type 0 where
@@ -61,27 +154,49 @@ pub record Plays (link n : ℕ) (v : View) (es : List Event) : Type 0 where
 not-lent : (r : ℕ) → r < 18 → (r ≡ 18 → ⊥) × ((r ≡ 19 → ⊥) × (r ≡ 20 → ⊥))
 not-lent r h = (λ z. omega arith, (λ z. omega arith, λ z. omega arith))
 
--- the number of a call in the list
-next-numbers : (all : List Call) (n : ℕ) (c : Call) (cs : List Call) → ((i : ℕ) → getD all (n + i) ticking ≡ getD (c ∷ cs) i ticking)
-    → (i : ℕ) → getD all (suc n + i) ticking ≡ getD cs i ticking
-next-numbers all n c cs numbers i = ap (λ (j : ℕ). getD all j ticking) (omega arith) ∙ numbers (suc i)
+-- the first call brings no frame
+abbrev pub FirstBringsNone : List Call → Type 0
+FirstBringsNone earlier = (0 < length earlier) × (broughtBy 0 (getD earlier 0 ticking) ≡ none)
 
-module _ (all : List Call) (link : ℕ) (first : broughtBy 0 (getD all 0 ticking) ≡ none) where
-  pub plays : (cs : List Call) (n : ℕ) (p m k : List ℕ) (v : View) (best : List Marked) → Holds all link p m k v best → Sound lastPlace (shareOf link) v
-      → ((i : ℕ) → getD all (n + i) ticking ≡ getD cs i ticking) → Plays link n v (happened called all n cs p m p k)
-  plays [] n p m k v best h sound numbers = record { run = tt; says = tt; marks = tt; not-by-host = tt }
-  plays (c ∷ cs) n p m k v best h sound numbers =
-      let here : getD all n ticking ≡ c = ap (λ (j : ℕ). getD all j ticking) (omega arith) ∙ numbers 0 in
-      let next = next-call all n link p m k v best h sound first c here in
+first-later : (earlier : List Call) (c : Call) → FirstBringsNone earlier → FirstBringsNone (earlier ++ (c ∷ []))
+first-later earlier c h = (omega (arith, h .0, length-append earlier (c ∷ [])), ap (broughtBy 0) (getD-before earlier c ticking 0 (h .0)) ∙ h .1)
+
+-- a call's event in front of the later ones
+abbrev pub withFirst : List Call → Call → Outcome → Outcome → List Event → List Event
+withFirst earlier c o u later = record { call = c; reply = o .reply; shown = u .reply; sent = sentBy earlier c (u .reply) } ∷ later
+
+module _ (link : ℕ) where
+  pub plays : (cs earlier : List Call) (p m k : List ℕ) (v : View) (best : List Marked) → Holds earlier link p m k v best → Sound lastPlace (shareOf link) v
+      → FirstBringsNone earlier → Plays link (length earlier) v (happened called earlier cs p m k)
+  plays [] earlier p m k v best h sound first = record { run = tt; says = tt; marks = tt; not-by-host = tt }
+  plays (c ∷ cs) earlier p m k v best h sound first =
+      let next = next-call earlier link p m k v best h sound (first .1) c in
       let o = called c p m in
-      let u = called (marked n c) p k in
-      let later = subst (λ (l : List ℕ). Plays link (suc n) (next .view) (happened called all (suc n) cs (o .port) (o .memory) l (u .memory))) (sym (next .same))
-      (plays cs (suc n) (o .port) (o .memory) (u .memory) (next .view) (next .best) (holds-next all n link p m k v best c h next)
-      (stays-sound lastPlace (shareOf link) n v (next .view) (o .reply) _ c (omega arith) (next .effect) sound)
-      (next-numbers all n c cs numbers)) in
+      let u = called (marked (length earlier) c) p k in
+      let one-more : length (earlier ++ (c ∷ [])) ≡ suc (length earlier) = omega (arith, length-append earlier (c ∷ [])) in
+      let later =
+      subst (λ (n : ℕ). Plays link n (next .view) (happened called (earlier ++ (c ∷ [])) cs (o .port) (o .memory) (u .memory))) one-more
+      (plays cs (earlier ++ (c ∷ [])) (o .port) (o .memory) (u .memory) (next .view) (next .best) (holds-next earlier link p m k v best c h next)
+      (stays-sound lastPlace (shareOf link) (length earlier) v (next .view) (o .reply) _ c (omega arith) (next .effect) sound)
+      (first-later earlier c first)) in
       record {
         run = (next .view, next .effect, later .run);
         says = (next .says, later .says);
         marks = (next .marks, later .marks);
         not-by-host = (not-lent (o .reply .refusal) (next .not-lent), later .not-by-host);
       }
+
+  -- the quick calls, which do not scan the record, do the same
+  pub quick-plays : (cs earlier : List Call) (p m k : List ℕ) (v : View) (best : List Marked) → Holds earlier link p m k v best → Sound lastPlace (shareOf link) v
+      → FirstBringsNone earlier → happened quicklyCalled earlier cs p m k ≡ happened called earlier cs p m k
+  quick-plays [] earlier p m k v best h sound first = refl
+  quick-plays (c ∷ cs) earlier p m k v best h sound first =
+      let next = next-call earlier link p m k v best h sound (first .1) c in
+      let o = called c p m in
+      let u = called (marked (length earlier) c) p k in
+      ap₂ (λ (x y : Outcome). withFirst earlier c x y (happened quicklyCalled (earlier ++ (c ∷ [])) cs (x .port) (x .memory) (y .memory)))
+      (quick-call c p m (h .fit)) (quick-call (marked (length earlier) c) p k (h .fit-marked))
+      ∙ ap (withFirst earlier c o u)
+      (quick-plays cs (earlier ++ (c ∷ [])) (o .port) (o .memory) (u .memory) (next .view) (next .best) (holds-next earlier link p m k v best c h next)
+      (stays-sound lastPlace (shareOf link) (length earlier) v (next .view) (o .reply) _ c (omega arith) (next .effect) sound)
+      (first-later earlier c first))

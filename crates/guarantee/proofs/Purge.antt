@@ -7,6 +7,7 @@ use mathlib.Core.List.{List, [], _∷_, _++_, append-assoc}
 use native.Mathlib.Omega.{arith}
 use borrow.Author.Tests.{ne-eqb}
 use lib.ListN.{length}
+use Rattle.lists.specs.Each.{All, Some}
 use Rattle.stream.specs.declared.Reply.{Reply}
 use Rattle.stream.specs.declared.Stream.{Stream}
 use Rattle.stream.specs.declared.Arrival.{Arrival}
@@ -15,33 +16,14 @@ use Rattle.stream.specs.State.{currentPlace, Fit}
 use Rattle.stream.specs.Steps.{arriveOf}
 use Rattle.stream.specs.Replies.{granted}
 use Rattle.stream.proofs.FitLaws.{joins-onward}
-use Rattle.port_laws.specs.Lists.{Call, opening, reserving, arriving, ticking, transmitting, joiningBestEffort}
-use Rattle.guarantee.specs.Events.{Marked, Sent, reserved, none, Event, All, Some}
+use Rattle.port_laws.specs.Lists.{Call, reserving, arriving, transmitting}
+use Rattle.guarantee.specs.Events.{Marked, Sent, reserved, none, Event}
 use Rattle.guarantee.specs.Claims.{isTick, Tick, NoTick, reservedCharge, reservedOctets, Idle, Linked, LinkCondition, PurgesNothing}
-use Rattle.guarantee.proofs.ListLaws.{differ, some-not-none, all-snoc, some-snoc}
-use Rattle.guarantee.proofs.Run.{View, octets, queueAfter, Quiet, Ticks, Effect, quiet, refuses-reservation, reserves, refuses-arrival, arrives, ticks, sends, idles, Run}
+use Rattle.lists.proofs.TurnLaws.{sumOf-snoc}
+use Rattle.lists.proofs.EachLaws.{differ, some-not-none, all-snoc, some-snoc}
+use Rattle.guarantee.proofs.CallLaws.{quiet-no-tick, no-transmit, quiet-no-transmit}
+use Rattle.guarantee.proofs.Run.{View, octets, queueAfter, Ticks, Effect, quiet, refuses-reservation, reserves, refuses-arrival, arrives, ticks, sends, idles, Run}
 use Rattle.guarantee.proofs.Room.{Charged, Sound, octets-most, no-octets, stays-sound}
-
--- a call that touches neither queues nor streams is no tick and no transmit
-pub quiet-no-tick : (c : Call) → Quiet c → isTick c ≡ false
-quiet-no-tick (opening link delay) q = refl
-quiet-no-tick (joiningBestEffort charge tag) q = refl
-
--- the calls that are no Transmit
-abbrev pub NoTransmit : Call → Type 0
-NoTransmit (opening link delay) = Unit {0}
-NoTransmit (reserving s permitted) = Unit {0}
-NoTransmit (arriving s charge tag) = Unit {0}
-NoTransmit ticking = Unit {0}
-NoTransmit transmitting = ⊥
-NoTransmit (joiningBestEffort charge tag) = Unit {0}
-
-pub no-transmit : (c : Call) → NoTransmit c → c ≡ transmitting → ⊥
-no-transmit c h e = subst NoTransmit e h
-
-quiet-no-transmit : (c : Call) → Quiet c → NoTransmit c
-quiet-no-transmit (opening link delay) q = tt
-quiet-no-transmit (joiningBestEffort charge tag) q = tt
 
 -- no frame joins prior
 prior-keeps : (last : ℕ) (x : Stream) (a : ℕ) (f : Marked) (fs : List Marked) → Fit last x → queueAfter 0 f (arriveOf last x a) fs ≡ fs
@@ -109,10 +91,6 @@ link-drop share xs ys link before between after t u e =
 abbrev Drains : ℕ → List Marked → List Event → Type 0
 Drains share prior between = (Some Idle between → prior ≡ []) × ((prior ≡ []) ⊎ (reservedOctets between + octets prior ≤ share))
 
-octets-snoc : (es : List Event) (e : Event) → reservedOctets (es ++ (e ∷ [])) ≡ reservedOctets es + reservedCharge (e .sent)
-octets-snoc [] e = omega arith
-octets-snoc (d ∷ es) e = omega (arith, octets-snoc es e)
-
 module _ (share : ℕ) (v w : View) (between : List Event) (e : Event) (d : Drains share (v .queue 0) between) (l : Leaves v w (e .sent) (e .call)) where
   drains-on : Drains share (w .queue 0) (between ++ (e ∷ []))
   drains-on = (
@@ -126,7 +104,7 @@ module _ (share : ℕ) (v w : View) (between : List Event) (e : Event) (d : Drai
         (λ (most : reservedOctets between + octets (v .queue 0) ≤ share).
         ⊎-elim
         (λ (empty : w .queue 0 ≡ []). inl empty)
-        (λ (less : reservedCharge (e .sent) + octets (w .queue 0) ≤ octets (v .queue 0)). inr (omega (arith, octets-snoc between e)))
+        (λ (less : reservedCharge (e .sent) + octets (w .queue 0) ≤ octets (v .queue 0)). inr (omega (arith, sumOf-snoc (λ d. reservedCharge (d .sent)) between e)))
         (l .shrinks))
         (d .1),
   )

@@ -6,6 +6,7 @@ use mathlib.Core.List.{List, [], _∷_}
 use native.Mathlib.Omega.{arith}
 use lib.ListN.{length}
 use borrow.Author.Tests.{eq-eqb, ne-eqb}
+use Rattle.lists.specs.Each.{All}
 use Rattle.lists.specs.Turns.{sumTo}
 use Rattle.lists.proofs.TurnLaws.{sumTo-same, sumTo-le, sumTo-change, sumOf-snoc}
 use Rattle.lists.proofs.Order.{eq-or-not}
@@ -23,8 +24,8 @@ use Rattle.record.specs.Layout.{streamCount}
 use Rattle.ranges.specs.Ranges.{leastCharge, greatestCharge}
 use Rattle.ranges.proofs.RangeLaws.{within-bounds}
 use Rattle.port_laws.specs.Lists.{Call}
-use Rattle.guarantee.specs.Events.{Marked, Sent, All}
-use Rattle.guarantee.proofs.ListLaws.{all-snoc}
+use Rattle.guarantee.specs.Events.{Marked, Sent}
+use Rattle.lists.proofs.EachLaws.{all-snoc}
 use Rattle.guarantee.proofs.Run.{View, free, octets, permittedOf, SameQueues, SameStreams, OneQueue, OneStream, queueAfter, Effect, quiet, refuses-reservation, reserves, refuses-arrival, arrives, ticks, sends, idles}
 
 -- a frame's charge is at least the least charge

@@ -1,11 +1,10 @@
 -- Demand 3, the theorem. Assumes nothing.
-use Prim.Native.Nat.{ℕ, suc, _+_, _≤_, _<_}
+use Prim.Native.Nat.{ℕ, _+_, _≤_, _<_}
 use mathlib.Core.Bool.{true}
-use mathlib.Core.Path.{_≡_, refl, sym, ap, ap₂, subst, _∙_}
+use mathlib.Core.Path.{_≡_, refl, sym, ap, subst, _∙_}
 use mathlib.Core.Logic.{⊎-elim}
 use mathlib.Core.List.{List, [], _∷_}
 use native.Mathlib.Omega.{arith}
-use lib.ListN.{getD}
 use Rattle.lists.proofs.TurnLaws.{sumTo-none}
 use Rattle.lists.proofs.Order.{le-or-lt}
 use Rattle.stream.specs.State.{currentPlace, lastPlace}
@@ -25,22 +24,23 @@ use Rattle.gates.specs.Refusals.{openRefusal}
 use Rattle.gates.specs.Gated.{opens}
 use Rattle.gates.proofs.GateLaws.{grants}
 use Rattle.port.specs.Calls.{openCall}
-use Rattle.port_laws.specs.Lists.{Call, opening, ticking, called, quicklyCalled}
+use Rattle.port_laws.specs.Lists.{Call, opening, called, quicklyCalled}
 use Rattle.port_laws.proofs.QuickLaws.{quick-call}
 use Rattle.port_laws.proofs.StayLaws.{let-through, stays-fit}
 use Rattle.port_laws.proofs.OpenLaws.{opened-open, opened-link, opened-queue, opened-stream}
-use Rattle.guarantee.specs.Events.{reserved, bestEffort as sentBestEffort, Event, marked, sentBy, happened, events}
+use Rattle.guarantee.specs.Events.{reserved, bestEffort as sentBestEffort, Event, happened, events}
 use Rattle.guarantee.specs.Claims.{LinkCondition, SentByReply}
 use Rattle.guarantee.specs.Demand3.{CallList, eventsOf, LinkHolds, Promised, Demand3}
 use Rattle.guarantee.proofs.Run.{View, free, octets, quiet, Run}
 use Rattle.guarantee.proofs.Room.{Sound}
-use Rattle.guarantee.proofs.Purge.{no-transmit, no-purge}
+use Rattle.guarantee.proofs.CallLaws.{no-transmit}
+use Rattle.guarantee.proofs.Purge.{no-purge}
 use Rattle.guarantee.proofs.Delay.{sent-by-reply, all-sent}
 use Rattle.guarantee.proofs.Conforming.{prompt}
 use Rattle.guarantee.proofs.Alone.{alike}
 use Rattle.guarantee.proofs.Tied.{tied-empty}
 use Rattle.guarantee.proofs.Held.{Holds, seenAt, seen-below, seen-above, seen-free}
-use Rattle.guarantee.proofs.Play.{Plays, plays}
+use Rattle.guarantee.proofs.Play.{Plays, withFirst, plays, quick-plays}
 
 -- a port as Open leaves it: no frame waits, no stream is reserved
 abbrev emptyView : View
@@ -106,23 +106,26 @@ module _ (p m : List ℕ) (link delay : ℕ) (is : openCall p m link delay .repl
 
 -- the events after the Open, from the port that it leaves
 module _ (l : CallList) where
-  abbrev all : List Call
-  all = opening (l .link) (l .delay) ∷ l .later
-
-  numbers : (i : ℕ) → getD all (1 + i) ticking ≡ getD (l .later) i ticking
-  numbers i = let one-more : 1 + i ≡ suc i = omega arith in ap (λ (j : ℕ). getD all j ticking) one-more
+  -- the Open, and what it leaves
+  abbrev first : List Call
+  first = opening (l .link) (l .delay) ∷ []
 
   abbrev opened : Outcome
   opened = called (opening (l .link) (l .delay)) (l .port) (l .memory)
 
-  later-plays : Plays (l .link) 1 emptyView (happened called all 1 (l .later) (opened .port) (opened .memory) (opened .port) (opened .memory))
-  later-plays =
-      subst (λ (o : Outcome). Plays (l .link) 1 emptyView (happened called all 1 (l .later) (o .port) (o .memory) (o .port) (o .memory)))
-      (sym (open-so (l .port) (l .memory) (l .link) (l .delay) (l .opened)))
-      (plays all (l .link) refl (l .later) 1 (after (l .port) (l .memory) (l .link) (l .delay) (l .opened)) (l .memory) (l .memory) emptyView []
-      (open-holds (l .port) (l .memory) (l .link) (l .delay) (l .opened) all)
-      (empty-sound lastPlace (shareOf (l .link)) (omega arith))
-      numbers)
+  opened-so : opened ≡ openStep (l .port) (l .memory) (l .link) (l .delay)
+  opened-so = open-so (l .port) (l .memory) (l .link) (l .delay) (l .opened)
+
+  opened-holds : Holds first (l .link) (opened .port) (opened .memory) (opened .memory) emptyView []
+  opened-holds =
+      subst (λ (o : Outcome). Holds first (l .link) (o .port) (o .memory) (o .memory) emptyView []) (sym opened-so)
+      (open-holds (l .port) (l .memory) (l .link) (l .delay) (l .opened) first)
+
+  opened-sound : Sound lastPlace (shareOf (l .link)) emptyView
+  opened-sound = empty-sound lastPlace (shareOf (l .link)) (omega arith)
+
+  later-plays : Plays (l .link) 1 emptyView (happened called first (l .later) (opened .port) (opened .memory) (opened .memory))
+  later-plays = plays (l .link) (l .later) first (opened .port) (opened .memory) (opened .memory) emptyView [] opened-holds opened-sound (omega arith, refl)
 
   -- the Open touches nothing of an empty view
   run : Run lastPlace (shareOf (l .link)) 0 emptyView (eventsOf l)
@@ -157,22 +160,11 @@ sent-as-replied l link =
     sent-by-reply lastPlace (shareOf (l .link)) emptyView (eventsOf l) (omega arith) (run l) (empty-sound lastPlace (shareOf (l .link)) (omega arith))
     (demand-3 l .promised link .no-purge)
 
--- a call's event in front of the later ones
-abbrev withFirst : List Call → Call → Outcome → Outcome → List Event → List Event
-withFirst all c o u later = record { call = c; reply = o .reply; shown = u .reply; sent = sentBy all c (u .reply) } ∷ later
-
 -- the quick calls, which do not scan the record, are these calls in every such list
-quick-happened : (all cs : List Call) (n : ℕ) (p m q k : List ℕ) → recordFits p m ≡ true → recordFits q k ≡ true
-    → happened quicklyCalled all n cs p m q k ≡ happened called all n cs p m q k
-quick-happened all [] n p m q k fits marked-fits = refl
-quick-happened all (c ∷ cs) n p m q k fits marked-fits =
-    let o = called c p m in
-    let u = called (marked n c) q k in
-    ap₂ (λ (x y : Outcome). withFirst all c x y (happened quicklyCalled all (suc n) cs (x .port) (x .memory) (y .port) (y .memory)))
-    (quick-call c p m fits) (quick-call (marked n c) q k marked-fits)
-    ∙ ap (withFirst all c o u) (quick-happened all cs (suc n) (o .port) (o .memory) (u .port) (u .memory) (stays-fit c p m fits) (stays-fit (marked n c) q k marked-fits))
-
 pub quick-events : (l : CallList) → events quicklyCalled (opening (l .link) (l .delay) ∷ l .later) (l .port) (l .memory) ≡ eventsOf l
 quick-events l =
-    let fits = fit (l .port) (l .memory) (l .link) (l .delay) (l .opened) in
-    quick-happened (all l) (all l) 0 (l .port) (l .memory) (l .port) (l .memory) fits fits
+    let c = opening (l .link) (l .delay) in
+    let same = quick-call c (l .port) (l .memory) (fit (l .port) (l .memory) (l .link) (l .delay) (l .opened)) in
+    ap (λ (o : Outcome). withFirst [] c o o (happened quicklyCalled (first l) (l .later) (o .port) (o .memory) (o .memory))) same
+    ∙ ap (withFirst [] c (opened l) (opened l))
+    (quick-plays (l .link) (l .later) (first l) (opened l .port) (opened l .memory) (opened l .memory) emptyView [] (opened-holds l) (opened-sound l) (omega arith, refl))

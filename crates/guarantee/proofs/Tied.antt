@@ -1,14 +1,15 @@
 -- A queue's frames in the memory, and in the memory of the marked calls, as one list of marked frames. Assumes nothing.
-use Prim.Native.Nat.{suc, _+_}
+use Prim.Native.Nat.{suc, _+_, _<_}
 use mathlib.Core.Path.{_≡_, refl, sym, ap, ap₂, _∙_}
 use mathlib.Core.List.{List, [], _∷_, _++_, map}
 use native.Mathlib.Omega.{arith}
-use lib.ListN.{length, getD}
+use lib.ListN.{length, getD, length-append}
+use Rattle.lists.specs.Each.{All}
 use Rattle.queue.specs.declared.Frame.{Frame}
 use Rattle.queue.specs.Waiting.{chargesOf}
 use Rattle.port_laws.specs.Lists.{Call, ticking}
-use Rattle.guarantee.specs.Events.{Marked, Sent, broughtBy, All}
-use Rattle.guarantee.proofs.ListLaws.{all-snoc}
+use Rattle.guarantee.specs.Events.{Marked, Sent, broughtBy}
+use Rattle.lists.proofs.EachLaws.{all-snoc, getD-before, all-map}
 use Rattle.guarantee.proofs.Run.{octets}
 
 -- the frame as it waits in the memory, and with its call's number for a tag
@@ -18,9 +19,9 @@ plain f = record { stream = f .stream; charge = f .charge; tag = f .tag }
 abbrev pub numbered : Marked → Frame
 numbered f = record { stream = f .stream; charge = f .charge; tag = f .number }
 
--- the frame is the one that the call of its number brought
+-- the frame is one that an earlier call brought, the one of its number
 abbrev pub Known : List Call → (Marked → Sent) → Marked → Type 0
-Known all kind f = broughtBy (f .number) (getD all (f .number) ticking) ≡ kind f
+Known earlier kind f = (f .number < length earlier) × (broughtBy (f .number) (getD earlier (f .number) ticking) ≡ kind f)
 
 -- the frames of a queue in both memories
 pub record Tied (all : List Call) (kind : Marked → Sent) (ws ks : List Frame) (fs : List Marked) : Type 0 where
@@ -35,6 +36,18 @@ map-snoc g (h ∷ fs) f = ap (λ (l : List Frame). g h ∷ l) (map-snoc g fs f)
 module _ (all : List Call) (kind : Marked → Sent) where
   pub tied-empty : Tied all kind [] [] []
   tied-empty = record { real = refl; shown = refl; known = tt }
+
+  -- and they stay so after one more call
+  pub tied-later : (c : Call) (ws ks : List Frame) (fs : List Marked) → Tied all kind ws ks fs → Tied (all ++ (c ∷ [])) kind ws ks fs
+  tied-later c ws ks fs h =
+      record {
+        real = h .real;
+        shown = h .shown;
+        known =
+        all-map (Known all kind) (Known (all ++ (c ∷ [])) kind) fs
+        (λ f k. (omega (arith, k .0, length-append all (c ∷ [])), ap (broughtBy (f .number)) (getD-before all c ticking (f .number) (k .0)) ∙ k .1))
+        (h .known);
+      }
 
   -- a frame joins
   pub tied-joins : (ws ks : List Frame) (fs : List Marked) (f : Marked) → Tied all kind ws ks fs → Known all kind f

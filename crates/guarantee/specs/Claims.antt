@@ -6,6 +6,7 @@ use mathlib.Core.Logic.{_⊎_}
 use mathlib.Core.List.{List, [], _∷_, _++_}
 use lib.ListN.{length}
 use lib.Dec.{eqb}
+use Rattle.lists.specs.Each.{All, Some}
 use Rattle.lists.specs.Turns.{sumOf}
 use Rattle.stream.specs.declared.Reply.{Reply}
 use Rattle.stream.specs.Replies.{granted}
@@ -13,7 +14,7 @@ use Rattle.stream.specs.State.{currentPlace}
 use Rattle.sending.specs.Sending.{nothing}
 use Rattle.ranges.specs.Ranges.{chargeFits}
 use Rattle.port_laws.specs.Lists.{Call, opening, reserving, arriving, ticking, transmitting, joiningBestEffort}
-use Rattle.guarantee.specs.Events.{Marked, Sent, reserved, bestEffort, none, Event, All, Some}
+use Rattle.guarantee.specs.Events.{Marked, Sent, reserved, bestEffort, none, Event}
 
 -- whether a call is a Tick, and how many of the events are
 abbrev pub isTick : Call → Bool

@@ -2,11 +2,12 @@
 use Prim.Native.Nat.{ℕ}
 use mathlib.Core.Path.{_≡_}
 use mathlib.Core.List.{List, _∷_}
+use Rattle.lists.specs.Each.{All}
 use Rattle.record.specs.Layout.{queueCount}
 use Rattle.ranges.specs.Ranges.{shareOf}
 use Rattle.port.specs.Calls.{openCall}
 use Rattle.port_laws.specs.Lists.{Call, opening, called}
-use Rattle.guarantee.specs.Events.{Event, All, events}
+use Rattle.guarantee.specs.Events.{Event, events}
 use Rattle.guarantee.specs.Claims.{LinkCondition, PurgesNothing, SaysWhatItSends, AlikeMarked, AllSentBefore, ConformingPrompt, Alike, NotByHost}
 
 -- "The first is a granted Open, whatever record and memory it was given": these two, the Open's L and K, and the calls after it

@@ -1,8 +1,7 @@
 -- What happened in a list of calls: each call with its reply and with the frame that it sent.
-use Prim.Native.Nat.{ℕ, suc}
-use mathlib.Core.Logic.{_⊎_}
-use mathlib.Core.List.{List, [], _∷_}
-use lib.ListN.{getD}
+use Prim.Native.Nat.{ℕ}
+use mathlib.Core.List.{List, [], _∷_, _++_}
+use lib.ListN.{length, getD}
 use Rattle.stream.specs.declared.Reply.{Reply}
 use Rattle.fitness.specs.Clauses.{bestEffortStream}
 use Rattle.steps.specs.Outcome.{Outcome}
@@ -46,33 +45,25 @@ broughtBy n ticking = none
 broughtBy n transmitting = none
 broughtBy n (joiningBestEffort charge tag) = bestEffort (record { stream = bestEffortStream; charge = charge; tag = tag; number = n })
 
--- the frame that a call of the list sends: where every tag is its call's number, a Transmit's second reply number is the number of the call that
--- brought it (0 for nothing: call 0 is the Open, and brings none)
+-- the frame that a call sends, by the calls before it: where every tag is its call's number, a Transmit's second reply number is the number of the
+-- call that brought the frame (0 for nothing: call 0 is the Open, and brings none)
 abbrev pub sentBy : List Call → Call → Reply → Sent
-sentBy all (opening link delay) shown = none
-sentBy all (reserving s permitted) shown = none
-sentBy all (arriving s charge tag) shown = none
-sentBy all ticking shown = none
-sentBy all transmitting shown = broughtBy (shown .second) (getD all (shown .second) ticking)
-sentBy all (joiningBestEffort charge tag) shown = none
+sentBy earlier (opening link delay) shown = none
+sentBy earlier (reserving s permitted) shown = none
+sentBy earlier (arriving s charge tag) shown = none
+sentBy earlier ticking shown = none
+sentBy earlier transmitting shown = broughtBy (shown .second) (getD earlier (shown .second) ticking)
+sentBy earlier (joiningBestEffort charge tag) shown = none
 
--- the calls from number n on, by this sort of call, on a record and memory p and m; beside them the same calls with their numbers for tags, on q and k
-abbrev pub happened : (Call → List ℕ → List ℕ → Outcome) → List Call → ℕ → List Call → List ℕ → List ℕ → List ℕ → List ℕ → List Event
-happened call all n [] p m q k = []
-happened call all n (c ∷ cs) p m q k =
+-- the calls after `earlier`, by this sort of call, on record p and memory m; beside m goes memory k, in which each frame has its call's number for a
+-- tag (the definitions keep a tag of any size): each call is made with both, on the one record
+abbrev pub happened : (Call → List ℕ → List ℕ → Outcome) → List Call → List Call → List ℕ → List ℕ → List ℕ → List Event
+happened call earlier [] p m k = []
+happened call earlier (c ∷ cs) p m k =
     let o = call c p m in
-    let u = call (marked n c) q k in
-    record { call = c; reply = o .reply; shown = u .reply; sent = sentBy all c (u .reply) } ∷ happened call all (suc n) cs (o .port) (o .memory) (u .port) (u .memory)
+    let u = call (marked (length earlier) c) p k in
+    record { call = c; reply = o .reply; shown = u .reply; sent = sentBy earlier c (u .reply) } ∷ happened call (earlier ++ (c ∷ [])) cs (o .port) (o .memory) (u .memory)
 
 -- a whole list, on a record and a memory; "each later call gets both as the last one left them, and nobody else writes them meanwhile"
 abbrev pub events : (Call → List ℕ → List ℕ → Outcome) → List Call → List ℕ → List ℕ → List Event
-events call cs p m = happened call cs 0 cs p m p m
-
--- what holds of each event, and of some event
-abbrev pub All : {A : Type 0} → (A → Type 0) → List A → Type 0
-All P [] = Unit {0}
-All P (e ∷ es) = P e × All P es
-
-abbrev pub Some : {A : Type 0} → (A → Type 0) → List A → Type 0
-Some P [] = ⊥
-Some P (e ∷ es) = P e ⊎ Some P es
+events call cs p m = happened call [] cs p m m

@@ -4,17 +4,18 @@ use mathlib.Core.Path.{_≡_, refl, ap}
 use mathlib.Core.Logic.{_⊎_, inl, inr}
 use mathlib.Core.List.{List, [], _∷_, _++_}
 use native.Mathlib.Omega.{arith}
+use Rattle.lists.specs.Each.{All, Some}
 use Rattle.stream.specs.declared.Reply.{Reply}
 use Rattle.stream.specs.State.{lastPlace}
 use Rattle.stream.specs.Replies.{granted}
 use Rattle.ranges.specs.Ranges.{leastCharge, shareOf}
 use Rattle.port_laws.specs.Lists.{opening, reserving, arriving, ticking}
-use Rattle.guarantee.specs.Events.{Marked, reserved, none, Event, All, Some}
+use Rattle.guarantee.specs.Events.{Marked, reserved, none, Event}
 use Rattle.guarantee.specs.Claims.{reservedOctets, Idle, LinkCondition, PurgesNothing, Sends, AllSentBefore}
 use Rattle.guarantee_examples.specs.Examples.{frameOf, sending, replied, busy, light, withheld, silent}
 use Rattle.guarantee_examples.specs.Shown.{ExamplesShow}
 use Rattle.guarantee_examples.proofs.LinkTest.{link-holds, none-idle}
-use Rattle.guarantee_examples.proofs.ExamplesHold.{busy-happens, light-happens, withheld-happens, permitted-200-happens, permitted-100-happens, silent-happens}
+use Rattle.guarantee_examples.proofs.ExamplesHappen.{all-happen}
 
 -- the refusal of the first reply
 abbrev firstRefusal : List Reply → ℕ
@@ -30,30 +31,30 @@ no-frame f e = let z : _≡_ {A = ℕ} 0 1 = cc in omega arith
 
 -- between the third frame's arrival and the third tick the first two frames are sent, and not the third
 abbrev third : Marked
-third = frameOf 5 84 9 4
+third = frameOf 5 84 7 4
 
 abbrev toThirdTick : List Event
 toThirdTick =
     replied ticking (granted 0 0)
     ∷ sending (reserved (frameOf 5 84 7 2)) (granted 5 7)
     ∷ replied ticking (granted 0 0)
-    ∷ sending (reserved (frameOf 5 84 8 3)) (granted 5 8)
+    ∷ sending (reserved (frameOf 5 84 7 3)) (granted 5 7)
     ∷ []
 
 third-unsent : Some (Sends third) toThirdTick → ⊥
 third-unsent (inl s) = no-frame third (s .0)
 third-unsent (inr (inl s)) = other-frame (frameOf 5 84 7 2) third (λ e. omega arith) (s .0)
 third-unsent (inr (inr (inl s))) = no-frame third (s .0)
-third-unsent (inr (inr (inr (inl s)))) = other-frame (frameOf 5 84 8 3) third (λ e. omega arith) (s .0)
+third-unsent (inr (inr (inr (inl s)))) = other-frame (frameOf 5 84 7 3) third (λ e. omega arith) (s .0)
 
 not-by-third : AllSentBefore lastPlace busy → ⊥
 not-by-third all =
     third-unsent
     (all
-    (replied (opening 1626 1) (granted 84 0) ∷ replied (reserving 5 84) (granted 0 0) ∷ replied (arriving 5 84 7) (granted 1 84) ∷ replied (arriving 5 84 8) (granted 2 84) ∷ [])
-    (toThirdTick ++ (replied ticking (granted 0 0) ∷ sending (reserved third) (granted 5 9) ∷ replied ticking (granted 0 0) ∷ []))
-    (replied (arriving 5 84 9) (granted 3 0))
-    5 84 9 refl refl refl toThirdTick (sending (reserved third) (granted 5 9) ∷ replied ticking (granted 0 0) ∷ []) (replied ticking (granted 0 0)) refl refl refl)
+    (replied (opening 1626 1) (granted 84 0) ∷ replied (reserving 5 84) (granted 0 0) ∷ replied (arriving 5 84 7) (granted 1 84) ∷ replied (arriving 5 84 7) (granted 2 84) ∷ [])
+    (toThirdTick ++ (replied ticking (granted 0 0) ∷ sending (reserved third) (granted 5 7) ∷ replied ticking (granted 0 0) ∷ []))
+    (replied (arriving 5 84 7) (granted 3 0))
+    5 84 7 refl refl refl toThirdTick (sending (reserved third) (granted 5 7) ∷ replied ticking (granted 0 0) ∷ []) (replied ticking (granted 0 0)) refl refl refl)
 
 -- the epoch in which too little is sent
 abbrev epoch : List Event
@@ -82,23 +83,23 @@ silent-purged (a, (b, (c, (d, (e, (f, g)))))) = let z : _≡_ {A = ℕ} 1 0 = ap
 pub examples-show : ExamplesShow
 examples-show =
     record {
-      busy-happens = busy-happens;
+      busy-happens = all-happen .busy-happens;
       busy-links = link-holds (shareOf 1626) busy refl;
       busy-never-idle = none-idle busy refl;
       busy-not-by-third = not-by-third;
-      light-happens = light-happens;
+      light-happens = all-happen .light-happens;
       light-links = link-holds (shareOf 2142) light refl;
       light-octets = omega arith;
       light-not-by-first = λ sent. sent [] _ (replied ticking (granted 0 0)) refl refl refl;
-      withheld-happens = withheld-happens;
+      withheld-happens = all-happen .withheld-happens;
       withheld-fails = fails;
       withheld-purges = purges;
       withheld-nearly-links = link-holds (shareOf 2142 - leastCharge) withheld refl;
-      permitted-200-happens = permitted-200-happens;
-      permitted-100-happens = permitted-100-happens;
+      permitted-200-happens = all-happen .permitted-200-happens;
+      permitted-100-happens = all-happen .permitted-100-happens;
       same-grants = refl;
       other-answers = λ e. let z : _≡_ {A = ℕ} 0 14 = ap (λ (rs : List Reply). firstRefusal rs) e in omega arith;
-      silent-happens = silent-happens;
+      silent-happens = all-happen .silent-happens;
       silent-links = link-holds (shareOf 2142) silent refl;
       silent-purges = silent-purged;
     }

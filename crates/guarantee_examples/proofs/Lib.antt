@@ -1,4 +1,4 @@
 -- What the examples show, proved.
 pub mod LinkTest
-pub mod ExamplesHold
+pub mod ExamplesHappen
 pub mod ExamplesShow

@@ -7,11 +7,12 @@ use mathlib.Core.List.{List, [], _∷_, _++_}
 use native.Mathlib.Omega.{arith}
 use borrow.Author.Tests.{leb-true}
 use lib.Dec.{leb}
+use Rattle.lists.specs.Each.{All, Some}
 use Rattle.lists.proofs.TurnLaws.{both}
 use Rattle.port_laws.specs.Lists.{Call, opening, reserving, arriving, ticking, transmitting, joiningBestEffort}
-use Rattle.guarantee.specs.Events.{Marked, Sent, reserved, bestEffort, none, Event, All, Some}
+use Rattle.guarantee.specs.Events.{Marked, Sent, reserved, bestEffort, none, Event}
 use Rattle.guarantee.specs.Claims.{isTick, Tick, NoTick, reservedCharge, reservedOctets, Idle, LinkCondition}
-use Rattle.guarantee.proofs.ListLaws.{differ}
+use Rattle.lists.proofs.EachLaws.{differ}
 
 -- whether an event is a transmit without a reserved frame
 abbrev isTransmit : Call → Bool
@@ -104,13 +105,13 @@ asked share (e ∷ between) after u octets idle (no-tick, no-ticks) tick h =
 
 -- so events that pass the test meet the condition
 pub link-holds : (share : ℕ) (es : List Event) → links share es ≡ true → LinkCondition share es
-link-holds share es h before between after t u split tick tock no-ticks =
+link-holds share es h before between after t u split tick next-tick no-ticks =
     let on = goes share before (t ∷ (between ++ (u ∷ after))) false 0 false (subst (λ (zs : List Event). links share zs ≡ true) split h) in
     let here = both (not (on .ticked) || (leb share (on .octets) || on .idle)) (linksFrom share true 0 false (between ++ (u ∷ after))) (rw tick at (on .on)) .1 in
     ⊎-elim
     (λ (enough : share ≤ 0 + reservedOctets between). inl (omega arith))
     (λ (i : (_≡_ {A = Bool} false true) ⊎ Some Idle between). ⊎-elim (λ (e : _≡_ {A = Bool} false true). differ (sym e)) (λ (j : Some Idle between). inr j) i)
-    (asked share between after u 0 false no-ticks tock here)
+    (asked share between after u 0 false no-ticks next-tick here)
 
 -- and events of which none passes the test of an idle transmit have none
 abbrev pub anyIdle : List Event → Bool

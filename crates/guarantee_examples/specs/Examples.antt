@@ -29,20 +29,20 @@ pub record Happens (es : List Event) : Type 0 where
   pub so : eventsOf list ≡ es
 
 -- share 84, all of it reserved, and three times as much offered at once: each epoch sends the share, and the third frame is sent after the third
--- tick
+-- tick. The frames are the same but for their calls
 abbrev pub busy : List Event
 busy =
     replied (opening 1626 1) (granted 84 0)
     ∷ replied (reserving 5 84) (granted 0 0)
     ∷ replied (arriving 5 84 7) (granted 1 84)
-    ∷ replied (arriving 5 84 8) (granted 2 84)
-    ∷ replied (arriving 5 84 9) (granted 3 0)
+    ∷ replied (arriving 5 84 7) (granted 2 84)
+    ∷ replied (arriving 5 84 7) (granted 3 0)
     ∷ replied ticking (granted 0 0)
     ∷ sending (reserved (frameOf 5 84 7 2)) (granted 5 7)
     ∷ replied ticking (granted 0 0)
-    ∷ sending (reserved (frameOf 5 84 8 3)) (granted 5 8)
+    ∷ sending (reserved (frameOf 5 84 7 3)) (granted 5 7)
     ∷ replied ticking (granted 0 0)
-    ∷ sending (reserved (frameOf 5 84 9 4)) (granted 5 9)
+    ∷ sending (reserved (frameOf 5 84 7 4)) (granted 5 7)
     ∷ replied ticking (granted 0 0)
     ∷ []
 

@@ -3,3 +3,4 @@ pub mod WindowLaws
 pub mod TurnLaws
 pub mod EqualLaws
 pub mod Order
+pub mod EachLaws

@@ -2,3 +2,4 @@
 pub mod Window
 pub mod Turns
 pub mod Equal
+pub mod Each

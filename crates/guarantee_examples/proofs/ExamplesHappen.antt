@@ -1,0 +1,55 @@
+-- The examples are the events of lists of calls. Assumes nothing.
+use Prim.Native.Nat.{ℕ}
+use mathlib.Core.Path.{_≡_, refl}
+use mathlib.Core.List.{List, [], _∷_}
+use Rattle.lists.specs.Turns.{allTo, sumTo, listTo, iterate}
+use Rattle.octets.specs.Numbers.{twoOf, fourOf, eightOf}
+use Rattle.stream.specs.Steps.{attempt, arriveOf, tickOf}
+use Rattle.queue.specs.Place.{frameAt, withFrame}
+use Rattle.queue.specs.Ring.{joinedMemory, frontOf}
+use Rattle.queue.specs.Waiting.{waiting}
+use Rattle.record.specs.Head.{openAt, withOpen, priorAt, withPrior, delayAt, withDelay, linkAt, withLink, waitsAt, withWaits, queueAt, withQueue}
+use Rattle.record.specs.Entry.{streamAt, withStream, withPlace, boundAt, vidAt, pairAt, dropped}
+use Rattle.fitness.specs.Fit.{recordFits, lentRefusal}
+use Rattle.steps.specs.Roles.{roleAt}
+use Rattle.opening.specs.Opening.{openedRecord}
+use Rattle.arriving.specs.Arriving.{arriveStep}
+use Rattle.ticking.specs.Ticking.{tickedRecord, tickStep}
+use Rattle.sending.specs.Sending.{transmitStep}
+use Rattle.best_effort.specs.BestEffort.{bestEffortStep}
+use Rattle.gates.specs.Refusals.{openRefusal, reserveRefusal, arriveRefusal, closedRefusal, bestEffortRefusal}
+use Rattle.port.specs.Calls.{openCall}
+use Rattle.port_laws.specs.Cases.{freshRecord, freshMemory}
+use Rattle.guarantee.specs.Events.{Event, events}
+use Rattle.guarantee.specs.Demand3.{CallList}
+use Rattle.guarantee_examples.specs.Examples.{Happens, busy, light, withheld, permitted200, permitted100, silently, silent, callsOf}
+
+-- a list of calls on a port never opened
+abbrev fromFresh : (link delay : ℕ) → List Event → openCall freshRecord freshMemory link delay .reply .refusal ≡ 0 → CallList
+fromFresh link delay later is = record { port = freshRecord; memory = freshMemory; link = link; delay = delay; later = callsOf later; opened = is }
+
+-- the events after the first
+abbrev afterFirst : List Event → List Event
+afterFirst [] = []
+afterFirst (e ∷ es) = es
+
+-- each example, run
+pub record AllHappen : Type 0 where
+  pub busy-happens : Happens busy
+  pub light-happens : Happens light
+  pub withheld-happens : Happens withheld
+  pub permitted-200-happens : Happens permitted200
+  pub permitted-100-happens : Happens permitted100
+  pub silent-happens : events silently (callsOf silent) freshRecord freshMemory ≡ silent
+
+pub all-happen : AllHappen
+unfolding allTo sumTo listTo iterate twoOf fourOf eightOf attempt arriveOf tickOf frameAt withFrame joinedMemory frontOf waiting openAt withOpen priorAt withPrior delayAt withDelay linkAt withLink waitsAt withWaits queueAt withQueue streamAt withStream withPlace boundAt vidAt pairAt dropped recordFits lentRefusal roleAt openedRecord arriveStep tickedRecord tickStep transmitStep bestEffortStep openRefusal reserveRefusal arriveRefusal closedRefusal bestEffortRefusal
+all-happen =
+    record {
+      busy-happens = record { list = fromFresh 1626 1 (afterFirst busy) refl; so = refl };
+      light-happens = record { list = fromFresh 2142 1 (afterFirst light) refl; so = refl };
+      withheld-happens = record { list = fromFresh 2142 1 (afterFirst withheld) refl; so = refl };
+      permitted-200-happens = record { list = fromFresh 2142 1 (afterFirst permitted200) refl; so = refl };
+      permitted-100-happens = record { list = fromFresh 2142 1 (afterFirst permitted100) refl; so = refl };
+      silent-happens = refl;
+    }
