@@ -18,14 +18,14 @@ use Rattle.guarantee.specs.Claims.{isTick, isReserveOf, isArriveOf, rema
 use Rattle.guarantee.proofs.Run.{View, ownRefusal, Quiet, Effect, quiet, refuses-reservation, reserves, refuses-arrival, arrives, ticks, sends, idles, Run}
 
 -- what an arrival on the stream replies, and the stream after it
-abbrev ownReply : ℕ → ℕ → Stream → ℕ → Reply
+abbrev pub ownReply : ℕ → ℕ → Stream → ℕ → Reply
 ownReply last s x a = cond (eqb (ownRefusal s x a) 0) (replyOf (arriveOf last x a)) (refusedBy (ownRefusal s x a))
 
-abbrev ownNext : ℕ → ℕ → Stream → ℕ → Stream
+abbrev pub ownNext : ℕ → ℕ → Stream → ℕ → Stream
 ownNext last s x a = cond (eqb (ownRefusal s x a) 0) (streamOf (arriveOf last x a)) x
 
 -- the replies of the stream's arrivals, by itself: from the ticks and its own calls that remain, and which of its reservations are granted
-unfoldable replyAlone : ℕ → ℕ → Stream → List Call → List Bool → List Reply
+unfoldable pub replyAlone : ℕ → ℕ → Stream → List Call → List Bool → List Reply
 replyAlone last s x [] gs = []
 replyAlone last s x (opening link delay ∷ cs) gs = replyAlone last s x cs gs
 replyAlone last s x (reserving r permitted ∷ cs) [] = []
@@ -109,7 +109,7 @@ module _ (last share n s : ℕ) (v w : View) (r : Reply) (t : Sent) (es : List E
     alone-with c (idles e i queues streams) = kept (streams s)
 
 -- one list: the replies of the stream's arrivals are those of the stream by itself
-alone : (last share s : ℕ) (es : List Event) (n : ℕ) (v : View) → Run last share n v es → answers s es ≡ replyAlone last s (v .stream s) (remaining s es) (grants s es)
+pub alone : (last share s : ℕ) (es : List Event) (n : ℕ) (v : View) → Run last share n v es → answers s es ≡ replyAlone last s (v .stream s) (remaining s es) (grants s es)
 unfolding replyAlone
 alone last share s [] n v run = refl
 alone last share s (e ∷ es) n v (w, effect, run) = alone-with last share n s v w (e .reply) (e .sent) es (alone last share s es (suc n) w run) (e .call) effect

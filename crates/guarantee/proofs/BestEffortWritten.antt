@@ -33,8 +33,8 @@ module _ (p : List ℕ) (x : Queue) (octets : ℕ) where
   written-stream s = stream-waits (withQueue p bestEffort x) octets s ∙ stream-queue p bestEffort x s (omega arith)
 
   -- best effort is no role's queue
-  pub role-not-effort : (role : ℕ) → roleAt p role ≡ bestEffort → ⊥
-  role-not-effort role e = omega (arith, role-below p role)
+  pub role-not-best-effort : (role : ℕ) → roleAt p role ≡ bestEffort → ⊥
+  role-not-best-effort role e = omega (arith, role-below p role)
 
   pub written-role : (m : List ℕ) (role : ℕ) → inRole written m role ≡ inRole p m role
-  written-role m role = role-kept p written m role written-prior (written-other (roleAt p role) (role-not-effort role))
+  written-role m role = role-kept p written m role written-prior (written-other (roleAt p role) (role-not-best-effort role))

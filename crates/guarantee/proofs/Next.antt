@@ -1,6 +1,5 @@
 -- What is to be shown of each call on a port that holds a view, and the calls that are refused. Assumes nothing.
 use Prim.Native.Nat.{ℕ, _≤_, _<_}
-use mathlib.Core.Bool.{Bool, true, false, cond}
 use mathlib.Core.Path.{_≡_, refl}
 use mathlib.Core.Logic.{⊎-elim}
 use mathlib.Core.List.{List, []}
@@ -12,7 +11,7 @@ use Rattle.stream.specs.Replies.{refusedBy}
 use Rattle.queue.specs.Waiting.{waiting}
 use Rattle.record.specs.Layout.{queueCount, bestEffort}
 use Rattle.record.specs.Head.{queueAt}
-use Rattle.record.proofs.KeepLaws.{Keeps}
+use Rattle.record.proofs.KeepLaws.{Keeps, keeps-same}
 use Rattle.ranges.specs.Ranges.{shareOf}
 use Rattle.fitness.specs.Fit.{lentRefusal}
 use Rattle.fitness.proofs.FitLaws.{fit-lent}
@@ -51,15 +50,6 @@ pub record Next (earlier all : List Call) (n link : ℕ) (p m k : List ℕ) (v :
   pub says : c ≡ transmitting → Says (o .reply) (u .reply) (sentBy earlier c (u .reply))
   pub marks : (c ≡ transmitting → ⊥) → u .reply ≡ o .reply
   pub not-lent : o .reply .refusal < 18
-
--- a record keeps what it has
-pub keeps-same : (p : List ℕ) → Keeps p p
-keeps-same p = record { long = refl; opened = refl; delay = refl; link = refl; bound = λ s. refl; vid = λ s. refl; pair = λ s. refl }
-
--- a gate of numbers below 18 answers one
-pub gate-below : (b : Bool) (number rest : ℕ) → number < 18 → rest < 18 → cond b number rest < 18
-gate-below true number rest h i = h
-gate-below false number rest h i = i
 
 module _ (all : List Call) (n link : ℕ) (p m k : List ℕ) (v : View) (best : List Marked) (h : Holds all link p m k v best) where
   -- where nothing changes

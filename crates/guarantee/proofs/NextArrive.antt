@@ -1,13 +1,12 @@
 -- Arrive on a port that holds a view: the frame joins its queue, which is never full, or is discarded, or the call is refused. Assumes nothing.
 use Prim.Native.Nat.{ℕ, _≤_, _<_}
-use mathlib.Core.Bool.{true, not}
+use mathlib.Core.Bool.{true}
 use mathlib.Core.Path.{_≡_, refl, sym, ap, subst, _∙_}
 use mathlib.Core.Logic.{⊎-elim}
 use mathlib.Core.List.{List, [], _∷_, _++_}
 use native.Mathlib.Omega.{arith}
 use borrow.Author.Tests.{lt-leb, eq-eqb, ne-eqb}
 use lib.ListN.{length, getD, length-append}
-use lib.Dec.{leb}
 use Rattle.lists.proofs.Order.{eq-or-not}
 use Rattle.stream.specs.declared.Stream.{Stream}
 use Rattle.stream.specs.declared.Arrival.{Arrival}
@@ -21,7 +20,7 @@ use Rattle.queue.specs.Ring.{placeCount, joinedMemory, joinedQueue}
 use Rattle.queue.specs.Waiting.{waiting}
 use Rattle.queue.proofs.WaitingLaws.{joins, joins-elsewhere, joins-length, length-waiting}
 use Rattle.record.specs.Layout.{Whole, queueCount, bestEffort, streamCount, memoryLength}
-use Rattle.record.specs.Head.{openAt, priorAt, linkAt, queueAt, withQueue}
+use Rattle.record.specs.Head.{priorAt, linkAt, queueAt, withQueue}
 use Rattle.record.specs.Entry.{streamAt}
 use Rattle.record.proofs.HeadPairs.{queue-queue, other-queue, prior-queue, stream-queue}
 use Rattle.record.proofs.EntryPairs.{stream-place, other-place, prior-place, queue-place}
@@ -35,7 +34,7 @@ use Rattle.steps.specs.Moves.{moved}
 use Rattle.steps.proofs.RoleLaws.{role-below, role-apart, role-same}
 use Rattle.arriving.specs.Arriving.{arrived, arriveStep}
 use Rattle.gates.specs.Refusals.{arriveRefusal}
-use Rattle.gates.proofs.GateLaws.{arrive-allowed}
+use Rattle.gates.proofs.GateLaws.{arrive-allowed, arrive-numbers}
 use Rattle.port_laws.specs.Lists.{Call, arriving, ticking, called}
 use Rattle.guarantee.specs.Events.{Marked, reserved, none, broughtBy, marked}
 use Rattle.guarantee.proofs.Run.{View, octets, ownRefusal, queueAfter, Effect, arrives, refuses-arrival}
@@ -43,7 +42,7 @@ use Rattle.guarantee.proofs.Room.{Sound, octets-most, charged-length, s
 use Rattle.guarantee.proofs.Tied.{Tied, plain, numbered, tied-joins, tied-length}
 use Rattle.guarantee.proofs.CallLaws.{no-transmit}
 use Rattle.guarantee.proofs.Held.{Holds, inRole, seen-below, seen-as-is, own-refusal, role-kept, changed, changed-here, changed-else, changed-seen}
-use Rattle.guarantee.proofs.Next.{Moved, Next, gate-below, next-refused, by-gate}
+use Rattle.guarantee.proofs.Next.{Moved, Next, next-refused, by-gate}
 
 -- the step, where the frame joins a queue that has room, and where it is discarded
 module _ (p m : List ℕ) (s a tag : ℕ) where
@@ -59,15 +58,6 @@ module _ (p m : List ℕ) (s a tag : ℕ) where
   step-discards : (spent : Stream) → arriveOf lastPlace (streamAt p s) a ≡ Discarded spent → arriveStep p m s a tag ≡ outcome (refusedBy 14) (moved p s spent) m
   unfolding arriveStep
   step-discards spent e = ap (λ (z : Arrival). arrived p m s (record { stream = s; charge = a; tag = tag }) (replyOf z) z) e
-
--- the gate's numbers
-arrive-below : (p : List ℕ) (s a : ℕ) → arriveRefusal p s a < 18
-unfolding arriveRefusal
-arrive-below p s a =
-    let thirteen = gate-below (not (chargeFits a)) 13 0 (omega arith) (omega arith) in
-    let twelve = gate-below (not (streamAt p s .reserved)) 12 _ (omega arith) thirteen in
-    let five = gate-below (leb streamCount s) 5 _ (omega arith) twelve in
-    gate-below (not (openAt p)) 1 _ (omega arith) five
 
 -- the record where stream s has moved, and a frame has joined the queue of this number
 module _ (p : List ℕ) (s number : ℕ) (next : Stream) (whole : Whole p) (b : number < queueCount) where
@@ -186,9 +176,9 @@ module _ (all : List Call) (n link : ℕ) (p m k : List ℕ) (v : View) (best : 
         (joined-other p s number next whole (role-below p place) (roleAt p role) (omega (arith, role-below p role)) apart)
         ∙ joins-elsewhere l number (roleAt p role) (queueAt p number) (queueAt p (roleAt p role)) f apart
 
-    effort-kept : (l : List ℕ) (f : Frame)
+    best-effort-kept : (l : List ℕ) (f : Frame)
         → waiting (joinedMemory l number (queueAt p number) f) bestEffort (queueAt after bestEffort) ≡ waiting l bestEffort (queueAt p bestEffort)
-    effort-kept l f =
+    best-effort-kept l f =
         let apart : bestEffort ≡ number → ⊥ = λ z. omega (arith, role-below p place) in
         ap (waiting (joinedMemory l number (queueAt p number) f) bestEffort) (joined-other p s number next whole (role-below p place) bestEffort (omega arith) apart)
         ∙ joins-elsewhere l number bestEffort (queueAt p number) (queueAt p bestEffort) f apart
@@ -225,7 +215,7 @@ module _ (all : List Call) (n link : ℕ) (p m k : List ℕ) (v : View) (best : 
               (λ i c o. joined-stream p s number next whole (role-below p place) i ∙ other-place p s (next .place) (next .left) i o);
           queues = joined-queues;
           above = λ role c. after-else frame role place next (v .queue role) (λ z. omega (arith, within-roles)) ∙ h .above role c;
-          waits = rw (effort-kept m (plain frame), effort-kept k (numbered frame)) (h .waits);
+          waits = rw (best-effort-kept m (plain frame), best-effort-kept k (numbered frame)) (h .waits);
         }
 
     joined-next : Next all all n link p m k v (arriving s a tag) (arriveStep p m s a tag) (arriveStep p k s a n)
@@ -295,7 +285,7 @@ module _ (all : List Call) (n link : ℕ) (p m k : List ℕ) (v : View) (best : 
       let own : arriveRefusal p s a ≡ ownRefusal s (v .stream s) a = own-refusal p s a (h .opened) ∙ ap (λ (x : Stream). ownRefusal s x a) (sym (h .streams s)) in
       by-gate all n link p m k v best h (arriveRefusal p s a) (arriving s a tag) (arriveStep p m s a tag) (arriveStep p k s a n)
       (λ z.
-      next-refused all n link p m k v best h (arriveRefusal p s a) (arriving s a tag) (arrive-below p s a)
+      next-refused all n link p m k v best h (arriveRefusal p s a) (arriving s a tag) (arrive-numbers p s a)
       (no-transmit (arriving s a tag) tt)
       (refuses-arrival refl (record { refused = λ e. z (own ∙ e); reply = ap refusedBy own; queues = λ j. refl; streams = λ j. refl })))
       (arrive-next all n link p m k v best h sound s a tag counted here)

@@ -1,41 +1,30 @@
 -- Best effort on a port that holds a view, granted or refused. Assumes nothing.
 use Prim.Native.Nat.{ℕ, _+_, _≤_, _<_}
-use mathlib.Core.Bool.{not}
 use mathlib.Core.Path.{_≡_, refl, ap, _∙_}
 use mathlib.Core.List.{List, [], _∷_, _++_}
 use native.Mathlib.Omega.{arith}
 use lib.ListN.{length, getD}
-use lib.Dec.{leb, ltb}
 use Rattle.queue.specs.declared.Frame.{Frame}
 use Rattle.queue.specs.declared.Queue.{Queue}
 use Rattle.queue.specs.Ring.{placeCount, joinedMemory, joinedQueue}
 use Rattle.queue.specs.Waiting.{waiting}
 use Rattle.queue.proofs.WaitingLaws.{joins, joins-elsewhere, joins-length}
 use Rattle.record.specs.Layout.{Whole, bestEffort, memoryLength}
-use Rattle.record.specs.Head.{openAt, waitsAt, queueAt}
-use Rattle.ranges.specs.Ranges.{chargeFits}
+use Rattle.record.specs.Head.{waitsAt, queueAt}
 use Rattle.fitness.specs.Clauses.{bestEffortStream}
 use Rattle.fitness.proofs.FitLaws.{fit-record}
 use Rattle.steps.specs.Roles.{roleAt}
 use Rattle.best_effort.specs.BestEffort.{bestEffortFrame, bestEffortStep}
-use Rattle.gates.specs.Refusals.{bestEffortLimit, bestEffortRefusal}
-use Rattle.gates.proofs.GateLaws.{best-effort-allowed}
+use Rattle.gates.specs.Refusals.{bestEffortRefusal}
+use Rattle.gates.proofs.GateLaws.{best-effort-allowed, best-effort-numbers}
 use Rattle.port_laws.specs.Lists.{Call, ticking, joiningBestEffort, called}
 use Rattle.guarantee.specs.Events.{Marked, bestEffort as sentBestEffort, broughtBy, marked}
 use Rattle.guarantee.proofs.Run.{View, quiet}
 use Rattle.guarantee.proofs.Tied.{tied-joins}
 use Rattle.guarantee.proofs.CallLaws.{no-transmit}
-use Rattle.guarantee.proofs.BestEffortWritten.{written, written-keeps, written-here, written-stream, role-not-effort, written-role}
+use Rattle.guarantee.proofs.BestEffortWritten.{written, written-keeps, written-here, written-stream, role-not-best-effort, written-role}
 use Rattle.guarantee.proofs.Held.{Holds, inRole, same-seen}
-use Rattle.guarantee.proofs.Next.{Next, gate-below, next-refused, by-gate}
-
-effort-below : (p : List ℕ) (charge : ℕ) → bestEffortRefusal p charge < 18
-unfolding bestEffortRefusal
-effort-below p charge =
-    let sixteen = gate-below (ltb (bestEffortLimit p) (waitsAt p + charge)) 16 0 (omega arith) (omega arith) in
-    let fifteen = gate-below (leb placeCount (queueAt p bestEffort .count)) 15 _ (omega arith) sixteen in
-    let thirteen = gate-below (not (chargeFits charge)) 13 _ (omega arith) fifteen in
-    gate-below (not (openAt p)) 1 _ (omega arith) thirteen
+use Rattle.guarantee.proofs.Next.{Next, next-refused, by-gate}
 
 -- the queue of best effort and W after the step
 abbrev queueJoined : List ℕ → Queue
@@ -49,22 +38,22 @@ module _ (p : List ℕ) (a : ℕ) (m : List ℕ) (f : Frame) where
   recordAfter = written p (queueJoined p) (waitsAt p + a)
 
   -- a role's frames stay, whatever frame joins best effort
-  effort-role : (role : ℕ) → inRole recordAfter memoryAfter role ≡ inRole p m role
-  effort-role role =
+  best-effort-role : (role : ℕ) → inRole recordAfter memoryAfter role ≡ inRole p m role
+  best-effort-role role =
       written-role p (queueJoined p) (waitsAt p + a) memoryAfter role
-      ∙ joins-elsewhere m bestEffort (roleAt p role) (queueAt p bestEffort) (queueAt p (roleAt p role)) f (role-not-effort p (queueJoined p) (waitsAt p + a) role)
+      ∙ joins-elsewhere m bestEffort (roleAt p role) (queueAt p bestEffort) (queueAt p (roleAt p role)) f (role-not-best-effort p (queueJoined p) (waitsAt p + a) role)
 
   -- and the frame is the last in best effort
-  effort-joins : Whole p → memoryLength ≤ length m → queueAt p bestEffort .count < placeCount
+  best-effort-joins : Whole p → memoryLength ≤ length m → queueAt p bestEffort .count < placeCount
       → waiting memoryAfter bestEffort (queueAt recordAfter bestEffort) ≡ waiting m bestEffort (queueAt p bestEffort) ++ (f ∷ [])
-  effort-joins whole long room =
+  best-effort-joins whole long room =
       ap (waiting memoryAfter bestEffort) (written-here p (queueJoined p) (waitsAt p + a) whole) ∙ joins m bestEffort (queueAt p bestEffort) f room (omega arith)
 
 module _ (all : List Call) (n link : ℕ) (p m k : List ℕ) (v : View) (best : List Marked) (h : Holds all link p m k v best) where
-  effort-next : (a tag : ℕ) → n < length all → getD all n ticking ≡ joiningBestEffort a tag → bestEffortRefusal p a ≡ 0
+  best-effort-next : (a tag : ℕ) → n < length all → getD all n ticking ≡ joiningBestEffort a tag → bestEffortRefusal p a ≡ 0
       → Next all all n link p m k v (joiningBestEffort a tag) (bestEffortStep p m a tag) (bestEffortStep p k a n)
   unfolding bestEffortStep
-  effort-next a tag counted here e =
+  best-effort-next a tag counted here e =
       let d = best-effort-allowed p a e in
       let x = queueAt p bestEffort in
       let f : Marked = record { stream = bestEffortStream; charge = a; tag = tag; number = n } in
@@ -80,10 +69,10 @@ module _ (all : List Call) (n link : ℕ) (p m k : List ℕ) (v : View) (best : 
             record {
               keeps = written-keeps p (queueJoined p) (waitsAt p + a);
               streams = same-seen p (written p (queueJoined p) (waitsAt p + a)) v (h .streams) (λ i b. written-stream p (queueJoined p) (waitsAt p + a) i);
-              queues = λ role b. rw (effort-role p a m (bestEffortFrame a tag) role, effort-role p a k (bestEffortFrame a n) role) (h .queues role b);
+              queues = λ role b. rw (best-effort-role p a m (bestEffortFrame a tag) role, best-effort-role p a k (bestEffortFrame a n) role) (h .queues role b);
               above = h .above;
               waits =
-                  rw (effort-joins p a m (bestEffortFrame a tag) whole (h .long) (d .free), effort-joins p a k (bestEffortFrame a n) whole (h .long-marked) (d .free))
+                  rw (best-effort-joins p a m (bestEffortFrame a tag) whole (h .long) (d .free), best-effort-joins p a k (bestEffortFrame a n) whole (h .long-marked) (d .free))
                   (tied-joins all sentBestEffort (waiting m bestEffort x) (waiting k bestEffort x) best f (h .waits) (counted, ap (broughtBy n) here));
             };
         says = λ z. absurd (no-transmit (joiningBestEffort a tag) tt z);
@@ -96,7 +85,7 @@ module _ (all : List Call) (n link : ℕ) (p m k : List ℕ) (v : View) (best : 
   next-best-effort a tag counted here =
       by-gate all n link p m k v best h (bestEffortRefusal p a) (joiningBestEffort a tag) (bestEffortStep p m a tag) (bestEffortStep p k a n)
       (λ z.
-      next-refused all n link p m k v best h (bestEffortRefusal p a) (joiningBestEffort a tag) (effort-below p a)
+      next-refused all n link p m k v best h (bestEffortRefusal p a) (joiningBestEffort a tag) (best-effort-numbers p a)
       (no-transmit (joiningBestEffort a tag) tt)
       (quiet tt refl (λ j. refl) (λ j. refl)))
-      (effort-next a tag counted here)
+      (best-effort-next a tag counted here)

@@ -1,44 +1,26 @@
 -- Reserve on a port that holds a view, granted or refused; and Open, which an open port refuses. Assumes nothing.
-use Prim.Native.Nat.{ℕ, _+_, _<_}
-use mathlib.Core.Bool.{true, not}
+use Prim.Native.Nat.{ℕ}
 use mathlib.Core.Path.{_≡_, refl, ap, _∙_}
 use mathlib.Core.List.{List}
 use native.Mathlib.Omega.{arith}
-use lib.Dec.{leb, ltb}
 use Rattle.stream.specs.State.{reserveOf}
-use Rattle.record.specs.Layout.{bestEffort, streamCount}
-use Rattle.record.specs.Head.{openAt, linkAt}
+use Rattle.record.specs.Layout.{bestEffort}
 use Rattle.record.specs.Entry.{streamAt, withStream}
 use Rattle.record.proofs.EntryPairs.{stream-stream, other-stream, prior-stream, queue-stream}
 use Rattle.record.proofs.KeepLaws.{keeps-stream}
-use Rattle.ranges.specs.Ranges.{shareOf, permittedFits}
-use Rattle.fitness.specs.Clauses.{permittedSum}
+use Rattle.ranges.specs.Ranges.{shareOf}
 use Rattle.fitness.proofs.FitLaws.{fit-record}
 use Rattle.steps.specs.Roles.{roleAt}
 use Rattle.steps.proofs.RoleLaws.{role-below}
 use Rattle.opening.specs.Opening.{openStep, reserveStep}
 use Rattle.gates.specs.Refusals.{openRefusal, reserveRefusal}
-use Rattle.gates.proofs.GateLaws.{reserve-allowed}
+use Rattle.gates.proofs.GateLaws.{reserve-allowed, reserve-numbers, open-taken}
 use Rattle.port_laws.specs.Lists.{Call, opening, reserving, called}
 use Rattle.guarantee.specs.Events.{Marked, marked}
 use Rattle.guarantee.proofs.Run.{View, free, quiet, refuses-reservation, reserves}
 use Rattle.guarantee.proofs.CallLaws.{no-transmit}
 use Rattle.guarantee.proofs.Held.{Holds, seen-below, seen-free, seen-sum, role-kept, changed, changed-here, changed-else, changed-seen}
-use Rattle.guarantee.proofs.Next.{Next, gate-below, next-refused, by-gate}
-
--- the gates' numbers
-reserve-below : (p : List ℕ) (s permitted : ℕ) → reserveRefusal p s permitted < 18
-unfolding reserveRefusal
-reserve-below p s permitted =
-    let eight = gate-below (ltb (shareOf (linkAt p)) (permittedSum p + permitted)) 8 0 (omega arith) (omega arith) in
-    let seven = gate-below (not (permittedFits permitted)) 7 _ (omega arith) eight in
-    let six = gate-below (streamAt p s .reserved) 6 _ (omega arith) seven in
-    let five = gate-below (leb streamCount s) 5 _ (omega arith) six in
-    gate-below (not (openAt p)) 1 _ (omega arith) five
-
-open-taken : (p : List ℕ) (link delay : ℕ) → openAt p ≡ true → openRefusal p link delay ≡ 2
-unfolding openRefusal
-open-taken p link delay opened = rw opened
+use Rattle.guarantee.proofs.Next.{Next, next-refused, by-gate}
 
 module _ (all : List Call) (n link : ℕ) (p m k : List ℕ) (v : View) (best : List Marked) (h : Holds all link p m k v best) where
   -- Reserve, granted
@@ -87,7 +69,7 @@ module _ (all : List Call) (n link : ℕ) (p m k : List ℕ) (v : View) (best : 
   next-reserve s permitted =
       by-gate all n link p m k v best h (reserveRefusal p s permitted) (reserving s permitted) (reserveStep p m s permitted) (reserveStep p k s permitted)
       (λ z.
-      next-refused all n link p m k v best h (reserveRefusal p s permitted) (reserving s permitted) (reserve-below p s permitted)
+      next-refused all n link p m k v best h (reserveRefusal p s permitted) (reserving s permitted) (reserve-numbers p s permitted)
       (no-transmit (reserving s permitted) tt)
       (refuses-reservation z refl (λ j. refl) (λ j. refl)))
       (reserve-next s permitted)

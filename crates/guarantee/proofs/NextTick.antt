@@ -18,24 +18,25 @@ use Rattle.stream.proofs.TickLaws.{stays-current}
 use Rattle.queue.specs.Ring.{emptyQueue}
 use Rattle.queue.proofs.WaitingLaws.{empty-waits, length-waiting}
 use Rattle.record.specs.Layout.{Whole, queueCount, bestEffort, queueRoom, streamCount}
-use Rattle.record.specs.Head.{openAt, priorAt, withPrior, queueAt, withQueue}
+use Rattle.record.specs.Head.{priorAt, withPrior, queueAt, withQueue}
 use Rattle.record.specs.Entry.{streamAt}
 use Rattle.record.proofs.HeadPairs.{prior-prior, queue-prior, stream-prior, queue-queue, other-queue, stream-queue}
 use Rattle.record.proofs.EntryPairs.{stream-place, other-place, prior-place, queue-place}
-use Rattle.record.proofs.KeepLaws.{Keeps, keeps-both, keeps-prior, keeps-queue, keeps-place}
+use Rattle.record.proofs.KeepLaws.{Keeps, keeps-same, keeps-both, keeps-prior, keeps-queue, keeps-place}
 use Rattle.fitness.proofs.FitLaws.{fit-record}
 use Rattle.steps.specs.Roles.{roleAt, priorRole, currentRole}
 use Rattle.steps.specs.Moves.{moved}
 use Rattle.steps.proofs.RoleLaws.{role-below, role-nearer, role-wraps, role-apart}
 use Rattle.ticking.specs.Ticking.{tickedAt, tickedRecord, tickStep}
 use Rattle.gates.specs.Refusals.{closedRefusal}
+use Rattle.gates.proofs.GateLaws.{closed-passes}
 use Rattle.port_laws.specs.Lists.{Call, ticking, called}
 use Rattle.guarantee.specs.Events.{Marked, reserved, marked}
 use Rattle.guarantee.proofs.Run.{View, free, octets, ticks}
 use Rattle.guarantee.proofs.Tied.{Tied, tied-empty, tied-length, tied-octets, tied-octets-shown}
 use Rattle.guarantee.proofs.CallLaws.{no-transmit}
 use Rattle.guarantee.proofs.Held.{Holds, inRole, seen, seenAt, seen-below, seen-above, seen-as-is, seen-free}
-use Rattle.guarantee.proofs.Next.{Next, keeps-same, by-gate}
+use Rattle.guarantee.proofs.Next.{Next, by-gate}
 
 -- a stream of the record after the tick: nothing of an unreserved one is written
 abbrev ticked : Stream → Stream
@@ -175,11 +176,6 @@ module _ (p : List ℕ) (whole : Whole p) where
   ticked-last : (l : List ℕ) (role : ℕ) → suc role ≡ queueCount → inRole (tickedRecord p) l role ≡ []
   ticked-last l role e = rw (ticked-role role, role-wraps p role e, ticked-purged) (empty-waits l (roleAt p priorRole))
 
--- an open port passes the gate
-pub closed-not : (p : List ℕ) → openAt p ≡ true → closedRefusal p ≡ 0
-unfolding closedRefusal
-closed-not p opened = rw opened
-
 module _ (all : List Call) (n link : ℕ) (p m k : List ℕ) (v : View) (best : List Marked) (h : Holds all link p m k v best) where
   abbrev tickedView : View
   tickedView = record { queue = λ role. v .queue (suc role); stream = λ s. tickOf (v .stream s) }
@@ -251,4 +247,4 @@ module _ (all : List Call) (n link : ℕ) (p m k : List ℕ) (v : View) (best : 
 
   pub next-tick : Next all all n link p m k v ticking (called ticking p m) (called (marked n ticking) p k)
   next-tick =
-      by-gate all n link p m k v best h (closedRefusal p) ticking (tickStep p m) (tickStep p k) (λ z. absurd (z (closed-not p (h .opened)))) (λ z. tick-next)
+      by-gate all n link p m k v best h (closedRefusal p) ticking (tickStep p m) (tickStep p k) (λ z. absurd (z (closed-passes p (h .opened)))) (λ z. tick-next)

@@ -26,6 +26,7 @@ use Rattle.steps.proofs.RoleLaws.{role-below, role-apart, role-same}
 use Rattle.sending.specs.Sending.{sent, sentBestEffort, nothing, transmitStep}
 use Rattle.sending.proofs.SendLaws.{sends-prior, sends-current, sends-best-effort, sends-nothing}
 use Rattle.gates.specs.Refusals.{closedRefusal}
+use Rattle.gates.proofs.GateLaws.{closed-passes}
 use Rattle.port_laws.specs.Lists.{Call, ticking, transmitting, called}
 use Rattle.guarantee.specs.Events.{Marked, Sent, reserved, bestEffort as bestEffortFrame, none, broughtBy, marked}
 use Rattle.guarantee.specs.Claims.{replyOfSent}
@@ -35,7 +36,6 @@ use Rattle.guarantee.proofs.Tied.{Tied, Oldest, oldest, tied-length}
 use Rattle.guarantee.proofs.BestEffortWritten.{written, written-keeps, written-here, written-stream, written-role}
 use Rattle.guarantee.proofs.Held.{Holds, inRole, role-kept, same-seen}
 use Rattle.guarantee.proofs.Next.{Next, unmoved, by-gate}
-use Rattle.guarantee.proofs.NextTick.{closed-not}
 
 -- a frame of best effort is no reserved frame, and none is none
 not-reserved : (f g : Marked) → bestEffortFrame f ≡ reserved g → ⊥
@@ -160,8 +160,8 @@ module _ (all : List Call) (n link : ℕ) (p m k : List ℕ) (v : View) (best : 
     same-charge : frontOf k bestEffort waitingThere .charge ≡ frontOf m bestEffort waitingThere .charge
     same-charge = ap (λ (g : Frame). g .charge) (oldest-there .shown) ∙ sym (ap (λ (g : Frame). g .charge) (oldest-there .real))
 
-    effort-next : Next all all n link p m k v transmitting (sentBestEffort p m waitingThere) (sentBestEffort p k waitingThere)
-    effort-next =
+    best-effort-next : Next all all n link p m k v transmitting (sentBestEffort p m waitingThere) (sentBestEffort p k waitingThere)
+    best-effort-next =
         let f = oldest-there .first in
         let octets = waitsAt p - frontOf m bestEffort waitingThere .charge in
         let sends-it = names bestEffortFrame bestEffort waitingThere best oldest-there in
@@ -222,7 +222,7 @@ module _ (all : List Call) (n link : ℕ) (p m k : List ℕ) (v : View) (best : 
         ⊎-elim
         (λ (z : c .count ≡ 0). rw (sends-nothing p m prior current a b c i j z, sends-nothing p k prior current a b c i j z) (nothing-next prior-empty))
         (λ (z : c .count ≡ 0 → ⊥).
-        rw (sends-best-effort p m prior current a b c i j z, sends-best-effort p k prior current a b c i j z) (effort-next z prior-empty))
+        rw (sends-best-effort p m prior current a b c i j z, sends-best-effort p k prior current a b c i j z) (best-effort-next z prior-empty))
         (eq-or-not (c .count) 0))
         (λ (j : b .count ≡ 0 → ⊥).
         rw (sends-current p m prior current a b c i j, sends-current p k prior current a b c i j)
@@ -234,5 +234,5 @@ module _ (all : List Call) (n link : ℕ) (p m k : List ℕ) (v : View) (best : 
 
     pub next-transmit : Next all all n link p m k v transmitting (called transmitting p m) (called (marked n transmitting) p k)
     next-transmit =
-        by-gate all n link p m k v best h (closedRefusal p) transmitting (transmitStep p m) (transmitStep p k) (λ z. absurd (z (closed-not p (h .opened))))
+        by-gate all n link p m k v best h (closedRefusal p) transmitting (transmitStep p m) (transmitStep p k) (λ z. absurd (z (closed-passes p (h .opened))))
         (λ z. transmit-next)

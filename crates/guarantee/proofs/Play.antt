@@ -74,9 +74,9 @@ module _ (earlier : List Call) (link : ℕ) (p m k : List ℕ) (v : View) where
         view = x .view;
         best = x .best;
         effect =
-        subst (λ (t : Sent). Effect lastPlace (shareOf link) (length earlier) v (x .view) (o .reply) t c)
-        (sends-none all c (u .reply) h ∙ sym (sends-none earlier c (u .reply) h))
-        (x .effect);
+            subst (λ (t : Sent). Effect lastPlace (shareOf link) (length earlier) v (x .view) (o .reply) t c)
+            (sends-none all c (u .reply) h ∙ sym (sends-none earlier c (u .reply) h))
+            (x .effect);
         same = x .same;
         long = x .long;
         long-marked = x .long-marked;
@@ -132,8 +132,8 @@ module _ (earlier : List Call) (link : ℕ) (p m k : List ℕ) (v : View) where
       record {
         fit = stays-fit c p m (h .fit);
         fit-marked =
-        subst (λ (l : List ℕ). recordFits l (called (marked (length earlier) c) p k .memory) ≡ true) (next .same)
-        (stays-fit (marked (length earlier) c) p k (h .fit-marked));
+            subst (λ (l : List ℕ). recordFits l (called (marked (length earlier) c) p k .memory) ≡ true) (next .same)
+            (stays-fit (marked (length earlier) c) p k (h .fit-marked));
         long = omega (arith, next .long, h .long);
         long-marked = omega (arith, next .long-marked, h .long-marked);
         opened = moved .keeps .opened ∙ h .opened;
@@ -151,8 +151,9 @@ pub record Plays (link n : ℕ) (v : View) (es : List Event) : Type 0 where
   pub marks : All AlikeMarked es
   pub not-by-host : All NotByHost es
 
-not-lent : (r : ℕ) → r < 18 → (r ≡ 18 → ⊥) × ((r ≡ 19 → ⊥) × (r ≡ 20 → ⊥))
-not-lent r h = (λ z. omega arith, (λ z. omega arith, λ z. omega arith))
+-- a refusal below 18 is none of the host's
+not-lent : (e : Event) → e .reply .refusal < 18 → NotByHost e
+not-lent e h = (λ z. omega arith, (λ z. omega arith, λ z. omega arith))
 
 -- the first call brings no frame
 abbrev pub FirstBringsNone : List Call → Type 0
@@ -161,9 +162,9 @@ FirstBringsNone earlier = (0 < length earlier) × (broughtBy 0 (getD earlier 0 t
 first-later : (earlier : List Call) (c : Call) → FirstBringsNone earlier → FirstBringsNone (earlier ++ (c ∷ []))
 first-later earlier c h = (omega (arith, h .0, length-append earlier (c ∷ [])), ap (broughtBy 0) (getD-before earlier c ticking 0 (h .0)) ∙ h .1)
 
--- a call's event in front of the later ones
-abbrev pub withFirst : List Call → Call → Outcome → Outcome → List Event → List Event
-withFirst earlier c o u later = record { call = c; reply = o .reply; shown = u .reply; sent = sentBy earlier c (u .reply) } ∷ later
+-- the event of a call whose outcome is o, and u where it is marked
+abbrev pub event : List Call → Call → Outcome → Outcome → Event
+event earlier c o u = record { call = c; reply = o .reply; shown = u .reply; sent = sentBy earlier c (u .reply) }
 
 module _ (link : ℕ) where
   pub plays : (cs earlier : List Call) (p m k : List ℕ) (v : View) (best : List Marked) → Holds earlier link p m k v best → Sound lastPlace (shareOf link) v
@@ -183,7 +184,7 @@ module _ (link : ℕ) where
         run = (next .view, next .effect, later .run);
         says = (next .says, later .says);
         marks = (next .marks, later .marks);
-        not-by-host = (not-lent (o .reply .refusal) (next .not-lent), later .not-by-host);
+        not-by-host = (not-lent (event earlier c o u) (next .not-lent), later .not-by-host);
       }
 
   -- the quick calls, which do not scan the record, do the same
@@ -194,9 +195,9 @@ module _ (link : ℕ) where
       let next = next-call earlier link p m k v best h sound (first .1) c in
       let o = called c p m in
       let u = called (marked (length earlier) c) p k in
-      ap₂ (λ (x y : Outcome). withFirst earlier c x y (happened quicklyCalled (earlier ++ (c ∷ [])) cs (x .port) (x .memory) (y .memory)))
+      ap₂ (λ (x y : Outcome). event earlier c x y ∷ happened quicklyCalled (earlier ++ (c ∷ [])) cs (x .port) (x .memory) (y .memory))
       (quick-call c p m (h .fit)) (quick-call (marked (length earlier) c) p k (h .fit-marked))
-      ∙ ap (withFirst earlier c o u)
+      ∙ ap (λ (es : List Event). event earlier c o u ∷ es)
       (quick-plays cs (earlier ++ (c ∷ [])) (o .port) (o .memory) (u .memory) (next .view) (next .best) (holds-next earlier link p m k v best c h next)
       (stays-sound lastPlace (shareOf link) (length earlier) v (next .view) (o .reply) _ c (omega arith) (next .effect) sound)
       (first-later earlier c first))

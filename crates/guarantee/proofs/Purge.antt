@@ -1,5 +1,5 @@
 -- Under the link condition no tick finds a frame in prior. Assumes nothing.
-use Prim.Native.Nat.{ℕ, zero, suc, _+_, _≤_}
+use Prim.Native.Nat.{ℕ, zero, suc, _+_, _≤_, _<_}
 use mathlib.Core.Bool.{Bool, true, false}
 use mathlib.Core.Path.{_≡_, refl, sym, ap, subst, _∙_}
 use mathlib.Core.Logic.{_⊎_, inl, inr, ⊎-elim}
@@ -17,13 +17,14 @@ use Rattle.stream.specs.Steps.{arriveOf}
 use Rattle.stream.specs.Replies.{granted}
 use Rattle.stream.proofs.FitLaws.{joins-onward}
 use Rattle.port_laws.specs.Lists.{Call, reserving, arriving, transmitting}
+use Rattle.ranges.specs.Ranges.{leastCharge}
 use Rattle.guarantee.specs.Events.{Marked, Sent, reserved, none, Event}
 use Rattle.guarantee.specs.Claims.{isTick, Tick, NoTick, reservedCharge, reservedOctets, Idle, Linked, LinkCondition, PurgesNothing}
 use Rattle.lists.proofs.TurnLaws.{sumOf-snoc}
 use Rattle.lists.proofs.EachLaws.{differ, some-not-none, all-snoc, some-snoc}
 use Rattle.guarantee.proofs.CallLaws.{quiet-no-tick, no-transmit, quiet-no-transmit}
 use Rattle.guarantee.proofs.Run.{View, octets, queueAfter, Ticks, Effect, quiet, refuses-reservation, reserves, refuses-arrival, arrives, ticks, sends, idles, Run}
-use Rattle.guarantee.proofs.Room.{Charged, Sound, octets-most, no-octets, stays-sound}
+use Rattle.guarantee.proofs.Room.{Charged, Sound, octets-most, few-octets, stays-sound}
 
 -- no frame joins prior
 prior-keeps : (last : ℕ) (x : Stream) (a : ℕ) (f : Marked) (fs : List Marked) → Fit last x → queueAfter 0 f (arriveOf last x a) fs ≡ fs
@@ -109,26 +110,26 @@ module _ (share : ℕ) (v w : View) (between : List Event) (e : Event) (d : Drai
         (d .1),
   )
 
--- so a tick that the link condition lets follow finds prior empty
-drained : (share : ℕ) (prior : List Marked) (between : List Event) → All Charged prior → Drains share prior between
-    → Linked share between → prior ≡ []
-drained share prior between charged d (inl enough) =
+-- so a tick that the link condition lets follow finds prior empty, even if it asks somewhat less than the share
+drained : (share asked : ℕ) (prior : List Marked) (between : List Event) → All Charged prior → share < asked + leastCharge → Drains share prior between
+    → Linked asked between → prior ≡ []
+drained share asked prior between charged slack d (inl enough) =
     ⊎-elim
     (λ (empty : prior ≡ []). empty)
-    (λ (most : reservedOctets between + octets prior ≤ share). no-octets prior charged (omega arith))
+    (λ (most : reservedOctets between + octets prior ≤ share). few-octets prior charged (omega (arith, slack, enough, most)))
     (d .1)
-drained share prior between charged d (inr idle) = d .0 idle
+drained share asked prior between charged slack d (inr idle) = d .0 idle
 
 -- the reply of a tick that finds prior empty
 purged-nothing : (v w : View) (r : Reply) → Ticks v w r → v .queue 0 ≡ [] → r ≡ granted 0 0
 purged-nothing v w r d empty = d .reply ∙ ap (λ (fs : List Marked). granted (length fs) (octets fs)) empty
 
-module _ (last share : ℕ) (some : currentPlace ≤ last) where
+module _ (last share asked : ℕ) (some : currentPlace ≤ last) (slack : share < asked + leastCharge) where
   -- what is to be shown of the events that follow a tick t and what came after it
   abbrev FollowingPurge : List Event → Type 0
   FollowingPurge es =
       (t : Event) (between : List Event) (n : ℕ) (v : View) → Run last share n v es → Sound last share v → Tick t → All NoTick between
-      → LinkCondition share (t ∷ (between ++ es)) → Drains share (v .queue 0) between → All PurgesNothing es
+      → LinkCondition asked (t ∷ (between ++ es)) → Drains share (v .queue 0) between → All PurgesNothing es
 
   -- a tick leaves a prior that is at most the share
   fresh : (n : ℕ) (v w : View) (e : Event) → Sound last share v → Ticks v w (e .reply) → Drains share (w .queue 0) []
@@ -143,14 +144,14 @@ module _ (last share : ℕ) (some : currentPlace ≤ last) where
       told : (b : Bool) → isTick (e .call) ≡ b → All PurgesNothing (e ∷ es)
       told true is =
           let ticked = tick-effect last share n v w (e .reply) (e .sent) (e .call) effect is in
-          let empty = drained share (v .queue 0) between (h .charged 0) d (link [] between es t e refl tick is no-ticks) in (
+          let empty = drained share asked (v .queue 0) between (h .charged 0) slack d (link [] between es t e refl tick is no-ticks) in (
             λ z. purged-nothing v w (e .reply) ticked empty,
-            rest e [] (suc n) w run sound is tt (link-drop share (t ∷ between) (e ∷ es) link) (fresh n v w e h ticked),
+            rest e [] (suc n) w run sound is tt (link-drop asked (t ∷ between) (e ∷ es) link) (fresh n v w e h ticked),
           )
       told false is = (
         λ z. differ (sym z ∙ is),
         rest t (between ++ (e ∷ [])) (suc n) w run sound tick (all-snoc NoTick between e no-ticks is)
-            (subst (λ (zs : List Event). LinkCondition share (t ∷ zs)) (sym (append-assoc between (e ∷ []) es)) link)
+            (subst (λ (zs : List Event). LinkCondition asked (t ∷ zs)) (sym (append-assoc between (e ∷ []) es)) link)
             (drains-on share v w between e d (leaves last share n v w (e .reply) (e .sent) (e .call) effect h is)),
       )
 
@@ -160,7 +161,7 @@ module _ (last share : ℕ) (some : currentPlace ≤ last) where
 
   -- and from a prior that is empty before any tick
   abbrev FromEmpty : List Event → Type 0
-  FromEmpty es = (n : ℕ) (v : View) → Run last share n v es → Sound last share v → LinkCondition share es → v .queue 0 ≡ [] → All PurgesNothing es
+  FromEmpty es = (n : ℕ) (v : View) → Run last share n v es → Sound last share v → LinkCondition asked es → v .queue 0 ≡ [] → All PurgesNothing es
 
   from-step : (e : Event) (es : List Event) → FromEmpty es → FromEmpty (e ∷ es)
   from-step e es rest n v (w, effect, run) h link empty = told (isTick (e .call)) refl
@@ -176,7 +177,7 @@ module _ (last share : ℕ) (some : currentPlace ≤ last) where
           )
       told false is = (
         λ z. differ (sym z ∙ is),
-        rest (suc n) w run sound (link-drop share (e ∷ []) es link)
+        rest (suc n) w run sound (link-drop asked (e ∷ []) es link)
             (leaves last share n v w (e .reply) (e .sent) (e .call) effect h is .stays-empty empty),
       )
 

@@ -53,10 +53,10 @@ pub charged-length : (fs : List Marked) → All Charged fs → leastCharge * len
 charged-length [] h = omega arith
 charged-length (f ∷ fs) h = omega (arith, h .0, charged-length fs (h .1))
 
--- so no octets, no frame
-pub no-octets : (fs : List Marked) → All Charged fs → octets fs ≤ 0 → fs ≡ []
-no-octets [] h o = refl
-no-octets (f ∷ fs) h o = absurd (omega (arith, h .0))
+-- so less than the least charge, no frame
+pub few-octets : (fs : List Marked) → All Charged fs → octets fs < leastCharge → fs ≡ []
+few-octets [] h o = refl
+few-octets (f ∷ fs) h o = absurd (omega (arith, h .0))
 
 -- the octets that an arrival brings into a queue, and the frame that it brings
 after-octets : (k : ℕ) (f : Marked) (r : Arrival) (fs : List Marked) → octets (queueAfter k f r fs) ≡ octets fs + octetsAt k (f .charge) r

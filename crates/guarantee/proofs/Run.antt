@@ -1,5 +1,5 @@
 -- A run of the port as the proof of demand 3 sees it: the queues by their roles as lists of marked frames, the streams, and what each call does to
--- them. Nothing here knows of octets, nor how many queues there are. Assumes nothing.
+-- them. Nothing here knows of the octets of record and memory, nor how many queues there are. Assumes nothing.
 use Prim.Native.Nat.{ℕ, suc, _+_, _≤_, _<_}
 use mathlib.Core.Bool.{true, false, not, cond}
 use mathlib.Core.Path.{_≡_}

@@ -10,10 +10,10 @@ use Rattle.lists.proofs.Order.{le-or-lt}
 use Rattle.stream.specs.State.{currentPlace, lastPlace}
 use Rattle.queue.specs.Waiting.{waiting}
 use Rattle.queue.proofs.WaitingLaws.{empty-waits}
-use Rattle.record.specs.Layout.{Whole, bestEffort, streamCount}
+use Rattle.record.specs.Layout.{Whole, queueCount, bestEffort, streamCount}
 use Rattle.record.specs.Head.{queueAt}
 use Rattle.record.specs.Entry.{streamAt}
-use Rattle.ranges.specs.Ranges.{shareOf}
+use Rattle.ranges.specs.Ranges.{leastCharge, shareOf}
 use Rattle.fitness.specs.Fit.{recordFits, lentRefusal}
 use Rattle.fitness.proofs.FitLaws.{fit-record, lent-fit}
 use Rattle.steps.specs.Outcome.{Outcome}
@@ -40,7 +40,7 @@ use Rattle.guarantee.proofs.Conforming.{prompt}
 use Rattle.guarantee.proofs.Alone.{alike}
 use Rattle.guarantee.proofs.Tied.{tied-empty}
 use Rattle.guarantee.proofs.Held.{Holds, seenAt, seen-below, seen-above, seen-free}
-use Rattle.guarantee.proofs.Play.{Plays, withFirst, plays, quick-plays}
+use Rattle.guarantee.proofs.Play.{Plays, event, plays, quick-plays}
 
 -- a port as Open leaves it: no frame waits, no stream is reserved
 abbrev emptyView : View
@@ -131,11 +131,12 @@ module _ (l : CallList) where
   run : Run lastPlace (shareOf (l .link)) 0 emptyView (eventsOf l)
   run = (emptyView, quiet tt refl (λ role. refl) (λ s. refl), later-plays .run)
 
--- what the link condition promises, whatever the number of queues
-pub promises : (last share : ℕ) (es : List Event) → currentPlace < last → Run last share 0 emptyView es → LinkCondition share es → Promised (last + 1) es
-promises last share es more run link =
+-- what the link condition promises, whatever the number of queues, also where it asks less than the share by less than the least charge
+pub promises : (last share asked : ℕ) (es : List Event) → currentPlace < last → share < asked + leastCharge → Run last share 0 emptyView es → LinkCondition asked es
+    → Promised (last + 1) es
+promises last share asked es more slack run link =
     let sound = empty-sound last share (omega arith) in
-    let purges = no-purge last share (omega arith) es 0 emptyView run sound link refl in
+    let purges = no-purge last share asked (omega arith) slack es 0 emptyView run sound link refl in
     record {
       no-purge = purges;
       all-sent = all-sent last share emptyView es (omega arith) run sound purges _ (omega arith);
@@ -146,7 +147,7 @@ promises last share es more run link =
 pub demand-3 : (l : CallList) → Demand3 l
 demand-3 l =
     record {
-      promised = promises lastPlace (shareOf (l .link)) (eventsOf l) (omega arith) (run l);
+      promised = promises lastPlace (shareOf (l .link)) (shareOf (l .link)) (eventsOf l) (omega arith) (omega arith) (run l);
       alike = λ other s.
           alike lastPlace (shareOf (l .link)) (shareOf (other .link)) s (eventsOf l) (eventsOf other) emptyView emptyView refl (run l) (run other);
       says = (λ e. absurd (no-transmit (opening (l .link) (l .delay)) tt e), later-plays l .says);
@@ -154,7 +155,11 @@ demand-3 l =
       not-by-host = ((λ e. omega (arith, l .opened), (λ e. omega (arith, l .opened), λ e. omega (arith, l .opened))), later-plays l .not-by-host);
     }
 
--- and beyond the demand
+-- and beyond the demand: less than the share would do, by less than the least charge
+pub promised-by-less : (l : CallList) (asked : ℕ) → shareOf (l .link) < asked + leastCharge → LinkCondition asked (eventsOf l) → Promised queueCount (eventsOf l)
+promised-by-less l asked slack = promises lastPlace (shareOf (l .link)) asked (eventsOf l) (omega arith) slack (run l)
+
+-- and a frame is sent before the tick that its reply tells
 pub sent-as-replied : (l : CallList) → LinkHolds l → SentByReply (eventsOf l)
 sent-as-replied l link =
     sent-by-reply lastPlace (shareOf (l .link)) emptyView (eventsOf l) (omega arith) (run l) (empty-sound lastPlace (shareOf (l .link)) (omega arith))
@@ -165,6 +170,6 @@ pub quick-events : (l : CallList) → events quicklyCalled (opening (l .link) (l
 quick-events l =
     let c = opening (l .link) (l .delay) in
     let same = quick-call c (l .port) (l .memory) (fit (l .port) (l .memory) (l .link) (l .delay) (l .opened)) in
-    ap (λ (o : Outcome). withFirst [] c o o (happened quicklyCalled (first l) (l .later) (o .port) (o .memory) (o .memory))) same
-    ∙ ap (withFirst [] c (opened l) (opened l))
+    ap (λ (o : Outcome). event [] c o o ∷ happened quicklyCalled (first l) (l .later) (o .port) (o .memory) (o .memory)) same
+    ∙ ap (λ (es : List Event). event [] c (opened l) (opened l) ∷ es)
     (quick-plays (l .link) (l .later) (first l) (opened l .port) (opened l .memory) (opened l .memory) emptyView [] (opened-holds l) (opened-sound l) (omega arith, refl))

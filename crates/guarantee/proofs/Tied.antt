@@ -44,9 +44,9 @@ module _ (all : List Call) (kind : Marked → Sent) where
         real = h .real;
         shown = h .shown;
         known =
-        all-map (Known all kind) (Known (all ++ (c ∷ [])) kind) fs
-        (λ f k. (omega (arith, k .0, length-append all (c ∷ [])), ap (broughtBy (f .number)) (getD-before all c ticking (f .number) (k .0)) ∙ k .1))
-        (h .known);
+            all-map (Known all kind) (Known (all ++ (c ∷ [])) kind) fs
+            (λ f k. (omega (arith, k .0, length-append all (c ∷ [])), ap (broughtBy (f .number)) (getD-before all c ticking (f .number) (k .0)) ∙ k .1))
+            (h .known);
       }
 
   -- a frame joins

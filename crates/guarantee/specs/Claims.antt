@@ -83,14 +83,14 @@ abbrev pub SentBefore : ℕ → Marked → List Event → Type 0
 SentBefore number f es =
     (between after : List Event) (u : Event) → es ≡ between ++ (u ∷ after) → Tick u → ticks between + 1 ≡ number → Some (Sends f) between
 
--- "every accepted reserved frame is sent before the fourth tick after it"; "Accepted is a reply without refusal"
+-- "every accepted reserved frame is sent before the fourth tick after it"; accepted "is a reply without refusal"
 abbrev pub AllSentBefore : ℕ → List Event → Type 0
 AllSentBefore number es =
     (before after : List Event) (e : Event) (s charge tag : ℕ) → es ≡ before ++ (e ∷ after)
     → e .call ≡ arriving s charge tag → e .reply .refusal ≡ 0
     → SentBefore number (record { stream = s; charge = charge; tag = tag; number = length before }) after
 
--- beyond the demand: sent before the tick after the last one for which the queue that the reply names can wait
+-- beyond the demand: a frame whose reply names queue k is sent before tick k + 1 after it
 abbrev pub SentByReply : List Event → Type 0
 SentByReply es =
     (before after : List Event) (e : Event) (s charge tag : ℕ) → es ≡ before ++ (e ∷ after)
@@ -109,7 +109,8 @@ offer s (joiningBestEffort charge tag) = 0
 abbrev pub offers : ℕ → List Event → ℕ
 offers s = sumOf (λ e. offer s (e .call))
 
--- "a stream that never offers more than its permitted octets between ticks": in no stretch without a tick
+-- "a stream that never offers more than its permitted octets between ticks", "also before the first tick and after the last": in no stretch without a
+-- tick
 abbrev pub OffersWithin : ℕ → ℕ → List Event → Type 0
 OffersWithin s permitted es =
     (before between after : List Event) → es ≡ before ++ (between ++ after) → All NoTick between → offers s between ≤ permitted
@@ -118,7 +119,8 @@ OffersWithin s permitted es =
 abbrev pub Prompt : Marked → Event → List Event → Type 0
 Prompt f e after = (e .reply .refusal ≡ 0) × ((e .reply .first ≡ currentPlace) × SentBefore 2 f after)
 
--- the stream's offers are within P from its grant on for as long as `while` lasts; each frame that it offers meanwhile is prompt
+-- the stream's offers are within P from its grant on for as long as `while` lasts, and each frame that it offers meanwhile is prompt; a stream that
+-- never offers more is the case of an empty `rest`
 abbrev pub ConformingPrompt : List Event → Type 0
 ConformingPrompt es =
     (s permitted : ℕ) (before while rest : List Event) (g : Event) → es ≡ before ++ (g ∷ (while ++ rest))
@@ -164,6 +166,6 @@ answers s (e ∷ es) = cond (isArriveOf s (e .call)) (e .reply ∷ answers s es)
 abbrev pub Alike : ℕ → List Event → List Event → Type 0
 Alike s es fs = remaining s es ≡ remaining s fs → grants s es ≡ grants s fs → answers s es ≡ answers s fs
 
--- "20 [..] (never met in a list from opening)", nor are 18 and 19
+-- the refusals that a host brings about: "20 [..] (never met in a list from opening)", nor are 18 and 19
 abbrev pub NotByHost : Event → Type 0
 NotByHost e = (e .reply .refusal ≡ 18 → ⊥) × ((e .reply .refusal ≡ 19 → ⊥) × (e .reply .refusal ≡ 20 → ⊥))

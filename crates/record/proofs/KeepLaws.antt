@@ -1,6 +1,6 @@
 -- What every write keeps but those of open, K, L and the bindings: the record's length, whether the port is open, K and L, and the bindings. Assumes nothing.
 use Prim.Native.Nat.{ℕ, _+_, _-_, _<_}
-use mathlib.Core.Path.{_≡_, ap, _∙_}
+use mathlib.Core.Path.{_≡_, refl, ap, _∙_}
 use mathlib.Core.List.{List, [], _∷_}
 use native.Mathlib.Omega.{arith}
 use lib.ListN.{length}
@@ -22,6 +22,10 @@ pub record Keeps (l k : List ℕ) : Type 0 where
   pub bound : (s : ℕ) → boundAt k s ≡ boundAt l s
   pub vid : (s : ℕ) → vidAt k s ≡ vidAt l s
   pub pair : (s : ℕ) → pairAt k s ≡ pairAt l s
+
+-- no change at all
+pub keeps-same : (l : List ℕ) → Keeps l l
+keeps-same l = record { long = refl; opened = refl; delay = refl; link = refl; bound = λ s. refl; vid = λ s. refl; pair = λ s. refl }
 
 -- one change after another
 pub keeps-both : (j k l : List ℕ) → Keeps j k → Keeps k l → Keeps j l
