@@ -52,7 +52,7 @@ enum bunnysolder_refusal {
     BUNNYSOLDER_LIMIT_EXCEEDED = 16,   /* W, with the charge in it, would be above K x (L - R) */
     BUNNYSOLDER_SHORT_MEMORY = 18,     /* the memory is shorter than BUNNYSOLDER_MEMORY_LENGTH */
     BUNNYSOLDER_UNFIT_RECORD = 19,     /* the record is unfit, or shorter than BUNNYSOLDER_RECORD_LENGTH */
-    BUNNYSOLDER_QUEUE_FULL = 20        /* the chosen queue holds 256 frames; by document 01 never met in a list from opening */
+    BUNNYSOLDER_QUEUE_FULL = 20        /* the chosen queue holds 256 frames; never met from a granted Open on, while nobody else writes */
 };
 
 /* The first reply number of Arrive: the queue that the frame has joined. */

@@ -1,5 +1,5 @@
-// The calls of a port, over the record and the memory that the host lends: Open, Reserve, Arrive, Tick and Transmit, each with all of document
-// 01's checks. None asks anything of its caller. The definitions are in specs/.
+// The calls of a port, over the record and the memory that the host lends: Open, Reserve, Arrive, Tick, Transmit and Best effort, each with all of
+// document 01's checks. None asks anything of its caller. The definitions are in specs/.
 pub mod quick;
 
 use stream::Reply;
