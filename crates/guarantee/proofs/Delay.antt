@@ -18,8 +18,9 @@ use Rattle.stream.specs.Replies.{granted, replyOf}
 use Rattle.stream.proofs.FitLaws.{joins-onward, joins-within}
 use Rattle.port_laws.specs.Lists.{Call, arriving}
 use Rattle.guarantee.specs.Events.{Marked, Sent, reserved, Event}
-use Rattle.guarantee.specs.Claims.{isTick, Tick, PurgesNothing, ticks as ticksOf, Sends, SentBefore, AllSentBefore, SentByReply}
+use Rattle.guarantee.specs.Claims.{isTick, Tick, PurgesNothing, ticks as ticksOf, Sends, SentBefore, AllSentBefore}
 use Rattle.lists.proofs.EachLaws.{differ, all-rest, some-before, some-last}
+use Rattle.guarantee.specs.Beyond.{SentByReply}
 use Rattle.guarantee.proofs.Run.{View, queueAfter, Ticks, Effect, quiet, refuses-reservation, reserves, refuses-arrival, arrives, ticks, sends, idles, Run}
 use Rattle.guarantee.proofs.Room.{Sound, stays-sound}
 use Rattle.guarantee.proofs.Purge.{tick-effect}

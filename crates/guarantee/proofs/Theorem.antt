@@ -29,8 +29,9 @@ use Rattle.port_laws.proofs.QuickLaws.{quick-call}
 use Rattle.port_laws.proofs.StayLaws.{let-through, stays-fit}
 use Rattle.port_laws.proofs.OpenLaws.{opened-open, opened-link, opened-queue, opened-stream}
 use Rattle.guarantee.specs.Events.{reserved, bestEffort as sentBestEffort, Event, happened, events}
-use Rattle.guarantee.specs.Claims.{LinkCondition, SentByReply}
+use Rattle.guarantee.specs.Claims.{LinkCondition}
 use Rattle.guarantee.specs.Demand3.{CallList, eventsOf, LinkHolds, Promised, Demand3}
+use Rattle.guarantee.specs.Beyond.{SentByReply}
 use Rattle.guarantee.proofs.Run.{View, free, octets, quiet, Run}
 use Rattle.guarantee.proofs.Room.{Sound}
 use Rattle.guarantee.proofs.CallLaws.{no-transmit}

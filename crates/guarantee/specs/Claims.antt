@@ -90,13 +90,6 @@ AllSentBefore number es =
     → e .call ≡ arriving s charge tag → e .reply .refusal ≡ 0
     → SentBefore number (record { stream = s; charge = charge; tag = tag; number = length before }) after
 
--- beyond the demand: a frame whose reply names queue k is sent before tick k + 1 after it
-abbrev pub SentByReply : List Event → Type 0
-SentByReply es =
-    (before after : List Event) (e : Event) (s charge tag : ℕ) → es ≡ before ++ (e ∷ after)
-    → e .call ≡ arriving s charge tag → e .reply .refusal ≡ 0
-    → SentBefore (e .reply .first + 1) (record { stream = s; charge = charge; tag = tag; number = length before }) after
-
 -- a stream's offers: its arrivals "of a charge from 84 to 1,542"
 abbrev pub offer : ℕ → Call → ℕ
 offer s (opening link delay) = 0

@@ -1,4 +1,5 @@
--- What demand 3 says of a list of calls.
+-- What demand 3 says of a list of calls, and what is proved beyond it.
 pub mod Events
 pub mod Claims
 pub mod Demand3
+pub mod Beyond
