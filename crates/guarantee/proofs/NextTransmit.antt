@@ -37,7 +37,7 @@ use Rattle.guarantee.proofs.BestEffortWritten.{written, written-keeps, 
 use Rattle.guarantee.proofs.Held.{Holds, inRole, role-kept, same-seen}
 use Rattle.guarantee.proofs.Next.{Next, unmoved, by-gate}
 
--- a frame of best effort is no reserved frame, and none is none
+-- a frame of best effort is no reserved frame, nor is none
 not-reserved : (f g : Marked) → bestEffortFrame f ≡ reserved g → ⊥
 not-reserved f g e = let z : _≡_ {A = ℕ} 0 1 = cc in omega arith
 

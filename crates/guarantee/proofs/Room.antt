@@ -48,7 +48,7 @@ pub octets-most : (last share : ℕ) (v : View) → Sound last share v → (k : 
 octets-most last share v h k =
     omega (arith, h .room k, h .within-share, sumTo-le (λ s. used k (v .stream s)) (λ s. v .stream s .permitted) streamCount (λ s. used-most k (v .stream s)))
 
--- frames that are charged weigh something
+-- so many frames are at least so many least charges
 pub charged-length : (fs : List Marked) → All Charged fs → leastCharge * length fs ≤ octets fs
 charged-length [] h = omega arith
 charged-length (f ∷ fs) h = omega (arith, h .0, charged-length fs (h .1))
