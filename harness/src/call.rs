@@ -3,7 +3,7 @@
 use std::fmt;
 
 /// A call with its arguments: numbers are unsigned 32-bit, a stream is an octet.
-#[derive(Clone, Copy, Debug, PartialEq, Eq)]
+#[derive(Clone, Copy, Debug, PartialEq, Eq, Hash)]
 pub enum Call {
     Open { link: u32, delay: u32 },
     Reserve { stream: u8, permitted: u32 },

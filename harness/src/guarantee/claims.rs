@@ -1,10 +1,14 @@
-//! One list held against demand 3, from its events alone. The numbers of document 01 stand here as numbers, not as the model's.
+//! One list held against demand 3, and against two claims that say more, from its events alone: a frame is sent as early as the queue of its reply
+//! promises, and a stream's frames are current for as long as it offers no more than P. The numbers of document 01 stand here as numbers, not
+//! as the model's.
 
+use std::collections::HashMap;
 use std::ops::RangeInclusive;
 
 use crate::call::{Call, Reply};
-use crate::guarantee::found::{Broken, Found, Link};
+use crate::guarantee::found::{Broken, Found, Link, Prompt};
 use crate::guarantee::list::Event;
+use crate::layout;
 
 /// "A charge is 84 to 1,542."
 const CHARGES: RangeInclusive<u32> = 84..=1_542;
@@ -15,6 +19,10 @@ const BEST_EFFORT: u32 = 255;
 const NOTHING: u32 = 254;
 /// "as current" is a reply "whose first number is 1".
 const AS_CURRENT: u32 = 1;
+/// "queue joined (1 current, 2 next, 3 last)".
+const QUEUES_JOINED: RangeInclusive<u32> = 1..=3;
+/// Why a frame is to be current and sent soon, in the words of a report.
+const CONFORMED: &str = "though its stream had not offered more than P up to it";
 /// The refusals that no list from an opening meets.
 const NEVER_MET: [u8; 3] = [18, 19, 20];
 /// "No tick purges" means that every tick is granted and replies two zeros.
@@ -32,15 +40,17 @@ struct Told<'a> {
     sent_at: Vec<Option<usize>>,
 }
 
-/// What demand 3 claims of every list: what was found in this one, or how it breaks the claim.
+/// What is claimed of every list: what was found in this one, or how it breaks the claim.
 pub fn check(events: &[Event]) -> Result<Found, Broken> {
     let told = Told::of(events)?;
     let mut found = Found::with(told.link());
     found.purging = told.ticks.iter().filter(|&&tick| events[tick].reply != PURGES_NOTHING).count() as u64;
+    found.twins = told.twins();
     if found.link != Link::Failed {
         told.no_tick_purges()?;
         told.accepted_are_sent(&mut found)?;
         told.conforming_are_current(&mut found)?;
+        told.accepted_are_sent_as_replied(&mut found)?;
     }
     Ok(found)
 }
@@ -50,11 +60,19 @@ fn broken<T>(call: usize, words: &str) -> Result<T, Broken> {
     Err(Broken { call, words: words.into() })
 }
 
-/// The call whose frame a call sends, by the marked play; the other play's reply is that frame's stream and tag.
+/// Whether a call brought a reserved frame that was accepted.
+fn is_accepted(event: &Event) -> bool {
+    matches!(event.call, Call::Arrive { .. }) && event.reply.refusal == 0
+}
+
+/// The call whose frame a call sends, by the marked play; the other play's reply is that frame's stream and tag, and its record is the same.
 fn frame_sent(events: &[Event], number: usize) -> Result<Option<usize>, Broken> {
-    let Event { call, reply, marked } = events[number];
+    let Event { call, reply, marked, apart } = events[number];
     if NEVER_MET.contains(&reply.refusal) {
         return broken(number, "a refusal that no list from an opening meets");
+    }
+    if let Some(octet) = apart {
+        return broken(number, &format!("octet {octet} of the record, {}, is another where tags are", layout::record_field(octet)));
     }
     if call != Call::Transmit || reply.refusal != 0 || reply.first == NOTHING {
         return if reply == marked { Ok(None) } else { broken(number, "the reply is another where tags are") };
@@ -124,6 +142,16 @@ impl<'a> Told<'a> {
         }
     }
 
+    /// How many reserved frames were sent while another waited that differs from them in nothing but its mark, and was sent later.
+    fn twins(&self) -> u64 {
+        let mut sent: HashMap<Call, Vec<(usize, usize)>> = HashMap::new();
+        for (transmit, frame) in self.sends.iter().enumerate().rev() {
+            let Some(frame) = frame.filter(|&frame| is_accepted(&self.events[frame])) else { continue };
+            sent.entry(self.events[frame].call).or_default().push((transmit, frame));
+        }
+        sent.values().map(|sent| sent_beside_another(sent)).sum()
+    }
+
     /// The number of the tick that is so many ticks after a call, where the list reaches it.
     fn tick_after(&self, number: usize, ticks: usize) -> Option<usize> {
         let before = self.ticks.partition_point(|&tick| tick < number);
@@ -146,8 +174,7 @@ impl<'a> Told<'a> {
 
     /// "every accepted reserved frame is sent before the fourth tick after it".
     fn accepted_are_sent(&self, found: &mut Found) -> Result<(), Broken> {
-        let accepted = |event: &Event| matches!(event.call, Call::Arrive { .. }) && event.reply.refusal == 0;
-        for number in (0..self.events.len()).filter(|&number| accepted(&self.events[number])) {
+        for number in (0..self.events.len()).filter(|&number| is_accepted(&self.events[number])) {
             match self.sent_before(number, 4) {
                 Some(true) => found.sent_in_time += 1,
                 Some(false) => return broken(number, "its frame is not sent before the fourth tick after it"),
@@ -158,17 +185,40 @@ impl<'a> Told<'a> {
         Ok(())
     }
 
+    /// Beyond the demand: each accepted frame is sent as early as the queue of its reply promises.
+    fn accepted_are_sent_as_replied(&self, found: &mut Found) -> Result<(), Broken> {
+        let mut accepted = (0..self.events.len()).filter(|&number| is_accepted(&self.events[number]));
+        accepted.try_for_each(|number| self.sent_as_replied(number, found))
+    }
+
+    /// An accepted frame whose reply says queue k is sent before tick k + 1 after it.
+    fn sent_as_replied(&self, number: usize, found: &mut Found) -> Result<(), Broken> {
+        let queue = self.events[number].reply.first;
+        if !QUEUES_JOINED.contains(&queue) {
+            return broken(number, &format!("it replies queue {queue}, which no arrival joins"));
+        }
+        let waits = queue as usize;
+        match self.sent_before(number, waits + 1) {
+            Some(true) => found.sent_as_replied[waits - 1] += 1,
+            Some(false) => {
+                return broken(number, &format!("its frame joined queue {queue}, and is not sent before tick {} after it", waits + 1))
+            }
+            None => return Ok(()),
+        }
+        found.sent_as_replied_late += u64::from(self.sent_before(number, waits) == Some(false));
+        Ok(())
+    }
+
     /// "a stream that never offers more than its permitted octets between ticks has each frame accepted as current and sent before the second
-    /// tick after it".
+    /// tick after it"; so has every stream for as long as its offers are no more than that.
     fn conforming_are_current(&self, found: &mut Found) -> Result<(), Broken> {
         for (grant, event) in self.events.iter().enumerate() {
             let (Call::Reserve { stream, permitted }, 0) = (event.call, event.reply.refusal) else { continue };
             let offers = self.offers(stream, grant);
-            if !self.conforms(&offers, permitted) {
-                continue;
-            }
-            for (number, _) in offers {
-                self.current_and_sent(number, found)?;
+            let within = self.within(&offers, permitted);
+            let counts = if within == offers.len() { &mut found.conforming } else { &mut found.beginning };
+            for (number, _) in &offers[..within] {
+                self.current_and_sent(*number, counts)?;
             }
         }
         Ok(())
@@ -183,28 +233,43 @@ impl<'a> Told<'a> {
         (grant..self.events.len()).filter_map(offer).collect()
     }
 
-    /// Whether offers are at most P in every stretch without a tick, "also before the first tick and after the last".
-    fn conforms(&self, offers: &[(usize, u32)], permitted: u32) -> bool {
-        let stretch = |number: usize| self.ticks.partition_point(|&tick| tick < number);
-        let same = |one: &(usize, u32), other: &(usize, u32)| stretch(one.0) == stretch(other.0);
-        offers.chunk_by(same).all(|offers| offers.iter().map(|(_, charge)| u64::from(*charge)).sum::<u64>() <= u64::from(permitted))
+    /// How many of the offers come before the first that makes them more than P in a stretch without a tick, "also before the first tick and
+    /// after the last".
+    fn within(&self, offers: &[(usize, u32)], permitted: u32) -> usize {
+        let (mut stretch, mut offered) = (0, 0);
+        let breaks = |&(number, charge): &(usize, u32)| {
+            let ticks = self.ticks.partition_point(|&tick| tick < number);
+            offered = u64::from(charge) + if ticks == stretch { offered } else { 0 };
+            stretch = ticks;
+            offered > u64::from(permitted)
+        };
+        offers.iter().position(breaks).unwrap_or(offers.len())
     }
 
-    /// The frame of a conforming stream's arrival is accepted as current, and sent before the second tick after it.
-    fn current_and_sent(&self, number: usize, found: &mut Found) -> Result<(), Broken> {
+    /// The frame of an arrival up to which its stream conforms is accepted as current, and sent before the second tick after it.
+    fn current_and_sent(&self, number: usize, counts: &mut Prompt) -> Result<(), Broken> {
         let reply = self.events[number].reply;
         if (reply.refusal, reply.first) != (0, AS_CURRENT) {
-            return broken(number, &format!("it replies {reply} though its stream never offered more than P"));
+            return broken(number, &format!("it replies {reply}, {CONFORMED}"));
         }
-        found.conforming += 1;
+        counts.current += 1;
         match self.sent_before(number, 2) {
-            Some(true) => found.conforming_sent += 1,
-            Some(false) => {
-                return broken(number, "its frame is not sent before the second tick after it, though its stream never offered more than P")
-            }
+            Some(true) => counts.sent += 1,
+            Some(false) => return broken(number, &format!("its frame is not sent before the second tick after it, {CONFORMED}")),
             None => return Ok(()),
         }
-        found.conforming_after_first += u64::from(self.sent_before(number, 1) == Some(false));
+        counts.after_first += u64::from(self.sent_before(number, 1) == Some(false));
         Ok(())
     }
+}
+
+/// How many of some frames, each with the call that sent it and the call that brought it, the last sent first, were sent while another waited.
+fn sent_beside_another(sent: &[(usize, usize)]) -> u64 {
+    let mut earliest = usize::MAX;
+    let mut count = 0;
+    for &(transmit, frame) in sent {
+        count += u64::from(earliest < transmit);
+        earliest = earliest.min(frame);
+    }
+    count
 }

@@ -30,20 +30,70 @@ pub struct Found {
     pub link: Link,
     /// Ticks that purged a frame, or were refused.
     pub purging: u64,
+    /// Reserved frames that were sent while another waited that differs from them in nothing but its mark.
+    pub twins: u64,
     /// Accepted reserved frames that were sent before the fourth tick after them, and those of them that were not before the third.
     pub sent_in_time: u64,
     pub sent_after_third: u64,
-    /// Arrivals of streams that never offer more than P, all accepted as current; those that were sent before the second tick after them, and
-    /// those of these that were not before the first.
-    pub conforming: u64,
-    pub conforming_sent: u64,
-    pub conforming_after_first: u64,
+    /// Accepted reserved frames that were sent before the tick after the last one for which the queue of their reply can wait: those accepted as
+    /// current, as next and as last, and those of all these that were sent after the tick before.
+    pub sent_as_replied: [u64; 3],
+    pub sent_as_replied_late: u64,
+    /// The arrivals of streams that never offer more than P.
+    pub conforming: Prompt,
+    /// The arrivals of other streams before the first that makes their offers more than P.
+    pub beginning: Prompt,
+}
+
+/// Arrivals that were accepted as current; those of them that were sent before the second tick after them, and those of these that were not
+/// before the first.
+#[derive(Clone, Copy, Debug, Default, PartialEq, Eq)]
+pub struct Prompt {
+    pub current: u64,
+    pub sent: u64,
+    pub after_first: u64,
 }
 
 impl Found {
     /// Nothing found yet.
     pub fn with(link: Link) -> Found {
-        Found { link, purging: 0, sent_in_time: 0, sent_after_third: 0, conforming: 0, conforming_sent: 0, conforming_after_first: 0 }
+        let (conforming, beginning) = (Prompt::default(), Prompt::default());
+        let (sent_as_replied, sent_as_replied_late) = ([0; 3], 0);
+        Found {
+            link,
+            purging: 0,
+            twins: 0,
+            sent_in_time: 0,
+            sent_after_third: 0,
+            sent_as_replied,
+            sent_as_replied_late,
+            conforming,
+            beginning,
+        }
+    }
+
+    /// The counts by what they show.
+    pub fn shown(&self) -> [(Shown, u64); 17] {
+        let [as_current, as_next, as_last] = self.sent_as_replied;
+        [
+            (Shown::Link(self.link), 1),
+            (Shown::Purging, self.purging),
+            (Shown::TwinsList, u64::from(self.twins > 0)),
+            (Shown::Twin, self.twins),
+            (Shown::SentInTime, self.sent_in_time),
+            (Shown::SentAfterThird, self.sent_after_third),
+            (Shown::SentAsCurrent, as_current),
+            (Shown::SentAsNext, as_next),
+            (Shown::SentAsLast, as_last),
+            (Shown::SentAsRepliedLate, self.sent_as_replied_late),
+            (Shown::Conforming, self.conforming.current),
+            (Shown::ConformingSent, self.conforming.sent),
+            (Shown::ConformingAfterFirst, self.conforming.after_first),
+            (Shown::BeginningList, u64::from(self.beginning.current > 0)),
+            (Shown::Beginning, self.beginning.current),
+            (Shown::BeginningSent, self.beginning.sent),
+            (Shown::BeginningAfterFirst, self.beginning.after_first),
+        ]
     }
 }
 
@@ -54,16 +104,36 @@ pub enum Shown {
     Link(Link),
     /// A tick that purged a frame, or was refused.
     Purging,
+    /// A list with such a frame as the next.
+    TwinsList,
+    /// A reserved frame that was sent while another waited that differs from it in nothing but its mark.
+    Twin,
     /// An accepted frame that was sent before the fourth tick after it.
     SentInTime,
     /// One of these that was not sent before the third.
     SentAfterThird,
+    /// A frame that was accepted as current and sent before the second tick after it.
+    SentAsCurrent,
+    /// A frame that was accepted as next and sent before the third tick after it.
+    SentAsNext,
+    /// A frame that was accepted as last and sent before the fourth tick after it.
+    SentAsLast,
+    /// One of these three that was not sent before the tick before that.
+    SentAsRepliedLate,
     /// An arrival, accepted as current, of a stream that never offers more than P.
     Conforming,
     /// One of these that was sent before the second tick after it.
     ConformingSent,
     /// One of these that was not sent before the first.
     ConformingAfterFirst,
+    /// A list with such an arrival as the next.
+    BeginningList,
+    /// An arrival, accepted as current, of a stream that did not offer more than P up to it, and later does.
+    Beginning,
+    /// One of these that was sent before the second tick after it.
+    BeginningSent,
+    /// One of these that was not sent before the first.
+    BeginningAfterFirst,
     /// Two lists alike in ticks, in one stream's own calls and in which of its reservations are granted.
     Pair,
     /// Two lists alike in ticks and one stream's own calls, but not in which of its reservations are granted.
@@ -81,11 +151,21 @@ impl fmt::Display for Shown {
             Shown::Link(Link::ByBoth) => "link condition met by both",
             Shown::Link(Link::Failed) => "link condition failed",
             Shown::Purging => "ticks that purged",
+            Shown::TwinsList => "lists with frames that marks alone tell apart",
+            Shown::Twin => "such frames sent",
             Shown::SentInTime => "accepted frames sent before the 4th tick",
             Shown::SentAfterThird => "of these not before the 3rd",
-            Shown::Conforming => "conforming arrivals accepted as current",
+            Shown::SentAsCurrent => "accepted as current and sent before the 2nd tick",
+            Shown::SentAsNext => "as next and before the 3rd",
+            Shown::SentAsLast => "as last and before the 4th",
+            Shown::SentAsRepliedLate => "of these three not before the tick before",
+            Shown::Conforming => "arrivals of streams that conform to the end accepted as current",
             Shown::ConformingSent => "of these sent before the 2nd tick",
             Shown::ConformingAfterFirst => "of these not before the 1st",
+            Shown::BeginningList => "lists with streams that conform for a while",
+            Shown::Beginning => "their arrivals until then accepted as current",
+            Shown::BeginningSent => "of these sent before the 2nd tick",
+            Shown::BeginningAfterFirst => "of these not before the 1st",
             Shown::Pair => "pairs of lists",
             Shown::PairApart => "pairs apart in grants",
             Shown::ArrivalCompared => "arrivals compared",

@@ -5,12 +5,13 @@ use crate::call::{Call, Reply};
 use crate::comparing::fit::Octets;
 use crate::comparing::sides::Play;
 
-/// A call of a list, its reply, and its reply in the marked play.
+/// A call of a list, its reply, its reply in the marked play, and the first octet, if any, in which the plays' records differ after it.
 #[derive(Clone, Copy, Debug, PartialEq, Eq)]
 pub struct Event {
     pub call: Call,
     pub reply: Reply,
     pub marked: Reply,
+    pub apart: Option<usize>,
 }
 
 /// A list that is being played, each play on a record and memory of its own.
@@ -32,7 +33,7 @@ impl Playing {
         let number = self.events.len() as u32;
         let reply = (self.play)(&call, &mut self.plain.record, &mut self.plain.memory);
         let marked = (self.play)(&with_tag(call, number), &mut self.marked.record, &mut self.marked.memory);
-        let event = Event { call, reply, marked };
+        let event = Event { call, reply, marked, apart: first_apart(&self.plain.record, &self.marked.record) };
         self.events.push(event);
         event
     }
@@ -41,6 +42,14 @@ impl Playing {
     pub fn octets(&self) -> &Octets {
         &self.plain
     }
+}
+
+/// The first octet in which two records differ.
+fn first_apart(one: &[u8], other: &[u8]) -> Option<usize> {
+    if one == other {
+        return None;
+    }
+    one.iter().zip(other).position(|(one, other)| one != other)
 }
 
 /// The call with another tag, where it has one.

@@ -1,14 +1,19 @@
 //! The checkers' own tests: lists with replies that no port need ever have given, each of which breaks one claim, or just does not.
 
 use crate::call::{Call, Reply};
-use crate::guarantee::found::{Found, Link};
-use crate::guarantee::list::Event;
+use crate::comparing::fit::Octets;
+use crate::guarantee::found::{Found, Link, Prompt};
+use crate::guarantee::list::{Event, Playing};
 use crate::guarantee::{claims, pairs};
+use crate::model;
 
 /// The stream of these tests, and the share at the L that they open with.
 const STREAM: u8 = 5;
 const LINK: u32 = 2_142;
 const SHARE: u32 = 600;
+
+/// The words about a frame that a stream is promised for as long as it conforms.
+const CONFORMED: &str = "though its stream had not offered more than P up to it";
 
 /// A list that is written by hand.
 struct Hand {
@@ -32,7 +37,12 @@ impl Hand {
 
     /// A call with its reply, the same in both plays; its number.
     fn put(&mut self, call: Call, reply: Reply) -> usize {
-        self.events.push(Event { call, reply, marked: reply });
+        self.put_marked(call, reply, reply)
+    }
+
+    /// A call with its reply in each play, both with the same record after it; its number.
+    fn put_marked(&mut self, call: Call, reply: Reply, marked: Reply) -> usize {
+        self.events.push(Event { call, reply, marked, apart: None });
         self.events.len() - 1
     }
 
@@ -48,8 +58,7 @@ impl Hand {
 
     /// A Transmit that sends the frame of a call.
     fn send(&mut self, frame: usize) {
-        let (reply, marked) = (Reply::granted(STREAM.into(), 7), Reply::granted(STREAM.into(), frame as u32));
-        self.events.push(Event { call: Call::Transmit, reply, marked });
+        self.put_marked(Call::Transmit, Reply::granted(STREAM.into(), 7), Reply::granted(STREAM.into(), frame as u32));
     }
 
     /// A Transmit that sends nothing.
@@ -75,6 +84,11 @@ impl Hand {
         claims::check(&self.events).map_err(|broken| broken.call)
     }
 
+    /// The words about the call that breaks the claim.
+    fn words(&self) -> String {
+        claims::check(&self.events).expect_err("the list breaks a claim").words
+    }
+
     /// How the list meets the link condition.
     fn link(&self) -> Link {
         self.check().expect("the list keeps the claim").link
@@ -88,7 +102,8 @@ fn list_begins_with_a_granted_open() {
     let mut hand = Hand::opened();
     hand.events[0].reply = Reply::refused(2);
     assert_eq!(hand.check(), Err(0));
-    hand.events[0] = Event { call: Call::Tick, reply: Reply::granted(0, 0), marked: Reply::granted(0, 0) };
+    hand.events[0].call = Call::Tick;
+    hand.events[0].reply = Reply::granted(0, 0);
     assert_eq!(hand.check(), Err(0));
 }
 
@@ -117,6 +132,55 @@ fn replies_do_not_depend_on_tags() {
     assert_eq!(hand.check(), Err(1));
 }
 
+/// The two plays leave the same record.
+#[test]
+fn records_do_not_depend_on_tags() {
+    let mut hand = Hand::reserved(200);
+    let number = hand.current(84);
+    assert!(hand.check().is_ok());
+    for (octet, field) in [(1, "prior"), (12, "spare"), (64, "reserved mark of stream 0")] {
+        hand.events[number].apart = Some(octet);
+        assert_eq!(hand.check(), Err(number));
+        assert_eq!(hand.words(), format!("octet {octet} of the record, {field}, is another where tags are"));
+    }
+}
+
+/// A play that compares the records sees where a port's record has something of a tag.
+#[test]
+fn plays_are_compared() {
+    let calls = [Call::Open { link: LINK, delay: 1 }, Call::BestEffort { charge: 84, tag: 7 }, Call::Tick];
+    let apart = |play| {
+        let mut playing = Playing::new(play, &Octets::zero());
+        calls.map(|call| playing.call(call).apart)
+    };
+    assert_eq!(apart(model::call), [None; 3]);
+    assert_eq!(apart(keeps_the_tag), [None, Some(12), Some(12)]);
+}
+
+/// A port that keeps an octet of the tag in a spare octet of its record.
+fn keeps_the_tag(call: &Call, record: &mut [u8], memory: &mut [u8]) -> Reply {
+    if let Call::BestEffort { tag, .. } = *call {
+        record[12] = tag as u8;
+    }
+    model::call(call, record, memory)
+}
+
+/// A frame that is sent beside another which marks alone tell from it counts, in whatever order the two are sent.
+#[test]
+fn frames_that_marks_alone_tell_apart() {
+    for (other, second_first, twins) in [(84, false, 1), (84, true, 1), (85, false, 0)] {
+        let mut hand = Hand::reserved(200);
+        let frames = [hand.current(84), hand.current(other)];
+        hand.send(frames[usize::from(second_first)]);
+        assert_eq!(hand.check().map(|found| found.twins), Ok(0));
+        hand.send(frames[usize::from(!second_first)]);
+        assert_eq!(hand.check().map(|found| found.twins), Ok(twins));
+        let later = hand.current(other);
+        hand.send(later);
+        assert_eq!(hand.check().map(|found| found.twins), Ok(twins));
+    }
+}
+
 /// A frame that is sent was accepted before, has its stream and tag, and is sent once.
 #[test]
 fn frames_sent_are_accepted_ones() {
@@ -133,7 +197,8 @@ fn frames_sent_are_accepted_ones() {
     }
     for (reply, marked) in [((6, 7), (6, 2)), ((5, 8), (5, 2)), ((5, 7), (6, 2)), ((255, 7), (255, 2))] {
         let (reply, marked) = (Reply::granted(reply.0, reply.1), Reply::granted(marked.0, marked.1));
-        hand.events[4] = Event { call: Call::Transmit, reply, marked };
+        hand.events.truncate(4);
+        hand.put_marked(Call::Transmit, reply, marked);
         assert_eq!(hand.check(), Err(4));
     }
 }
@@ -161,8 +226,7 @@ fn link_condition_by_idle_transmits() {
     let effort = hand.put(Call::BestEffort { charge: 84, tag: 7 }, Reply::granted(84, 0));
     hand.tick();
     assert_eq!(hand.link(), Link::NothingToMeet);
-    let (reply, marked) = (Reply::granted(255, 7), Reply::granted(255, effort as u32));
-    hand.events.push(Event { call: Call::Transmit, reply, marked });
+    hand.put_marked(Call::Transmit, Reply::granted(255, 7), Reply::granted(255, effort as u32));
     hand.tick();
     assert_eq!(hand.link(), Link::ByIdle);
     hand.ticks(1);
@@ -205,13 +269,16 @@ fn ticks_that_purge() {
 fn accepted_frames_within_four_ticks() {
     for before in 0..=5 {
         let mut hand = Hand::reserved(100);
-        let (first, late) = (hand.current(84), hand.arrive(84, Reply::granted(2, 16)));
+        let (first, late) = (hand.current(84), hand.arrive(84, Reply::granted(3, 16)));
         hand.send(first);
         hand.ticks(before);
         hand.send(late);
         assert_eq!(hand.check().err(), (before >= 4).then_some(late));
         hand.ticks(5 - before);
-        let found = Found { sent_in_time: 2, sent_after_third: u64::from(before == 3), ..Found::with(Link::ByIdle) };
+        let after_third = u64::from(before == 3);
+        let sent = Found { sent_in_time: 2, sent_after_third: after_third, ..Found::with(Link::ByIdle) };
+        let sent = Found { sent_as_replied: [1, 0, 1], sent_as_replied_late: after_third, ..sent };
+        let found = Found { beginning: Prompt { current: 1, sent: 1, after_first: 0 }, twins: 1, ..sent };
         assert_eq!(hand.check(), if before < 4 { Ok(found) } else { Err(late) });
     }
     for ticks in 0..=5 {
@@ -219,6 +286,46 @@ fn accepted_frames_within_four_ticks() {
         let (_, unsent) = (hand.arrive(101, Reply::refused(14)), hand.arrive(84, Reply::granted(3, 16)));
         hand.ticks(ticks);
         assert_eq!(hand.check().err(), (ticks >= 4).then_some(unsent));
+        if ticks >= 4 {
+            assert_eq!(hand.words(), "its frame is not sent before the fourth tick after it");
+        }
+    }
+}
+
+/// A frame that is accepted into queue k is sent before tick k + 1 after it, where the list reaches that tick.
+#[test]
+fn accepted_frames_as_replied() {
+    for (queue, before) in (1..=3).flat_map(|queue| (0..=3).map(move |before| (queue, before))) {
+        let mut hand = Hand::reserved(84);
+        hand.arrive(85, Reply::refused(14));
+        let frame = hand.arrive(84, Reply::granted(queue, 0));
+        hand.ticks(before);
+        hand.send(frame);
+        hand.ticks(3 - before);
+        let in_time = before <= queue as usize;
+        assert_eq!(hand.check().err(), (!in_time).then_some(frame));
+        if !in_time {
+            assert_eq!(hand.words(), format!("its frame joined queue {queue}, and is not sent before tick {} after it", queue + 1));
+            continue;
+        }
+        let mut found = Found { sent_as_replied_late: u64::from(before == queue as usize && queue < 3), ..Found::with(Link::ByIdle) };
+        found.sent_as_replied[queue as usize - 1] = u64::from(queue < 3);
+        assert_eq!(hand.check(), Ok(found));
+    }
+}
+
+/// An accepted frame's reply names a queue that arrivals join; nothing is asked of it where the link condition fails.
+#[test]
+fn queues_that_arrivals_join() {
+    for queue in [0, 4, u32::MAX] {
+        let mut hand = Hand::reserved(84);
+        hand.arrive(85, Reply::refused(14));
+        let frame = hand.arrive(84, Reply::granted(queue, 0));
+        assert_eq!(hand.check(), Err(frame));
+        assert_eq!(hand.words(), format!("it replies queue {queue}, which no arrival joins"));
+        hand.tick();
+        hand.tick();
+        assert_eq!(hand.link(), Link::Failed);
     }
 }
 
@@ -231,14 +338,64 @@ fn conforming_frames_within_two_ticks() {
         hand.ticks(before);
         hand.send(frame);
         hand.ticks(3 - before);
-        let sent = Found { conforming: 1, conforming_sent: 1, ..Found::with(Link::ByIdle) };
-        let found = Found { conforming_after_first: u64::from(before == 1), ..sent };
+        let after_first = u64::from(before == 1);
+        let sent = Found { sent_as_replied: [1, 0, 0], sent_as_replied_late: after_first, ..Found::with(Link::ByIdle) };
+        let found = Found { conforming: Prompt { current: 1, sent: 1, after_first }, ..sent };
         assert_eq!(hand.check(), if before < 2 { Ok(found) } else { Err(frame) });
     }
     let mut hand = Hand::reserved(84);
     hand.current(84);
     hand.ticks(1);
-    assert_eq!(hand.check(), Ok(Found { conforming: 1, ..Found::with(Link::NothingToMeet) }));
+    assert_eq!(hand.check(), Ok(Found { conforming: current(1), ..Found::with(Link::NothingToMeet) }));
+}
+
+/// So many arrivals that are accepted as current, and for which the list ends before the second tick.
+fn current(current: u64) -> Prompt {
+    Prompt { current, ..Prompt::default() }
+}
+
+/// A stream that offers more than P at last has each frame until then accepted as current, and nothing is asked of those from then on.
+#[test]
+fn streams_that_conform_for_a_while() {
+    for stretches in 0..=2 {
+        let mut hand = Hand::reserved(168);
+        for _ in 0..stretches {
+            let (first, second) = (hand.current(84), hand.current(84));
+            hand.send(first);
+            hand.send(second);
+            hand.ticks(1);
+        }
+        let last = hand.current(100);
+        assert_eq!(hand.check().map(|found| (found.conforming.current, found.beginning.current)), Ok((2 * stretches + 1, 0)));
+        hand.arrive(84, Reply::granted(2, 84));
+        hand.arrive(169, Reply::refused(14));
+        assert_eq!(hand.check().map(|found| (found.conforming.current, found.beginning.current)), Ok((0, 2 * stretches + 1)));
+        for reply in [Reply::granted(2, 68), Reply::refused(14)] {
+            (hand.events[last].reply, hand.events[last].marked) = (reply, reply);
+            assert_eq!(hand.check(), Err(last));
+            assert_eq!(hand.words(), format!("it replies {reply}, {CONFORMED}"));
+        }
+    }
+}
+
+/// A frame that a stream offers before it offers more than P is sent before the second tick after it, where the list reaches that tick.
+#[test]
+fn beginnings_within_two_ticks() {
+    for before in 0..=3 {
+        let mut hand = Hand::reserved(84);
+        let frame = hand.current(84);
+        hand.arrive(84, Reply::refused(14));
+        hand.ticks(before);
+        hand.send(frame);
+        hand.ticks(3 - before);
+        let after_first = u64::from(before == 1);
+        let sent = Found { sent_as_replied: [1, 0, 0], sent_as_replied_late: after_first, ..Found::with(Link::ByIdle) };
+        let found = Found { beginning: Prompt { current: 1, sent: 1, after_first }, ..sent };
+        assert_eq!(hand.check(), if before < 2 { Ok(found) } else { Err(frame) });
+        if before >= 2 {
+            assert_eq!(hand.words(), format!("its frame is not sent before the second tick after it, {CONFORMED}"));
+        }
+    }
 }
 
 /// A stream conforms up to P in each stretch without a tick, before the first and after the last too, and then all its frames are current.
@@ -254,6 +411,9 @@ fn conforming_streams() {
             hand.events[other].reply = Reply::refused(14);
             hand.events[other].marked = Reply::refused(14);
             assert_eq!(hand.check().err(), conforms.then_some(other));
+            if conforms {
+                assert_eq!(hand.words(), format!("it replies {}, {CONFORMED}", Reply::refused(14)));
+            }
         }
     }
     let mut hand = Hand::reserved(84);
@@ -273,9 +433,9 @@ fn offers() {
     hand.arrive(1_543, Reply::refused(13));
     hand.put(Call::Arrive { stream: 6, charge: 84, tag: 7 }, Reply::refused(12));
     hand.current(84);
-    assert_eq!(hand.check(), Ok(Found { conforming: 1, ..Found::with(Link::NothingToMeet) }));
+    assert_eq!(hand.check(), Ok(Found { conforming: current(1), ..Found::with(Link::NothingToMeet) }));
     hand.put(Call::Reserve { stream: STREAM, permitted: 300 }, Reply::refused(6));
-    assert_eq!(hand.check(), Ok(Found { conforming: 1, ..Found::with(Link::NothingToMeet) }));
+    assert_eq!(hand.check(), Ok(Found { conforming: current(1), ..Found::with(Link::NothingToMeet) }));
 }
 
 /// Two lists that are alike give a stream's arrivals the same replies; what is not its own does not count.

@@ -36,10 +36,13 @@ pub struct Manner {
     pub links: RangeInclusive<u32>,
     /// How many streams are reserved.
     pub streams: RangeInclusive<u32>,
-    /// How many streams in a hundred never offer more than P between ticks.
+    /// How many streams in a hundred offer no more than P between ticks, and how many of these in a hundred begin at each tick to offer more.
     pub conforming: usize,
+    pub ceasing: usize,
     /// Whether every charge is the least, and every P a multiple of it.
     pub least: bool,
+    /// Whether every reserved frame has the same tag.
+    pub one_tag: bool,
     /// How many arrivals in a hundred leave nothing, or enough for a frame more, at their place.
     pub exact: usize,
     /// Whether all streams offer all that they can between any two ticks, or most of them and the others later.
@@ -61,7 +64,7 @@ struct Writer<'a> {
     /// The reserved octets sent since the last tick, and whether a transmit sent no reserved frame.
     sent: u32,
     idle: bool,
-    /// What each stream offered since the last tick, and whether it never offers more than P.
+    /// What each stream offered since the last tick, and whether it still offers no more than P.
     offered: [u32; STREAMS],
     conforming: [bool; STREAMS],
     /// Reservations that are still to come.
@@ -81,6 +84,7 @@ pub fn write(random: &mut Random, play: Play, begin: &Octets, manner: &Manner) -
         writer.stretch(manner, service);
         writer.serve(service);
         writer.tick();
+        writer.cease(manner);
     }
     writer.stretch(manner, Service::Any);
     writer.playing.events
@@ -124,11 +128,16 @@ impl<'a> Writer<'a> {
                 Some(charge) => self.sent += charge,
                 None => self.idle = true,
             },
-            Call::Arrive { stream, charge, .. } if CHARGES.contains(&charge) => {
-                self.offered[usize::from(stream) % STREAMS] += charge;
+            Call::Arrive { stream, charge, .. } if CHARGES.contains(&charge) && self.is_reserved(usize::from(stream)) => {
+                self.offered[usize::from(stream)] += charge;
             }
             _ => (),
         }
+    }
+
+    /// Whether there is such a stream and it is reserved.
+    fn is_reserved(&self, stream: usize) -> bool {
+        stream < STREAMS && layout::is_reserved(&self.playing.octets().record, stream)
     }
 
     /// The charge of the reserved frame that a Transmit sent, by its mark.
@@ -143,6 +152,13 @@ impl<'a> Writer<'a> {
     fn tick(&mut self) {
         self.call(Call::Tick);
         (self.sent, self.idle, self.offered) = (0, false, [0; STREAMS]);
+    }
+
+    /// Some of the streams that offered no more than P offer more from now on.
+    fn cease(&mut self, manner: &Manner) {
+        for conforming in &mut self.conforming {
+            *conforming = *conforming && !self.random.chance(manner.ceasing);
+        }
     }
 
     /// Reserves streams whose P's fill the share, some of them later; then asks for a frame more than is free.
@@ -209,7 +225,7 @@ impl<'a> Writer<'a> {
 
     /// The reserved streams.
     fn reserved(&self) -> Vec<usize> {
-        (0..STREAMS).filter(|&stream| layout::is_reserved(&self.playing.octets().record, stream)).collect()
+        (0..STREAMS).filter(|&stream| self.is_reserved(stream)).collect()
     }
 
     /// A number of two octets in a stream's entry.
@@ -222,7 +238,7 @@ impl<'a> Writer<'a> {
         for _ in 0..RESERVED_QUEUES * QUEUE_PLACES {
             let record = &self.playing.octets().record;
             let spent = record[layout::entry(stream) + layout::PLACE] >= LAST && self.of_stream(stream, layout::LEFT) < LEAST_CHARGE;
-            if !layout::is_reserved(record, stream) || spent || !self.offer(manner, stream) {
+            if !self.is_reserved(stream) || spent || !self.offer(manner, stream) {
                 return;
             }
         }
@@ -237,7 +253,7 @@ impl<'a> Writer<'a> {
         }
     }
 
-    /// An arrival on a stream, unless the stream never offers more than P and has done so; whether the frame was accepted.
+    /// An arrival on a stream, unless the stream offers no more than P and has done so; whether the frame was accepted.
     fn offer(&mut self, manner: &Manner, stream: usize) -> bool {
         let (left, permitted) = (self.of_stream(stream, layout::LEFT), self.of_stream(stream, layout::PERMITTED));
         let room = match self.conforming[stream] {
@@ -250,7 +266,7 @@ impl<'a> Writer<'a> {
         }
         let charge = self.charge(manner, room);
         let tag = self.random.number();
-        let tag = self.random.pick(&[0, 1, u32::MAX, tag]);
+        let tag = if manner.one_tag { 0 } else { self.random.pick(&[0, 1, u32::MAX, tag]) };
         self.call(Call::Arrive { stream: stream as u8, charge, tag });
         self.playing.events.last().is_some_and(|event| event.reply.refusal == 0)
     }
@@ -277,7 +293,7 @@ impl<'a> Writer<'a> {
     /// A call that is refused, or changes nothing that a stream can see.
     fn refused_call(&mut self) {
         let (stream, number) = (self.random.octet(), self.random.number());
-        let reserved = self.reserved().contains(&usize::from(stream));
+        let reserved = self.is_reserved(usize::from(stream));
         let call = match self.random.below(4) {
             0 => Call::Open { link: self.random.between(LINKS), delay: 1 },
             1 => Call::BestEffort { charge: number % LEAST_CHARGE, tag: number },

@@ -12,16 +12,18 @@ use crate::comparing::tests::lists::{a_closed_port, any_profile};
 use crate::guarantee::alike;
 use crate::guarantee::found::Link::{ByBoth, ByIdle, ByOctets, Failed};
 use crate::guarantee::found::Shown::{self, *};
-use crate::guarantee::found::{Broken, Found};
+use crate::guarantee::found::{Broken, Found, Prompt};
 use crate::guarantee::list::{Event, Playing};
 use crate::guarantee::writing::{write, write_any, Manner, Service};
 use crate::layout;
 use crate::model::port::{LINKS, STREAMS};
 
 /// The tests of this kind.
-pub const TESTS: [Test; 9] = [
+pub const TESTS: [Test; 11] = [
     test("guarantee_in_lists_of_any_calls", lists_of_any_calls),
     test("guarantee_beside_overfilled_streams", beside_overfilled_streams),
+    test("guarantee_of_streams_that_conform_for_a_while", of_streams_that_conform_for_a_while),
+    test("guarantee_where_marks_alone_tell_frames_apart", where_marks_alone_tell_frames_apart),
     test("guarantee_where_just_the_share_is_sent", where_just_the_share_is_sent),
     test("guarantee_where_one_frame_too_few_is_sent", where_one_frame_too_few_is_sent),
     test("guarantee_where_the_link_is_idle", where_the_link_is_idle),
@@ -49,7 +51,9 @@ const OVERFILLED: Manner = Manner {
     links: 2_142..=12_000,
     streams: 2..=12,
     conforming: 50,
+    ceasing: 0,
     least: false,
+    one_tag: false,
     exact: 60,
     pressed: true,
     turns: 0..=30,
@@ -58,6 +62,12 @@ const OVERFILLED: Manner = Manner {
     services: &[Service::Share, Service::Share, Service::Share, Service::Idle],
     ticks: 4..=14,
 };
+
+/// Streams that offer all they may and no more, most of them until some tick, and then overfill.
+const CEASING: Manner = Manner { conforming: 90, ceasing: 20, ..OVERFILLED };
+
+/// Few streams, all of whose frames have one charge and one tag.
+const TWINS: Manner = Manner { streams: 1..=4, least: true, one_tag: true, turns: 0..=20, ..OVERFILLED };
 
 /// Streams of which most overfill, with no octet of the share left over, and a link that serves the share and no frame more.
 const JUST_THE_SHARE: Manner =
@@ -106,7 +116,9 @@ fn lists_of_any_calls(run: &mut Run) -> Result<(), String> {
     hold(run, &PROVED, 4_000, any_list)?;
     demand(run, &[(Link(ByBoth), 20), (Link(ByIdle), 1_000), (Link(Failed), 1_000), (Purging, 3_000)])?;
     demand(run, &[(SentInTime, 50_000), (Conforming, 30_000), (ConformingSent, 20_000)])?;
-    demand(run, &[(Pair, 4_000), (ArrivalCompared, 80_000)])
+    demand(run, &[(SentAsCurrent, 50_000), (SentAsNext, 7_000), (SentAsLast, 5_000), (SentAsRepliedLate, 6_000)])?;
+    demand(run, &[(BeginningList, 900), (Beginning, 8_000), (BeginningSent, 6_000), (BeginningAfterFirst, 1_000)])?;
+    demand(run, &[(TwinsList, 1_000), (Twin, 5_000), (Pair, 4_000), (ArrivalCompared, 80_000)])
 }
 
 /// Conforming streams beside streams that overfill.
@@ -114,8 +126,29 @@ fn beside_overfilled_streams(run: &mut Run) -> Result<(), String> {
     hold(run, &PROVED, 2_000, in_manner(&OVERFILLED))?;
     run.demand_none(Seen::Shown(Link(Failed)))?;
     demand(run, &[(Link(ByBoth), 800), (SentInTime, 80_000), (SentAfterThird, 1_000)])?;
+    demand(run, &[(SentAsCurrent, 50_000), (SentAsNext, 6_000), (SentAsLast, 30_000), (SentAsRepliedLate, 20_000)])?;
     demand(run, &[(Conforming, 50_000), (ConformingSent, 40_000), (ConformingAfterFirst, 10_000)])?;
+    demand(run, &[(BeginningList, 1_000), (Beginning, 6_000), (BeginningSent, 6_000), (BeginningAfterFirst, 4_000)])?;
     demand(run, &[(Pair, 2_000), (ArrivalCompared, 50_000)])
+}
+
+/// Streams that conform for a while, then overfill, beside a few that conform to the end.
+fn of_streams_that_conform_for_a_while(run: &mut Run) -> Result<(), String> {
+    hold(run, &PROVED, 1_500, in_manner(&CEASING))?;
+    run.demand_none(Seen::Shown(Link(Failed)))?;
+    demand(run, &[(BeginningList, 1_200), (Beginning, 30_000), (BeginningSent, 30_000), (BeginningAfterFirst, 10_000)])?;
+    demand(run, &[(Conforming, 8_000), (ConformingSent, 6_000), (ConformingAfterFirst, 2_000)])?;
+    demand(run, &[(Pair, 1_500), (ArrivalCompared, 40_000)])
+}
+
+/// Frames that wait together and have the same stream, charge and tag.
+fn where_marks_alone_tell_frames_apart(run: &mut Run) -> Result<(), String> {
+    hold(run, &PROVED, 1_000, in_manner(&TWINS))?;
+    run.demand_none(Seen::Shown(Link(Failed)))?;
+    demand(run, &[(TwinsList, 950), (Twin, 200_000), (SentInTime, 150_000), (SentAfterThird, 5_000)])?;
+    demand(run, &[(SentAsCurrent, 100_000), (SentAsNext, 12_000), (SentAsLast, 60_000), (SentAsRepliedLate, 40_000)])?;
+    demand(run, &[(Conforming, 100_000), (ConformingAfterFirst, 15_000), (Beginning, 10_000), (BeginningAfterFirst, 6_000)])?;
+    demand(run, &[(Pair, 1_000), (ArrivalCompared, 200_000)])
 }
 
 /// A link that sends the share, or just above it, and is idle only where less than that waits.
@@ -123,7 +156,9 @@ fn where_just_the_share_is_sent(run: &mut Run) -> Result<(), String> {
     hold(run, &PROVED, 3_000, in_manner(&JUST_THE_SHARE))?;
     run.demand_none(Seen::Shown(Link(Failed)))?;
     demand(run, &[(Link(ByOctets), 1_000), (SentInTime, 80_000), (SentAfterThird, 20_000)])?;
+    demand(run, &[(SentAsCurrent, 25_000), (SentAsNext, 10_000), (SentAsLast, 50_000), (SentAsRepliedLate, 40_000)])?;
     demand(run, &[(Conforming, 20_000), (ConformingSent, 15_000), (ConformingAfterFirst, 8_000)])?;
+    demand(run, &[(BeginningList, 1_500), (Beginning, 8_000), (BeginningSent, 8_000), (BeginningAfterFirst, 6_000)])?;
     demand(run, &[(Pair, 3_000), (ArrivalCompared, 80_000)])
 }
 
@@ -138,7 +173,9 @@ fn where_the_link_is_idle(run: &mut Run) -> Result<(), String> {
     hold(run, &PROVED, 3_000, in_manner(&IDLE))?;
     run.demand_none(Seen::Shown(Link(Failed)))?;
     demand(run, &[(Link(ByIdle), 1_000), (SentInTime, 60_000)])?;
+    demand(run, &[(SentAsCurrent, 80_000), (SentAsNext, 5_000), (SentAsLast, 3_000), (SentAsRepliedLate, 12_000)])?;
     demand(run, &[(Conforming, 80_000), (ConformingSent, 60_000), (ConformingAfterFirst, 10_000)])?;
+    demand(run, &[(BeginningList, 1_200), (Beginning, 8_000), (BeginningSent, 7_000), (BeginningAfterFirst, 2_000)])?;
     demand(run, &[(Pair, 3_000), (ArrivalCompared, 40_000)])
 }
 
@@ -147,6 +184,7 @@ fn in_full_queues(run: &mut Run) -> Result<(), String> {
     hold(run, &PROVED, 200, in_manner(&FULL))?;
     run.demand_none(Seen::Shown(Link(Failed)))?;
     demand(run, &[(SentInTime, 80_000), (SentAfterThird, 100), (Conforming, 10_000), (ConformingAfterFirst, 300)])?;
+    demand(run, &[(SentAsNext, 6_000), (SentAsLast, 20_000), (Beginning, 6_000), (TwinsList, 150), (Twin, 60_000)])?;
     demand(run, &[(Pair, 150), (ArrivalCompared, 60_000)])
 }
 
@@ -155,6 +193,7 @@ fn of_many_streams_in_long_lists(run: &mut Run) -> Result<(), String> {
     hold(run, &PROVED, 100, in_manner(&MANY))?;
     run.demand_none(Seen::Shown(Link(Failed)))?;
     demand(run, &[(SentInTime, 100_000), (Conforming, 60_000), (ConformingAfterFirst, 2_000)])?;
+    demand(run, &[(SentAsNext, 3_000), (SentAsLast, 40_000), (Beginning, 1_500), (BeginningAfterFirst, 500)])?;
     demand(run, &[(Pair, 80), (ArrivalCompared, 2_000)])
 }
 
@@ -166,6 +205,7 @@ fn of_the_model(run: &mut Run) -> Result<(), String> {
     }
     hold(run, &[Side::Model], 10, in_manner(&FULL))?;
     demand(run, &[(Link(ByOctets), 10), (Link(ByIdle), 20), (Link(Failed), 20), (Purging, 10)])?;
+    demand(run, &[(SentAsCurrent, 4_000), (SentAsNext, 800), (SentAsLast, 2_000), (Beginning, 800), (Twin, 1_000)])?;
     demand(run, &[(SentInTime, 5_000), (Conforming, 3_000), (Pair, 100), (ArrivalCompared, 5_000)])
 }
 
@@ -217,16 +257,7 @@ fn hold(run: &mut Run, sides: &[Side], lists: usize, write: impl Fn(&mut Random,
 fn hold_one(run: &mut Run, side: Side, events: &[Event]) -> Result<Found, String> {
     let found = (run.sides.check)(events).map_err(|broken| report(run, side, events, &broken))?;
     run.calls += events.len() as u64;
-    let counts = [
-        (Link(found.link), 1),
-        (Purging, found.purging),
-        (SentInTime, found.sent_in_time),
-        (SentAfterThird, found.sent_after_third),
-        (Conforming, found.conforming),
-        (ConformingSent, found.conforming_sent),
-        (ConformingAfterFirst, found.conforming_after_first),
-    ];
-    for (shown, times) in counts {
+    for (shown, times) in found.shown() {
         run.coverage.add(Seen::Shown(shown), times);
     }
     Ok(found)
@@ -295,13 +326,15 @@ fn is_tight(run: &mut Run) -> Result<(), String> {
     let one_too_few = [&THREE_TIMES_THE_SHARE[..], &epoch, &epoch, &epoch[..2], &[Call::Tick]].concat();
     let one_octet_too_few = [&[Call::Open { link: 2_143, delay: 1 }], &just_served[1..]].concat();
     let conforming = [&THREE_TIMES_THE_SHARE[..4], &epoch, &[Call::Transmit, Call::Tick]].concat();
+    let late = Prompt { current: 2, sent: 2, after_first: 2 };
     for side in [Side::Exports, Side::Quick, Side::Model] {
-        let none = Found::with(ByOctets);
-        expect(run, side, &just_served, Found { sent_in_time: 6, sent_after_third: 2, ..none })?;
-        expect(run, side, &one_too_few, Found { link: Failed, purging: 1, ..none })?;
+        let none = Found { twins: 5, ..Found::with(ByOctets) };
+        let sent = Found { sent_in_time: 6, sent_after_third: 2, sent_as_replied: [2, 2, 2], sent_as_replied_late: 6, ..none };
+        expect(run, side, &just_served, Found { beginning: late, ..sent })?;
+        expect(run, side, &one_too_few, Found { link: Failed, purging: 1, twins: 4, ..none })?;
         expect(run, side, &one_octet_too_few, Found { link: Failed, ..none })?;
-        let sent = Found { conforming: 2, conforming_sent: 2, conforming_after_first: 2, ..none };
-        expect(run, side, &conforming, Found { link: ByBoth, ..sent })?;
+        let sent = Found { sent_as_replied: [2, 0, 0], sent_as_replied_late: 2, conforming: late, ..none };
+        expect(run, side, &conforming, Found { link: ByBoth, twins: 1, ..sent })?;
     }
     Ok(())
 }
