@@ -2,121 +2,27 @@
 
 use crate::call::{Call, Reply};
 
-extern "C" {
-    fn bunnysolder_open(
-        port: *mut u8,
-        port_length: usize,
-        memory: *const u8,
-        memory_length: usize,
-        link: u32,
-        delay: u32,
-        first: &mut u32,
-        second: &mut u32,
-    ) -> u8;
-    fn bunnysolder_reserve(
-        port: *mut u8,
-        port_length: usize,
-        memory: *const u8,
-        memory_length: usize,
-        stream: u8,
-        permitted: u32,
-        first: &mut u32,
-        second: &mut u32,
-    ) -> u8;
-    fn bunnysolder_arrive(
-        port: *mut u8,
-        port_length: usize,
-        memory: *mut u8,
-        memory_length: usize,
-        stream: u8,
-        charge: u32,
-        tag: u32,
-        first: &mut u32,
-        second: &mut u32,
-    ) -> u8;
-    fn bunnysolder_tick(
-        port: *mut u8,
-        port_length: usize,
-        memory: *const u8,
-        memory_length: usize,
-        first: &mut u32,
-        second: &mut u32,
-    ) -> u8;
-    fn bunnysolder_transmit(
-        port: *mut u8,
-        port_length: usize,
-        memory: *const u8,
-        memory_length: usize,
-        first: &mut u32,
-        second: &mut u32,
-    ) -> u8;
-    fn bunnysolder_best_effort(
-        port: *mut u8,
-        port_length: usize,
-        memory: *mut u8,
-        memory_length: usize,
-        charge: u32,
-        tag: u32,
-        first: &mut u32,
-        second: &mut u32,
-    ) -> u8;
-    fn bunnysolder_open_unscanned(
-        port: *mut u8,
-        port_length: usize,
-        memory: *const u8,
-        memory_length: usize,
-        link: u32,
-        delay: u32,
-        first: &mut u32,
-        second: &mut u32,
-    ) -> u8;
-    fn bunnysolder_reserve_unscanned(
-        port: *mut u8,
-        port_length: usize,
-        memory: *const u8,
-        memory_length: usize,
-        stream: u8,
-        permitted: u32,
-        first: &mut u32,
-        second: &mut u32,
-    ) -> u8;
-    fn bunnysolder_arrive_unscanned(
-        port: *mut u8,
-        port_length: usize,
-        memory: *mut u8,
-        memory_length: usize,
-        stream: u8,
-        charge: u32,
-        tag: u32,
-        first: &mut u32,
-        second: &mut u32,
-    ) -> u8;
-    fn bunnysolder_tick_unscanned(
-        port: *mut u8,
-        port_length: usize,
-        memory: *const u8,
-        memory_length: usize,
-        first: &mut u32,
-        second: &mut u32,
-    ) -> u8;
-    fn bunnysolder_transmit_unscanned(
-        port: *mut u8,
-        port_length: usize,
-        memory: *const u8,
-        memory_length: usize,
-        first: &mut u32,
-        second: &mut u32,
-    ) -> u8;
-    fn bunnysolder_best_effort_unscanned(
-        port: *mut u8,
-        port_length: usize,
-        memory: *mut u8,
-        memory_length: usize,
-        charge: u32,
-        tag: u32,
-        first: &mut u32,
-        second: &mut u32,
-    ) -> u8;
+/// Declares each call in both sorts, with its memory and its own arguments between those that all calls have.
+macro_rules! declare {
+    ($($call:ident, $unscanned:ident: $memory:ty, ($($argument:ident: $number:ty),*);)*) => {
+        extern "C" {$(
+            fn $call(
+                port: *mut u8, port_length: usize, memory: $memory, memory_length: usize, $($argument: $number,)* first: &mut u32, second: &mut u32,
+            ) -> u8;
+            fn $unscanned(
+                port: *mut u8, port_length: usize, memory: $memory, memory_length: usize, $($argument: $number,)* first: &mut u32, second: &mut u32,
+            ) -> u8;
+        )*}
+    };
+}
+
+declare! {
+    bunnysolder_open, bunnysolder_open_unscanned: *const u8, (link: u32, delay: u32);
+    bunnysolder_reserve, bunnysolder_reserve_unscanned: *const u8, (stream: u8, permitted: u32);
+    bunnysolder_arrive, bunnysolder_arrive_unscanned: *mut u8, (stream: u8, charge: u32, tag: u32);
+    bunnysolder_tick, bunnysolder_tick_unscanned: *const u8, ();
+    bunnysolder_transmit, bunnysolder_transmit_unscanned: *const u8, ();
+    bunnysolder_best_effort, bunnysolder_best_effort_unscanned: *mut u8, (charge: u32, tag: u32);
 }
 
 /// The calls as functions of C; Tick and Transmit have no arguments of their own.

@@ -9,9 +9,13 @@ use Rattle.record.specs.Head.{waitsAt, withWaits, queueAt, withQueue}
 use Rattle.fitness.specs.Clauses.{bestEffortStream}
 use Rattle.steps.specs.Outcome.{Outcome, outcome}
 
--- what the step asks of the record: a free place in best effort, and a W that is a number of 32 bits with the charge in it
+-- W with the charge in it is a number of 32 bits, as the record keeps it
+abbrev pub WaitsKept : List ℕ → ℕ → Type 0
+WaitsKept p a = waitsAt p + a < 4294967296
+
+-- what the step asks of the record: a free place in best effort, and that
 abbrev pub HasRoom : List ℕ → ℕ → Type 0
-HasRoom p a = (queueAt p bestEffort .count < placeCount) × (waitsAt p + a < 4294967296)
+HasRoom p a = (queueAt p bestEffort .count < placeCount) × WaitsKept p a
 
 -- "A frame is (stream, charge, tag), its stream 255 in best effort"
 abbrev pub bestEffortFrame : ℕ → ℕ → Frame

@@ -1,4 +1,4 @@
--- What a gate that refuses nothing tells, what a gated call then does, and which numbers a gate has. Assumes nothing.
+-- What a gate that refuses nothing tells, and what a gated call then does. Assumes nothing.
 use Prim.Native.Nat.{ℕ, _+_, _≤_, _<_}
 use mathlib.Core.Path.{_≡_, refl, ap}
 use mathlib.Core.Bool.{Bool, true, false, not, cond}
@@ -13,7 +13,7 @@ use Rattle.record.specs.Entry.{streamAt}
 use Rattle.ranges.specs.Ranges.{chargeFits, shareOf, linkFits, delayFits, permittedFits}
 use Rattle.fitness.specs.Clauses.{permittedSum}
 use Rattle.steps.specs.Outcome.{Outcome, refused}
-use Rattle.gates.specs.Refusals.{openRefusal, reserveRefusal, arriveRefusal, bestEffortLimit, bestEffortRefusal, closedRefusal}
+use Rattle.gates.specs.Refusals.{openRefusal, reserveRefusal, arriveRefusal, bestEffortLimit, bestEffortRefusal}
 use Rattle.gates.specs.Gated.{gated}
 
 module _ (g : ℕ) (p m : List ℕ) (done : Outcome) where
@@ -113,42 +113,3 @@ best-effort-allowed p charge e =
       free = leb-false placeCount (queueAt p bestEffort .count) (c .0);
       limit = ltb-false (bestEffortLimit p) (waitsAt p + charge) (d .0);
     }
-
--- an open port refuses Open with 2, and neither Tick nor Transmit
-pub open-taken : (p : List ℕ) (link delay : ℕ) → openAt p ≡ true → openRefusal p link delay ≡ 2
-unfolding openRefusal
-open-taken p link delay opened = rw opened
-
-pub closed-passes : (p : List ℕ) → openAt p ≡ true → closedRefusal p ≡ 0
-unfolding closedRefusal
-closed-passes p opened = rw opened
-
--- a call's own refusals are none of the host's, 18 to 20
-gate-below : (b : Bool) (number rest : ℕ) → number < 18 → rest < 18 → cond b number rest < 18
-gate-below true number rest h i = h
-gate-below false number rest h i = i
-
-pub reserve-numbers : (p : List ℕ) (s permitted : ℕ) → reserveRefusal p s permitted < 18
-unfolding reserveRefusal
-reserve-numbers p s permitted =
-    let eight = gate-below (ltb (shareOf (linkAt p)) (permittedSum p + permitted)) 8 0 (omega arith) (omega arith) in
-    let seven = gate-below (not (permittedFits permitted)) 7 _ (omega arith) eight in
-    let six = gate-below (streamAt p s .reserved) 6 _ (omega arith) seven in
-    let five = gate-below (leb streamCount s) 5 _ (omega arith) six in
-    gate-below (not (openAt p)) 1 _ (omega arith) five
-
-pub arrive-numbers : (p : List ℕ) (s charge : ℕ) → arriveRefusal p s charge < 18
-unfolding arriveRefusal
-arrive-numbers p s charge =
-    let thirteen = gate-below (not (chargeFits charge)) 13 0 (omega arith) (omega arith) in
-    let twelve = gate-below (not (streamAt p s .reserved)) 12 _ (omega arith) thirteen in
-    let five = gate-below (leb streamCount s) 5 _ (omega arith) twelve in
-    gate-below (not (openAt p)) 1 _ (omega arith) five
-
-pub best-effort-numbers : (p : List ℕ) (charge : ℕ) → bestEffortRefusal p charge < 18
-unfolding bestEffortRefusal
-best-effort-numbers p charge =
-    let sixteen = gate-below (ltb (bestEffortLimit p) (waitsAt p + charge)) 16 0 (omega arith) (omega arith) in
-    let fifteen = gate-below (leb placeCount (queueAt p bestEffort .count)) 15 _ (omega arith) sixteen in
-    let thirteen = gate-below (not (chargeFits charge)) 13 _ (omega arith) fifteen in
-    gate-below (not (openAt p)) 1 _ (omega arith) thirteen

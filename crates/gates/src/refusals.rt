@@ -1,8 +1,8 @@
 // What each call refuses of a record and memory that are long enough: the number of the first refusal that applies, or 0.
 ghost use mathlib.Core.Path.{_≡_};
-ghost use Prim.Native.Nat.{_+_, _<_};
+ghost use Prim.Native.Nat.{_<_};
 ghost use Rattle.record.specs.Layout.{Whole};
-ghost use Rattle.record.specs.Head.{waitsAt};
+ghost use Rattle.best_effort.specs.BestEffort.{WaitsKept};
 ghost use Rattle.gates.specs.Refusals.{openRefusal, reserveRefusal, arriveRefusal, closedRefusal, bestEffortLimit, bestEffortRefusal};
 
 // Document 01's numbers.
@@ -118,7 +118,7 @@ fn best_effort_limit(port: &[u8]) -> u32
 // The refusal of Best effort. Where it refuses nothing, W with the charge is a number of 32 bits, since the limit is.
 pub(crate) fn best_effort(port: &[u8], charge: u32) -> u8
     requires { ⌜ Whole (now port) ⌝ }
-    ensures { λ r. ⌜ (r ≡ bestEffortRefusal (now (port .entry)) charge) × (r ≡ 0 → waitsAt (now (port .entry)) + charge < 4294967296) ⌝ }
+    ensures { λ r. ⌜ (r ≡ bestEffortRefusal (now (port .entry)) charge) × (r ≡ 0 → WaitsKept (now (port .entry)) charge) ⌝ }
 {
     if !record::head::is_open(port) {
         return CLOSED;

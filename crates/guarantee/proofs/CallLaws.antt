@@ -1,10 +1,12 @@
--- Which calls are no tick, are no transmit and send nothing. Assumes nothing.
+-- Which calls are no tick, are no transmit and send nothing, and what is no reserved frame. Assumes nothing.
+use Prim.Native.Nat.{ℕ}
 use mathlib.Core.Bool.{false}
 use mathlib.Core.Path.{_≡_, refl, subst}
 use mathlib.Core.List.{List}
+use native.Mathlib.Omega.{arith}
 use Rattle.stream.specs.declared.Reply.{Reply}
 use Rattle.port_laws.specs.Lists.{Call, opening, reserving, arriving, ticking, transmitting, joiningBestEffort}
-use Rattle.guarantee.specs.Events.{none, sentBy}
+use Rattle.guarantee.specs.Events.{Marked, reserved, bestEffort, none, sentBy}
 use Rattle.guarantee.specs.Claims.{isTick}
 use Rattle.guarantee.proofs.Run.{Quiet}
 
@@ -36,3 +38,10 @@ sends-none earlier (reserving s permitted) shown h = refl
 sends-none earlier (arriving s charge tag) shown h = refl
 sends-none earlier ticking shown h = refl
 sends-none earlier (joiningBestEffort charge tag) shown h = refl
+
+-- a frame of best effort is no reserved frame, nor is none
+pub not-reserved : (f g : Marked) → bestEffort f ≡ reserved g → ⊥
+not-reserved f g e = let z : _≡_ {A = ℕ} 0 1 = cc in omega arith
+
+pub none-reserved : (g : Marked) → none ≡ reserved g → ⊥
+none-reserved g e = let z : _≡_ {A = ℕ} 0 1 = cc in omega arith

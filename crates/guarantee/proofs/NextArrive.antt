@@ -34,8 +34,9 @@ use Rattle.steps.specs.Moves.{moved}
 use Rattle.steps.proofs.RoleLaws.{role-below, role-apart, role-same}
 use Rattle.arriving.specs.Arriving.{arrived, arriveStep}
 use Rattle.gates.specs.Refusals.{arriveRefusal}
-use Rattle.gates.proofs.GateLaws.{arrive-allowed, arrive-numbers}
+use Rattle.gates.proofs.GateLaws.{arrive-allowed}
 use Rattle.port_laws.specs.Lists.{Call, arriving, ticking, called}
+use Rattle.port_laws.proofs.GateNumbers.{arrive-numbers}
 use Rattle.guarantee.specs.Events.{Marked, reserved, none, broughtBy, marked}
 use Rattle.guarantee.proofs.Run.{View, octets, ownRefusal, queueAfter, Effect, arrives, refuses-arrival}
 use Rattle.guarantee.proofs.Room.{Sound, octets-most, charged-length, stays-sound}
@@ -283,7 +284,7 @@ module _ (all : List Call) (n link : ℕ) (p m k : List ℕ) (v : View) (best : 
       → Next all all n link p m k v (arriving s a tag) (called (arriving s a tag) p m) (called (marked n (arriving s a tag)) p k)
   next-arrive s a tag counted here =
       let own : arriveRefusal p s a ≡ ownRefusal s (v .stream s) a = own-refusal p s a (h .opened) ∙ ap (λ (x : Stream). ownRefusal s x a) (sym (h .streams s)) in
-      by-gate all n link p m k v best h (arriveRefusal p s a) (arriving s a tag) (arriveStep p m s a tag) (arriveStep p k s a n)
+      by-gate all n link p m k v best h (arriveRefusal p s a) (arriving s a tag) (arriveStep p m s a tag) _
       (λ z.
       next-refused all n link p m k v best h (arriveRefusal p s a) (arriving s a tag) (arrive-numbers p s a)
       (no-transmit (arriving s a tag) tt)

@@ -16,8 +16,9 @@ use Rattle.fitness.proofs.FitLaws.{fit-record}
 use Rattle.steps.specs.Roles.{roleAt}
 use Rattle.best_effort.specs.BestEffort.{bestEffortFrame, bestEffortStep}
 use Rattle.gates.specs.Refusals.{bestEffortRefusal}
-use Rattle.gates.proofs.GateLaws.{best-effort-allowed, best-effort-numbers}
+use Rattle.gates.proofs.GateLaws.{best-effort-allowed}
 use Rattle.port_laws.specs.Lists.{Call, ticking, joiningBestEffort, called}
+use Rattle.port_laws.proofs.GateNumbers.{best-effort-numbers}
 use Rattle.guarantee.specs.Events.{Marked, bestEffort as sentBestEffort, broughtBy, marked}
 use Rattle.guarantee.proofs.Run.{View, quiet}
 use Rattle.guarantee.proofs.Tied.{tied-joins}
@@ -83,7 +84,7 @@ module _ (all : List Call) (n link : ℕ) (p m k : List ℕ) (v : View) (best : 
   pub next-best-effort : (a tag : ℕ) → n < length all → getD all n ticking ≡ joiningBestEffort a tag
       → Next all all n link p m k v (joiningBestEffort a tag) (called (joiningBestEffort a tag) p m) (called (marked n (joiningBestEffort a tag)) p k)
   next-best-effort a tag counted here =
-      by-gate all n link p m k v best h (bestEffortRefusal p a) (joiningBestEffort a tag) (bestEffortStep p m a tag) (bestEffortStep p k a n)
+      by-gate all n link p m k v best h (bestEffortRefusal p a) (joiningBestEffort a tag) (bestEffortStep p m a tag) _
       (λ z.
       next-refused all n link p m k v best h (bestEffortRefusal p a) (joiningBestEffort a tag) (best-effort-numbers p a)
       (no-transmit (joiningBestEffort a tag) tt)

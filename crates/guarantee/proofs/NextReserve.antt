@@ -14,8 +14,9 @@ use Rattle.steps.specs.Roles.{roleAt}
 use Rattle.steps.proofs.RoleLaws.{role-below}
 use Rattle.opening.specs.Opening.{openStep, reserveStep}
 use Rattle.gates.specs.Refusals.{openRefusal, reserveRefusal}
-use Rattle.gates.proofs.GateLaws.{reserve-allowed, reserve-numbers, open-taken}
+use Rattle.gates.proofs.GateLaws.{reserve-allowed}
 use Rattle.port_laws.specs.Lists.{Call, opening, reserving, called}
+use Rattle.port_laws.proofs.GateNumbers.{reserve-numbers, open-taken}
 use Rattle.guarantee.specs.Events.{Marked, marked}
 use Rattle.guarantee.proofs.Run.{View, free, quiet, refuses-reservation, reserves}
 use Rattle.guarantee.proofs.CallLaws.{no-transmit}

@@ -29,8 +29,8 @@ use Rattle.steps.specs.Moves.{moved}
 use Rattle.steps.proofs.RoleLaws.{role-below, role-nearer, role-wraps, role-apart}
 use Rattle.ticking.specs.Ticking.{tickedAt, tickedRecord, tickStep}
 use Rattle.gates.specs.Refusals.{closedRefusal}
-use Rattle.gates.proofs.GateLaws.{closed-passes}
 use Rattle.port_laws.specs.Lists.{Call, ticking, called}
+use Rattle.port_laws.proofs.GateNumbers.{closed-passes}
 use Rattle.guarantee.specs.Events.{Marked, reserved, marked}
 use Rattle.guarantee.proofs.Run.{View, free, octets, ticks}
 use Rattle.guarantee.proofs.Tied.{Tied, tied-empty, tied-length, tied-octets, tied-octets-shown}

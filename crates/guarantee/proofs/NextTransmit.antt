@@ -26,23 +26,17 @@ use Rattle.steps.proofs.RoleLaws.{role-below, role-apart, role-same}
 use Rattle.sending.specs.Sending.{sent, sentBestEffort, nothing, transmitStep}
 use Rattle.sending.proofs.SendLaws.{sends-prior, sends-current, sends-best-effort, sends-nothing}
 use Rattle.gates.specs.Refusals.{closedRefusal}
-use Rattle.gates.proofs.GateLaws.{closed-passes}
 use Rattle.port_laws.specs.Lists.{Call, ticking, transmitting, called}
+use Rattle.port_laws.proofs.GateNumbers.{closed-passes}
 use Rattle.guarantee.specs.Events.{Marked, Sent, reserved, bestEffort as bestEffortFrame, none, broughtBy, marked}
 use Rattle.guarantee.specs.Claims.{replyOfSent}
 use Rattle.lists.proofs.EachLaws.{none-long}
 use Rattle.guarantee.proofs.Run.{View, sends as sends-frame, idles}
+use Rattle.guarantee.proofs.CallLaws.{not-reserved, none-reserved}
 use Rattle.guarantee.proofs.Tied.{Tied, Oldest, oldest, tied-length}
 use Rattle.guarantee.proofs.BestEffortWritten.{written, written-keeps, written-here, written-stream, written-role}
 use Rattle.guarantee.proofs.Held.{Holds, inRole, role-kept, same-seen}
 use Rattle.guarantee.proofs.Next.{Next, unmoved, by-gate}
-
--- a frame of best effort is no reserved frame, nor is none
-not-reserved : (f g : Marked) → bestEffortFrame f ≡ reserved g → ⊥
-not-reserved f g e = let z : _≡_ {A = ℕ} 0 1 = cc in omega arith
-
-none-reserved : (g : Marked) → none ≡ reserved g → ⊥
-none-reserved g e = let z : _≡_ {A = ℕ} 0 1 = cc in omega arith
 
 module _ (all : List Call) (n link : ℕ) (p m k : List ℕ) (v : View) (best : List Marked) (h : Holds all link p m k v best) where
   whole : Whole p

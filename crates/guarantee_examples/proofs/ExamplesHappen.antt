@@ -20,9 +20,10 @@ use Rattle.best_effort.specs.BestEffort.{bestEffortStep}
 use Rattle.gates.specs.Refusals.{openRefusal, reserveRefusal, arriveRefusal, closedRefusal, bestEffortRefusal}
 use Rattle.port.specs.Calls.{openCall}
 use Rattle.port_laws.specs.Cases.{freshRecord, freshMemory}
-use Rattle.guarantee.specs.Events.{Event, events}
+use Rattle.guarantee.specs.Events.{Event}
 use Rattle.guarantee.specs.Demand3.{CallList}
-use Rattle.guarantee_examples.specs.Examples.{Happens, busy, light, withheld, permitted200, permitted100, silently, silent, callsOf}
+use Rattle.guarantee_examples.specs.Shown.{AllHappen}
+use Rattle.guarantee_examples.specs.Examples.{busy, light, withheld, permitted200, permitted100, callsOf}
 
 -- a list of calls on a port never opened
 abbrev fromFresh : (link delay : ℕ) → List Event → openCall freshRecord freshMemory link delay .reply .refusal ≡ 0 → CallList
@@ -32,15 +33,6 @@ fromFresh link delay later is = record { port = freshRecord; memory = freshMemor
 abbrev afterFirst : List Event → List Event
 afterFirst [] = []
 afterFirst (e ∷ es) = es
-
--- each example, run
-pub record AllHappen : Type 0 where
-  pub busy-happens : Happens busy
-  pub light-happens : Happens light
-  pub withheld-happens : Happens withheld
-  pub permitted-200-happens : Happens permitted200
-  pub permitted-100-happens : Happens permitted100
-  pub silent-happens : events silently (callsOf silent) freshRecord freshMemory ≡ silent
 
 pub all-happen : AllHappen
 unfolding allTo sumTo listTo iterate twoOf fourOf eightOf attempt arriveOf tickOf frameAt withFrame joinedMemory frontOf waiting openAt withOpen priorAt withPrior delayAt withDelay linkAt withLink waitsAt withWaits queueAt withQueue streamAt withStream withPlace boundAt vidAt pairAt dropped recordFits lentRefusal roleAt openedRecord arriveStep tickedRecord tickStep transmitStep bestEffortStep openRefusal reserveRefusal arriveRefusal closedRefusal bestEffortRefusal

@@ -10,8 +10,9 @@ use Rattle.stream.specs.State.{lastPlace}
 use Rattle.stream.specs.Replies.{granted}
 use Rattle.ranges.specs.Ranges.{leastCharge, shareOf}
 use Rattle.port_laws.specs.Lists.{opening, reserving, arriving, ticking}
-use Rattle.guarantee.specs.Events.{Marked, reserved, none, Event}
+use Rattle.guarantee.specs.Events.{Marked, reserved, Event}
 use Rattle.guarantee.specs.Claims.{reservedOctets, Idle, LinkCondition, PurgesNothing, Sends, AllSentBefore}
+use Rattle.guarantee.proofs.CallLaws.{none-reserved}
 use Rattle.guarantee_examples.specs.Examples.{frameOf, sending, replied, busy, light, withheld, silent}
 use Rattle.guarantee_examples.specs.Shown.{ExamplesShow}
 use Rattle.guarantee_examples.proofs.LinkTest.{link-holds, none-idle}
@@ -22,12 +23,9 @@ abbrev firstRefusal : List Reply → ℕ
 firstRefusal [] = 0
 firstRefusal (r ∷ rs) = r .refusal
 
--- frames of different calls are different, and a frame is not none
+-- frames of different calls are different
 other-frame : (f g : Marked) → (f .number ≡ g .number → ⊥) → reserved f ≡ reserved g → ⊥
 other-frame f g o e = let z : f .number ≡ g .number = cc in o z
-
-no-frame : (f : Marked) → none ≡ reserved f → ⊥
-no-frame f e = let z : _≡_ {A = ℕ} 0 1 = cc in omega arith
 
 -- between the third frame's arrival and the third tick the first two frames are sent, and not the third
 abbrev third : Marked
@@ -42,9 +40,9 @@ toThirdTick =
     ∷ []
 
 third-unsent : Some (Sends third) toThirdTick → ⊥
-third-unsent (inl s) = no-frame third (s .0)
+third-unsent (inl s) = none-reserved third (s .0)
 third-unsent (inr (inl s)) = other-frame (frameOf 5 84 7 2) third (λ e. omega arith) (s .0)
-third-unsent (inr (inr (inl s))) = no-frame third (s .0)
+third-unsent (inr (inr (inl s))) = none-reserved third (s .0)
 third-unsent (inr (inr (inr (inl s)))) = other-frame (frameOf 5 84 7 3) third (λ e. omega arith) (s .0)
 
 not-by-third : AllSentBefore lastPlace busy → ⊥
@@ -83,23 +81,18 @@ silent-purged (a, (b, (c, (d, (e, (f, g)))))) = let z : _≡_ {A = ℕ} 1 0 = ap
 pub examples-show : ExamplesShow
 examples-show =
     record {
-      busy-happens = all-happen .busy-happens;
+      happen = all-happen;
       busy-links = link-holds (shareOf 1626) busy refl;
       busy-never-idle = none-idle busy refl;
       busy-not-by-third = not-by-third;
-      light-happens = all-happen .light-happens;
       light-links = link-holds (shareOf 2142) light refl;
       light-octets = omega arith;
       light-not-by-first = λ sent. sent [] _ (replied ticking (granted 0 0)) refl refl refl;
-      withheld-happens = all-happen .withheld-happens;
       withheld-fails = fails;
       withheld-purges = purges;
       withheld-nearly-links = link-holds (shareOf 2142 - leastCharge) withheld refl;
-      permitted-200-happens = all-happen .permitted-200-happens;
-      permitted-100-happens = all-happen .permitted-100-happens;
       same-grants = refl;
       other-answers = λ e. let z : _≡_ {A = ℕ} 0 14 = ap (λ (rs : List Reply). firstRefusal rs) e in omega arith;
-      silent-happens = all-happen .silent-happens;
       silent-links = link-holds (shareOf 2142) silent refl;
       silent-purges = silent-purged;
     }

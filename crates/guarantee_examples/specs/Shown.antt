@@ -9,31 +9,35 @@ use Rattle.guarantee.specs.Events.{events}
 use Rattle.guarantee.specs.Claims.{reservedOctets, Idle, LinkCondition, PurgesNothing, SentBefore, AllSentBefore, grants, answers}
 use Rattle.guarantee_examples.specs.Examples.{frameOf, Happens, busy, light, afterArrival, withheld, permitted200, permitted100, silently, silent, callsOf}
 
-pub record ExamplesShow : Type 0 where
-  -- by octets: the link condition is met, and no transmit is without a reserved frame
+-- each example is what happens in a list of calls, the last one by the machine whose transmit says nothing
+pub record AllHappen : Type 0 where
   pub busy-happens : Happens busy
+  pub light-happens : Happens light
+  pub withheld-happens : Happens withheld
+  pub permitted-200-happens : Happens permitted200
+  pub permitted-100-happens : Happens permitted100
+  pub silent-happens : events silently (callsOf silent) freshRecord freshMemory ≡ silent
+
+pub record ExamplesShow : Type 0 where
+  pub happen : AllHappen
+  -- by octets: the link condition is met, and no transmit is without a reserved frame
   pub busy-links : LinkCondition (shareOf 1626) busy
   pub busy-never-idle : Some Idle busy → ⊥
   -- the third tick would be too early
   pub busy-not-by-third : AllSentBefore lastPlace busy → ⊥
   -- by a transmit without a reserved frame: the link condition is met, with fewer octets than the share
-  pub light-happens : Happens light
   pub light-links : LinkCondition (shareOf 2142) light
   pub light-octets : reservedOctets light < shareOf 2142
   -- and for a conforming stream the first tick would be too early
   pub light-not-by-first : SentBefore 1 (frameOf 5 120 7 3) afterArrival → ⊥
   -- without it: the link condition fails, and a tick purges
-  pub withheld-happens : Happens withheld
   pub withheld-fails : LinkCondition (shareOf 2142) withheld → ⊥
   pub withheld-purges : All PurgesNothing withheld → ⊥
   -- a link condition that asked the least charge less would be met
   pub withheld-nearly-links : LinkCondition (shareOf 2142 - leastCharge) withheld
   -- a stream's reservations are among its own calls, since its replies depend on P
-  pub permitted-200-happens : Happens permitted200
-  pub permitted-100-happens : Happens permitted100
   pub same-grants : grants 5 permitted200 ≡ grants 5 permitted100
   pub other-answers : answers 5 permitted200 ≡ answers 5 permitted100 → ⊥
   -- demand 3 is false of a machine whose transmit says nothing
-  pub silent-happens : events silently (callsOf silent) freshRecord freshMemory ≡ silent
   pub silent-links : LinkCondition (shareOf 2142) silent
   pub silent-purges : All PurgesNothing silent → ⊥

@@ -10,3 +10,4 @@ pub mod BestEffortFit
 pub mod QuickLaws
 pub mod StayLaws
 pub mod CasesHold
+pub mod GateNumbers
