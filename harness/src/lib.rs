@@ -2,6 +2,7 @@
 //! exported calls as a host declares them, the tests that compare them, and demand 3 read off lists of calls.
 
 pub mod call;
+pub mod capture;
 pub mod comparing;
 pub mod exports;
 pub mod guarantee;

@@ -58,14 +58,14 @@ const CHARGE_IN_FRAME: usize = 2;
 const TAG_IN_FRAME: usize = 4;
 
 /// The octets of a number of 16 bits.
-const TWO: usize = 2;
+pub const TWO: usize = 2;
 /// The octets of a number of 32 bits.
-const FOUR: usize = 4;
+pub const FOUR: usize = 4;
 /// How many values an octet has.
 const OCTET_VALUES: u32 = 256;
 
 /// Reads a number of the given width, high octet first.
-fn number(octets: &[u8], at: usize, width: usize) -> u32 {
+pub fn number(octets: &[u8], at: usize, width: usize) -> u32 {
     octets[at..at + width].iter().fold(0, |number, octet| number * OCTET_VALUES + u32::from(*octet))
 }
 

@@ -137,6 +137,14 @@ impl Stream {
 }
 
 impl Port {
+    /// "A port starts closed, its queues empty and no stream reserved."
+    pub fn closed() -> Port {
+        let queue = Queue { start: 0, frames: VecDeque::new() };
+        let stream =
+            Stream { reserved: MARK_NO, place: CURRENT, left: 0, permitted: 0, bound: MARK_NO, vid: 0, address: [0; ADDRESS_OCTETS] };
+        Port { open: MARK_NO, prior: 0, delay: 0, link: 0, waits: 0, queues: vec![queue; QUEUES], streams: vec![stream; STREAMS] }
+    }
+
     /// Whether the port is open.
     pub fn is_open(&self) -> bool {
         self.open == MARK_YES

@@ -32,3 +32,11 @@ pub const MEMORY_SHORT: u8 = 18;
 pub const RECORD_UNFIT: u8 = 19;
 /// "20 the chosen queue holds 256".
 pub const QUEUE_FULL: u8 = 20;
+/// "21 file length not a multiple of 16, under 16 or over 65,536".
+pub const CAPTURE_LENGTH: u8 = 21;
+/// "22 header letters or zero octets".
+pub const CAPTURE_HEADER: u8 = 22;
+/// "23 first or next index".
+pub const CAPTURE_INDEX: u8 = 23;
+/// "24 kind, stream octet, unused number or zero octets".
+pub const CAPTURE_RECORD: u8 = 24;

@@ -1,0 +1,54 @@
+//! The octets of a capture file, record by record.
+
+use crate::call::Call;
+use crate::model::capture::{
+    kind, FIRST_INDICES_AT, KIND_AT, LETTERS, NEXT_INDEX_AT, NO_STREAM, NUMBER_A_AT, NUMBER_B_AT, PORTS, RECORD_OCTETS, STREAM_AT,
+    STREAM_OF_BEST_EFFORT,
+};
+
+/// The octets of one record.
+pub type Record = [u8; RECORD_OCTETS];
+
+/// Record 0 with the first indices of ports 0 to 3.
+pub fn header(first: [u16; PORTS]) -> Record {
+    let mut record = Record::default();
+    record[..LETTERS.len()].copy_from_slice(&LETTERS);
+    for (port, index) in first.into_iter().enumerate() {
+        put_first_index(&mut record, port, index);
+    }
+    record
+}
+
+/// The record of an event, with its next index.
+pub fn record(event: &Call, next: u16) -> Record {
+    let (stream, a, b) = match *event {
+        Call::Open { link, delay } => (NO_STREAM, link, delay),
+        Call::Reserve { stream, permitted } => (stream, permitted, 0),
+        Call::Arrive { stream, charge, tag } => (stream, charge, tag),
+        Call::BestEffort { charge, tag } => (STREAM_OF_BEST_EFFORT, charge, tag),
+        Call::Tick | Call::Transmit => (NO_STREAM, 0, 0),
+    };
+    let mut record = Record::default();
+    record[KIND_AT] = kind(event);
+    record[STREAM_AT] = stream;
+    put_next_index(&mut record, next);
+    put(&mut record, NUMBER_A_AT, &a.to_be_bytes());
+    put(&mut record, NUMBER_B_AT, &b.to_be_bytes());
+    record
+}
+
+/// Writes a port's first index into record 0.
+pub fn put_first_index(header: &mut [u8], port: usize, index: u16) {
+    let octets = index.to_be_bytes();
+    put(header, FIRST_INDICES_AT + octets.len() * port, &octets);
+}
+
+/// Writes the next index into a record.
+pub fn put_next_index(record: &mut [u8], index: u16) {
+    put(record, NEXT_INDEX_AT, &index.to_be_bytes());
+}
+
+/// Writes octets into a record.
+fn put(record: &mut [u8], at: usize, octets: &[u8]) {
+    record[at..at + octets.len()].copy_from_slice(octets);
+}

@@ -1,0 +1,29 @@
+//! The outside program's `replay`: "All checks of the file come before any event", then port after port, each on a fresh port of the model.
+
+use std::fmt::Write;
+
+use super::capture::{self, Refused};
+use super::port::Port;
+use super::rule;
+use crate::call::Call;
+
+/// What `replay` prints of a capture: "one line per event", or of a bad file only `refused N I`.
+pub fn replay(octets: &[u8]) -> String {
+    match capture::events(octets) {
+        Ok(ports) => played(&ports),
+        Err(Refused { refusal, index }) => format!("refused {refusal} {index}\n"),
+    }
+}
+
+/// The lines of all ports: "port, event number from 1, kind, refusal or 0, two reply numbers".
+fn played(ports: &[Vec<Call>]) -> String {
+    let mut lines = String::new();
+    for (number, events) in ports.iter().enumerate() {
+        let mut port = Port::closed();
+        for (before, event) in events.iter().enumerate() {
+            let reply = rule::step(event, &mut port);
+            writeln!(lines, "{number} {} {} {reply}", before + 1, capture::kind(event)).expect("a string takes every line");
+        }
+    }
+    lines
+}
