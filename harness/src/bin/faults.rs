@@ -2,7 +2,8 @@
 //! an edit of faults/; builds it once; sees every test pass over the sound sides; and runs over each fault what its edit names: kinds of test,
 //! or single tests. Where one of these does not find it, that is a failure.
 //!
-//! `faults` prints, for each fault, what found it; `faults --all` also runs every kind on every fault. The last line is the total.
+//! `faults` prints, for each fault, what found it; `faults --all` also runs every kind on every fault; `--replay PROGRAM` names the proved program `replay`
+//! where it is another than the repository's. The last line is the total.
 
 use std::env;
 use std::fs;
@@ -12,6 +13,7 @@ use std::sync::atomic::{AtomicUsize, Ordering};
 use std::thread;
 
 use harness::comparing::program::named;
+use harness::comparing::replayed;
 use harness::comparing::test::KINDS;
 
 /// How many faults are tried at a time.
@@ -32,7 +34,7 @@ struct Part {
 
 /// The independent model, the quick calls in plain Rust, the exports as a host declares and calls them, and the checkers of demand 3.
 const PARTS: [Part; 5] = [
-    Part { copied: "model", module: "model", plays: &[("model", "call")] },
+    Part { copied: "model", module: "model", plays: &[("model", "call"), ("replay", "replay::replay")] },
     Part { copied: "in_place.rs", module: "in_place", plays: &[("in_place", "call")] },
     Part { copied: "exports.rs", module: "exports", plays: &[("exports", "call"), ("quick", "unscanned")] },
     Part { copied: "guarantee/claims.rs", module: "claims", plays: &[("check", "check")] },
@@ -71,12 +73,21 @@ struct Edit {
     new: String,
 }
 
+/// The program over the faults, and the proved program `replay` that it is given.
+struct Seeded {
+    program: PathBuf,
+    replay: PathBuf,
+}
+
 fn main() -> ExitCode {
-    let all = env::args().any(|word| word == "--all");
+    let words: Vec<String> = env::args().skip(1).collect();
+    let all = words.iter().any(|word| word == "--all");
+    let named_replay = words.iter().skip_while(|word| *word != replayed::OPTION).nth(1);
     let harness = Path::new(env!("CARGO_MANIFEST_DIR"));
     let package = harness.join("target/seeded");
+    let seeded = Seeded { program: package.join("target/debug/seeded"), replay: named_replay.map_or_else(replayed::proved, PathBuf::from) };
     match read_faults(&harness.join("faults")).and_then(|faults| built(harness, &package, &faults).map(|()| faults)) {
-        Ok(faults) => tried(&package, &faults, all),
+        Ok(faults) => tried(&seeded, &faults, all),
         Err(why) => closed(0, 1, &why),
     }
 }
@@ -91,15 +102,15 @@ fn closed(passed: usize, failed: usize, why: &str) -> ExitCode {
 }
 
 /// Tries all faults, a few at a time, once it is seen that the tests pass where there is none.
-fn tried(package: &Path, faults: &[Fault], all: bool) -> ExitCode {
-    if let Some((kind, _)) = KINDS.iter().find(|(kind, _)| status(package, SOUND, kind) != Some(0)) {
+fn tried(seeded: &Seeded, faults: &[Fault], all: bool) -> ExitCode {
+    if let Some((kind, _)) = KINDS.iter().find(|(kind, _)| status(seeded, SOUND, kind) != Some(0)) {
         return closed(0, 1, &format!("the tests of kind {kind} do not pass where no fault is seeded"));
     }
     let next = AtomicUsize::new(0);
     let found = AtomicUsize::new(0);
     thread::scope(|scope| {
         for _ in 0..AT_A_TIME {
-            scope.spawn(|| try_some(package, faults, all, &next, &found));
+            scope.spawn(|| try_some(seeded, faults, all, &next, &found));
         }
     });
     let found = found.into_inner();
@@ -107,11 +118,11 @@ fn tried(package: &Path, faults: &[Fault], all: bool) -> ExitCode {
 }
 
 /// Tries one fault after another that no thread has taken, and counts those that were found as they must be.
-fn try_some(package: &Path, faults: &[Fault], all: bool, next: &AtomicUsize, found: &AtomicUsize) {
+fn try_some(seeded: &Seeded, faults: &[Fault], all: bool, next: &AtomicUsize, found: &AtomicUsize) {
     while let Some(fault) = faults.get(next.fetch_add(1, Ordering::Relaxed)) {
         let mut words: Vec<&str> = fault.found_by.iter().map(String::as_str).collect();
         words.extend(KINDS.iter().map(|(kind, _)| *kind).filter(|kind| all && !fault.found_by.iter().any(|by| by == kind)));
-        let (finders, others): (Vec<&str>, Vec<&str>) = words.into_iter().partition(|word| status(package, &fault.name, word) == Some(1));
+        let (finders, others): (Vec<&str>, Vec<&str>) = words.into_iter().partition(|word| status(seeded, &fault.name, word) == Some(1));
         let missed: Vec<&str> = others.into_iter().filter(|word| fault.found_by.iter().any(|by| by == word)).collect();
         let verdict = if missed.is_empty() { String::from("ok") } else { format!("NOT FOUND by {}", missed.join(" ")) };
         println!("fault {}: {verdict}: found by {}: {}", fault.name, finders.join(" "), fault.what);
@@ -120,10 +131,10 @@ fn try_some(package: &Path, faults: &[Fault], all: bool, next: &AtomicUsize, fou
 }
 
 /// How a kind of test, or a test, ends over a fault: 0 where it passes, 1 where it fails, anything else where it could not be run.
-fn status(package: &Path, fault: &str, word: &str) -> Option<i32> {
-    let mut seeded = Command::new(package.join("target/debug/seeded"));
-    seeded.args([fault, word, "--size", SIZE, "--first-failure"]).stdout(Stdio::null()).stderr(Stdio::null());
-    seeded.status().ok()?.code()
+fn status(seeded: &Seeded, fault: &str, word: &str) -> Option<i32> {
+    let mut program = Command::new(&seeded.program);
+    program.args([fault, word, "--size", SIZE, "--first-failure", replayed::OPTION]).arg(&seeded.replay);
+    program.stdout(Stdio::null()).stderr(Stdio::null()).status().ok()?.code()
 }
 
 /// Writes the package anew and builds it.

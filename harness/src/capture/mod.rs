@@ -2,6 +2,7 @@
 
 pub mod file;
 pub mod reading;
+pub mod stored;
 #[cfg(test)]
 mod tests;
 pub mod words;

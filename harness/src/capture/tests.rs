@@ -1,9 +1,10 @@
 //! The text form: what its lines mean, that both ways are exact, and what is said of a bad text.
 
 use super::file::{header, put_first_index, put_next_index, record, Record};
-use super::{reading, writing};
+use super::{reading, stored, writing};
 use crate::call::Call;
 use crate::comparing::random::Random;
+use crate::model::replay::replay;
 
 /// Document 01's sample as a person writes it.
 const SAMPLE: &str = "port 0\nopen 2142 1\nreserve 5 200\narrive 5 120 7\narrive 5 100 8\ntransmit\ntransmit\ntick\ntransmit\n";
@@ -234,4 +235,25 @@ fn a_record_past_the_last_index_cannot_be_linked_to() {
     assert_eq!(said_of(text.as_bytes()), "line 65537: record 65536 is past the last that a record can name, 65535");
     let text = format!("port 0\n{}port 1\ntick\n", "tick next 0\n".repeat(65_535));
     assert_eq!(said_of(text.as_bytes()), "line 65537: record 65536 is past the last that a port can start at, 65535");
+}
+
+#[test]
+fn stored_captures_and_their_texts_are_the_same() {
+    for stored in stored::all().expect("the stored captures can be read") {
+        exact(&stored.octets, &stored.text);
+    }
+}
+
+#[test]
+fn the_outside_program_prints_the_stored_outputs() {
+    for stored in stored::all().expect("the stored captures can be read") {
+        assert_eq!(replay(&stored.octets), stored.output, "{}", stored.name);
+    }
+}
+
+#[test]
+fn every_stored_capture_is_listed_once() {
+    let names = stored::names().expect("the folder can be read");
+    assert!(!names.is_empty());
+    assert_eq!(stored::listed().expect("the list can be read"), names);
 }

@@ -4,6 +4,7 @@ use std::collections::BTreeMap;
 use std::fmt;
 
 use crate::call::{Call, Reply};
+use crate::comparing::damage::Field;
 use crate::guarantee::found::Shown;
 use crate::layout;
 use crate::model::port::{BEST_EFFORT, BEST_EFFORT_STREAM, CURRENT, LAST, NOTHING, QUEUE_PLACES, RESERVED_QUEUES, STREAMS};
@@ -66,6 +67,14 @@ pub enum Seen {
     FitRecord,
     /// A record that the model calls unfit.
     UnfitRecord,
+    /// A record of a capture that was played before, on another port.
+    SharedRecord,
+    /// A record of a capture on no chain.
+    UnusedRecord,
+    /// A port of a capture without events.
+    PortWithoutEvents,
+    /// An octet of a capture that was changed.
+    Changed(Field),
 }
 
 impl fmt::Display for Seen {
@@ -98,6 +107,10 @@ impl fmt::Display for Seen {
             Seen::Closed => write!(f, "closed by host"),
             Seen::FitRecord => write!(f, "fit"),
             Seen::UnfitRecord => write!(f, "unfit"),
+            Seen::SharedRecord => write!(f, "shared records"),
+            Seen::UnusedRecord => write!(f, "unused records"),
+            Seen::PortWithoutEvents => write!(f, "ports without events"),
+            Seen::Changed(field) => write!(f, "changed {field}"),
         }
     }
 }

@@ -2,13 +2,16 @@
 
 pub mod broken;
 pub mod calls;
+pub mod chains;
 pub mod compared;
 pub mod coverage;
+pub mod damage;
 pub mod fenced;
 pub mod fit;
 pub mod lent;
 pub mod program;
 pub mod random;
+pub mod replayed;
 pub mod shapes;
 pub mod sides;
 pub mod test;

@@ -2,18 +2,20 @@
 //! many passed and failed as the last line. Status 0 says that all passed, 1 that one failed, 2 that a word of the command line is wrong.
 
 use std::panic::{catch_unwind, AssertUnwindSafe};
+use std::path::PathBuf;
 use std::process::ExitCode;
 use std::sync::Mutex;
 use std::thread;
 use std::time::Instant;
 
+use crate::comparing::replayed;
 use crate::comparing::sides::Sides;
 use crate::comparing::test::{Run, Test, KINDS};
 use crate::comparing::tests;
 
 /// How the program is called.
-const USAGE: &str =
-    "usage: compare [lists] [records] [quick] [guarantee] [TEST..] [--seed N] [--size PERCENT, at least 10] [--first-failure]";
+const USAGE: &str = "usage: compare [lists] [records] [quick] [guarantee] [captures] [TEST..] [--seed N] [--size PERCENT, at least 10] \
+[--first-failure] [--replay PROGRAM]";
 /// The seed of a run that names none.
 const DEFAULT_SEED: u64 = 1;
 /// The size of a run that names none.
@@ -33,6 +35,8 @@ struct Wanted {
     /// No further test is begun after one that failed.
     first_failure: bool,
     sides: Sides,
+    /// The proved program `replay`.
+    replay: PathBuf,
 }
 
 /// How far the tests are: the next one to begin, the next one to print, and the lines that wait for an earlier test's.
@@ -58,13 +62,15 @@ pub fn run(words: &[String], sides: Sides) -> ExitCode {
 
 /// Reads the command line, or nothing if a word of it is wrong.
 fn wanted(words: &[String], sides: Sides) -> Option<Wanted> {
-    let mut wanted = Wanted { tests: Vec::new(), seed: DEFAULT_SEED, percent: DEFAULT_PERCENT, first_failure: false, sides };
+    let (tests, replay) = (Vec::new(), replayed::proved());
+    let mut wanted = Wanted { tests, seed: DEFAULT_SEED, percent: DEFAULT_PERCENT, first_failure: false, sides, replay };
     let mut words = words.iter();
     while let Some(word) = words.next() {
         match word.as_str() {
             "--seed" => wanted.seed = words.next()?.parse().ok()?,
             "--size" => wanted.percent = words.next()?.parse().ok().filter(|&percent| percent >= LEAST_PERCENT)?,
             "--first-failure" => wanted.first_failure = true,
+            replayed::OPTION => wanted.replay = words.next()?.into(),
             kind_or_test => wanted.tests.extend(named(kind_or_test)?),
         }
     }
@@ -126,7 +132,7 @@ impl Progress {
 
 /// Runs one test, its line and whether it passed; a panic is a failure.
 fn run_one(test: &Test, wanted: &Wanted) -> (String, bool) {
-    let mut run = Run::new(test.name, wanted.seed, wanted.percent, wanted.sides);
+    let mut run = Run::new(test.name, wanted.seed, wanted.percent, wanted.sides, &wanted.replay);
     let began = Instant::now();
     let ended = catch_unwind(AssertUnwindSafe(|| (test.body)(&mut run)));
     let failure = match ended {

@@ -11,6 +11,9 @@ use crate::{exports, in_place, model};
 /// How a call is played on a lent record and memory.
 pub type Play = fn(&Call, &mut [u8], &mut [u8]) -> Reply;
 
+/// What `replay` prints of a capture.
+pub type Replay = fn(&[u8]) -> String;
+
 /// How a list that was played is held against demand 3.
 pub type Check = fn(&[Event]) -> Result<Found, Broken>;
 /// How two lists are held beside each other for one stream: how many of its arrivals were compared, if the lists are alike in what is its own.
@@ -37,6 +40,8 @@ pub struct Sides {
     pub quick: Play,
     pub model: Play,
     pub in_place: Play,
+    /// The outside program's `replay`.
+    pub replay: Replay,
     pub check: Check,
     pub pair: CheckPair,
 }
@@ -48,6 +53,7 @@ impl Sides {
         quick: exports::unscanned,
         model: model::call,
         in_place: in_place::call,
+        replay: model::replay::replay,
         check: claims::check,
         pair: pairs::check,
     };

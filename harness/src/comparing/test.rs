@@ -1,6 +1,7 @@
 //! A test, and one run of it: its seed and size, and what it counted.
 
 use std::fmt;
+use std::path::Path;
 
 use crate::call::{Call, Reply};
 use crate::comparing::coverage::{Coverage, Seen};
@@ -14,11 +15,17 @@ pub enum Kind {
     Records,
     Quick,
     Guarantee,
+    Captures,
 }
 
 /// Each kind with the word that names it on the command line.
-pub const KINDS: [(&str, Kind); 4] =
-    [("lists", Kind::Lists), ("records", Kind::Records), ("quick", Kind::Quick), ("guarantee", Kind::Guarantee)];
+pub const KINDS: [(&str, Kind); 5] = [
+    ("lists", Kind::Lists),
+    ("records", Kind::Records),
+    ("quick", Kind::Quick),
+    ("guarantee", Kind::Guarantee),
+    ("captures", Kind::Captures),
+];
 
 /// A test: its kind, its name and what it does.
 #[derive(Clone, Copy)]
@@ -29,15 +36,18 @@ pub struct Test {
 }
 
 /// One run of a test.
-pub struct Run {
+pub struct Run<'a> {
     seed: u64,
     percent: usize,
     test: &'static str,
     /// How each side plays a call.
     pub sides: Sides,
-    /// How many lists and records were begun, and how many calls were compared.
+    /// The proved program `replay`.
+    pub replay: &'a Path,
+    /// How many lists, records and captures were begun, and how many calls were compared.
     pub lists: u64,
     pub records: u64,
+    pub captures: u64,
     pub calls: u64,
     /// What happened in the calls.
     pub coverage: Coverage,
@@ -45,10 +55,11 @@ pub struct Run {
     pub place: String,
 }
 
-impl Run {
-    /// A run of a test with a seed, at so many percent of its size, with the sides as given.
-    pub fn new(test: &'static str, seed: u64, percent: usize, sides: Sides) -> Run {
-        Run { seed, percent, test, sides, lists: 0, records: 0, calls: 0, coverage: Coverage::default(), place: String::new() }
+impl<'a> Run<'a> {
+    /// A run of a test with a seed, at so many percent of its size, with the sides and the program `replay` as given.
+    pub fn new(test: &'static str, seed: u64, percent: usize, sides: Sides, replay: &'a Path) -> Run<'a> {
+        let (coverage, place) = (Coverage::default(), String::new());
+        Run { seed, percent, test, sides, replay, lists: 0, records: 0, captures: 0, calls: 0, coverage, place }
     }
 
     /// A number of lists or records at the size of this run, at least one.
@@ -68,6 +79,13 @@ impl Run {
         self.records += 1;
         self.place = format!("seed {}, record {} ({what})", self.seed, self.records);
         Random::of(self.seed, self.test, self.records)
+    }
+
+    /// Begins the next capture; its generator.
+    pub fn next_capture(&mut self, what: &str) -> Random {
+        self.captures += 1;
+        self.place = format!("seed {}, capture {} ({what})", self.seed, self.captures);
+        Random::of(self.seed, self.test, self.captures)
     }
 
     /// Counts a call that was compared.
@@ -96,10 +114,11 @@ impl Run {
     }
 }
 
-impl fmt::Display for Run {
+impl fmt::Display for Run<'_> {
     fn fmt(&self, f: &mut fmt::Formatter<'_>) -> fmt::Result {
-        let counts = [(self.lists, "lists"), (self.records, "records"), (self.calls, "calls")];
+        let counts = [(self.lists, "lists"), (self.records, "records"), (self.captures, "captures"), (self.calls, "calls")];
         let counted: Vec<String> = counts.iter().filter(|(count, _)| *count > 0).map(|(count, what)| format!("{count} {what}")).collect();
-        write!(f, "{}: {}", counted.join(", "), self.coverage)
+        let coverage = self.coverage.to_string();
+        write!(f, "{}{}{coverage}", counted.join(", "), if coverage.is_empty() { "" } else { ": " })
     }
 }

@@ -43,13 +43,13 @@ pub struct Plan {
 }
 
 /// L at which the share holds 256 frames of the least charge, and that share.
-const FULL_LINK: u32 = *LINKS.end();
-const FULL_SHARE: u32 = FULL_LINK - LARGEST_CHARGE;
+pub const FULL_LINK: u32 = *LINKS.end();
+pub const FULL_SHARE: u32 = FULL_LINK - LARGEST_CHARGE;
 
 /// The refusals of a planner's call, and those of an arrival's arguments.
-const OF_PLANNER: [u8; 8] =
+pub const OF_PLANNER: [u8; 8] =
     [PORT_CLOSED, OPEN_ALREADY, LINK_OUTSIDE, DELAY_OUTSIDE, STREAM_ABOVE, RESERVED_ALREADY, PERMITTED_BELOW, SHARE_EXCEEDED];
-const OF_SENDER: [u8; 2] = [NOT_RESERVED, CHARGE_OUTSIDE];
+pub const OF_SENDER: [u8; 2] = [NOT_RESERVED, CHARGE_OUTSIDE];
 
 /// Few streams, which arrivals press at every place: exact fits and discards.
 fn few_streams_pressed(run: &mut Run) -> Result<(), String> {
@@ -199,12 +199,12 @@ fn mixture(run: &mut Run) -> Result<(), String> {
 }
 
 /// A demand for each of the three places.
-fn at_each_place(seen: fn(u8) -> Seen, times: u64) -> [(Seen, u64); 3] {
+pub fn at_each_place(seen: fn(u8) -> Seen, times: u64) -> [(Seen, u64); 3] {
     [CURRENT, NEXT, LAST].map(|place| (seen(place), times))
 }
 
 /// No list from an opening meets a full queue.
-fn never_met_from_opening(run: &Run) -> Result<(), String> {
+pub fn never_met_from_opening(run: &Run) -> Result<(), String> {
     run.demand_none(Seen::Refused(QUEUE_FULL))
 }
 

@@ -1,0 +1,181 @@
+//! One capture on two sides: the proved program `replay` as a process of its own, and the outside program's `replay`, compared octet for octet.
+
+use std::fs::File;
+use std::io::{self, Write};
+use std::path::{Path, PathBuf};
+use std::process::{ChildStdin, Command, Output, Stdio};
+use std::thread;
+use std::time::Duration;
+
+use crate::capture::reading;
+use crate::comparing::coverage::Seen;
+use crate::comparing::test::Run;
+
+/// The word of a command line before the path of the proved program.
+pub const OPTION: &str = "--replay";
+/// How many lines of a capture's text a report tells at most.
+const TOLD_LINES: usize = 40;
+/// How long the writer waits between two pieces, so that the program meets a stream that has no octet ready.
+const BETWEEN_PIECES: Duration = Duration::from_micros(300);
+
+/// The proved program where `rt check replay` leaves it.
+pub fn proved() -> PathBuf {
+    Path::new(env!("CARGO_MANIFEST_DIR")).join("../target/bin/replay")
+}
+
+/// What a program prints of a capture that is written to its standard input in pieces of so many octets.
+pub fn printed(program: &mut Command, capture: &[u8], piece: usize) -> io::Result<Output> {
+    let mut child = program.stdin(Stdio::piped()).stdout(Stdio::piped()).stderr(Stdio::piped()).spawn()?;
+    let input = child.stdin.take().expect("standard input is a pipe");
+    thread::scope(|scope| {
+        let writer = scope.spawn(|| write_pieces(input, capture, piece));
+        let output = child.wait_with_output();
+        writer.join().expect("the writer does not panic")?;
+        output
+    })
+}
+
+/// Writes a capture; a program may close its standard input before the end of one that is too long.
+fn write_pieces(mut input: ChildStdin, capture: &[u8], piece: usize) -> io::Result<()> {
+    for (number, octets) in capture.chunks(piece).enumerate() {
+        if number > 0 {
+            thread::sleep(BETWEEN_PIECES);
+        }
+        match input.write_all(octets) {
+            Err(why) if why.kind() == io::ErrorKind::BrokenPipe => break,
+            written => written?,
+        }
+    }
+    Ok(())
+}
+
+/// What a program prints of a capture that its standard input is the file of.
+pub fn printed_of_file(program: &mut Command, path: &Path) -> io::Result<Output> {
+    program.stdin(File::open(path)?).output()
+}
+
+/// Fails unless a program ended with status 0, wrote nothing to standard error, and printed just the text.
+pub fn judged(output: &Output, text: &str) -> Result<(), String> {
+    if output.status.code() != Some(0) {
+        return Err(format!("replay ends with {}", output.status));
+    }
+    if !output.stderr.is_empty() {
+        return Err(format!("replay writes to standard error: {}", String::from_utf8_lossy(&output.stderr)));
+    }
+    if output.stdout != text.as_bytes() {
+        return Err(differing(&output.stdout, text));
+    }
+    Ok(())
+}
+
+/// The first line in which what was printed differs from a text.
+fn differing(printed: &[u8], text: &str) -> String {
+    let (printed, text) = (printed.split_inclusive(|&octet| octet == b'\n'), text.as_bytes().split_inclusive(|&octet| octet == b'\n'));
+    let (mut printed, mut text) = (printed.map(told), text.map(told));
+    for line in 1.. {
+        match (printed.next(), text.next()) {
+            (None, None) => break,
+            (one, other) if one == other => (),
+            (one, other) => return format!("line {line}: replay prints {}, not {}", or_nothing(one), or_nothing(other)),
+        }
+    }
+    String::from("replay prints octets that are no text")
+}
+
+/// A line as a report tells it.
+fn told(line: &[u8]) -> String {
+    format!("{:?}", String::from_utf8_lossy(line))
+}
+
+/// A line, or that there is none.
+fn or_nothing(line: Option<String>) -> String {
+    line.unwrap_or_else(|| String::from("nothing"))
+}
+
+impl Run<'_> {
+    /// Replays a capture on both sides, all of it written at once; the text that both print.
+    pub fn replay(&mut self, capture: &[u8]) -> Result<String, String> {
+        self.replay_in_pieces(capture, capture.len().max(1))
+    }
+
+    /// Replays a capture on both sides, written to the proved program in pieces of so many octets; the text that both print.
+    pub fn replay_in_pieces(&mut self, capture: &[u8], piece: usize) -> Result<String, String> {
+        let text = (self.sides.replay)(capture);
+        let output = printed(&mut Command::new(self.replay), capture, piece).map_err(|why| format!("{}: {why}", self.replay.display()))?;
+        judged(&output, &text).map_err(|why| self.differs(capture, &why))?;
+        match text.strip_prefix("refused ").and_then(|rest| rest.split(' ').next()?.parse().ok()) {
+            Some(refusal) => self.coverage.count(Seen::Refused(refusal)),
+            None => self.calls += text.lines().count() as u64,
+        }
+        Ok(text)
+    }
+
+    /// Replays a capture on both sides and fails unless they print just this text.
+    pub fn replay_prints(&mut self, capture: &[u8], text: &str) -> Result<(), String> {
+        let printed = self.replay(capture)?;
+        match printed == text {
+            true => Ok(()),
+            false => Err(self.differs(capture, &format!("as does the outside program; {}", differing(printed.as_bytes(), text)))),
+        }
+    }
+
+    /// Fails unless the proved program prints just this text of a capture in a file.
+    pub fn replay_file(&mut self, path: &Path, text: &str) -> Result<(), String> {
+        let output = printed_of_file(&mut Command::new(self.replay), path).map_err(|why| format!("{}: {why}", self.replay.display()))?;
+        judged(&output, text).map_err(|why| format!("{}: from its file: {why}", self.place))
+    }
+
+    /// A report of a difference: where, what, and the capture's text form where that is short.
+    fn differs(&self, capture: &[u8], what: &str) -> String {
+        let text = reading::text(capture);
+        let lines = text.lines().count();
+        let told = if lines <= TOLD_LINES { text } else { format!("of {lines} lines, {} octets", capture.len()) };
+        format!("{}: {what}; the capture:\n{told}", self.place)
+    }
+}
+
+#[cfg(test)]
+mod tests {
+    use std::os::unix::process::ExitStatusExt;
+    use std::process::ExitStatus;
+
+    use super::*;
+
+    /// What a program left that ended with a status and printed to standard output and standard error.
+    fn left(status: i32, stdout: &str, stderr: &str) -> Output {
+        Output { status: ExitStatus::from_raw(status << 8), stdout: stdout.into(), stderr: stderr.into() }
+    }
+
+    #[test]
+    fn a_difference_is_told() {
+        assert_eq!(judged(&left(0, "0 1 5 1 0 0\n", ""), "0 1 5 1 0 0\n"), Ok(()));
+        let said = |output: Output, text: &str| judged(&output, text).expect_err("a difference");
+        assert_eq!(said(left(1, "a\n", ""), "a\n"), "replay ends with exit status: 1");
+        assert_eq!(said(left(0, "a\n", "b"), "a\n"), "replay writes to standard error: b");
+        assert_eq!(said(left(0, "a\nb\n", ""), "a\nc\n"), r#"line 2: replay prints "b\n", not "c\n""#);
+        assert_eq!(said(left(0, "a\nb", ""), "a\nb\n"), r#"line 2: replay prints "b", not "b\n""#);
+        assert_eq!(said(left(0, "a\n", ""), "a\nb\n"), r#"line 2: replay prints nothing, not "b\n""#);
+        assert_eq!(said(left(0, "a\nb\n", ""), "a\n"), r#"line 2: replay prints "b\n", not nothing"#);
+    }
+
+    #[test]
+    fn a_signal_is_told() {
+        let killed = Output { status: ExitStatus::from_raw(11), stdout: Vec::new(), stderr: Vec::new() };
+        assert!(judged(&killed, "").expect_err("a signal").starts_with("replay ends with signal: 11"));
+    }
+
+    #[test]
+    fn a_program_gets_all_octets_of_a_capture() {
+        let capture: Vec<u8> = (0..200_000_u32).map(|place| place as u8).collect();
+        for piece in [capture.len(), 70_000, 1_000] {
+            let output = printed(&mut Command::new("cat"), &capture, piece).expect("cat runs");
+            assert!(output.stdout == capture, "in pieces of {piece}");
+        }
+    }
+
+    #[test]
+    fn a_program_need_not_read_its_input() {
+        let output = printed(&mut Command::new("true"), &[0; 1_000_000], 1_000_000).expect("true runs");
+        assert_eq!(judged(&output, ""), Ok(()));
+    }
+}

@@ -1,0 +1,161 @@
+//! The kind `captures`, good ones: the stored captures with their outputs, and random ones, the proved program `replay` against the outside program's.
+
+use std::ops::RangeInclusive;
+
+use crate::capture::stored::{self, Stored};
+use crate::comparing::calls::{Charges, Permitted, Profile, Weights, ORDINARY};
+use crate::comparing::chains::{capture, SHAPES};
+use crate::comparing::coverage::Seen;
+use crate::comparing::random::Random;
+use crate::comparing::test::{Kind, Run, Test};
+use crate::comparing::tests::lists::{any_profile, at_each_place, never_met_from_opening, FULL_LINK, FULL_SHARE, OF_PLANNER, OF_SENDER};
+use crate::model::capture::{MOST_OCTETS, RECORD_OCTETS};
+use crate::model::port::STREAMS;
+use crate::model::refusal::*;
+
+/// The tests of this file.
+pub const TESTS: [Test; 15] = [
+    test("stored_captures", stored_captures),
+    test("reading_reset_to_current", |run| stored_capture(run, "reading_reset_to_current")),
+    test("reading_three_epochs", |run| stored_capture(run, "reading_three_epochs")),
+    test("reading_left_carried", |run| stored_capture(run, "reading_left_carried")),
+    test("reading_earlier_queue", |run| stored_capture(run, "reading_earlier_queue")),
+    test("reading_past_last", |run| stored_capture(run, "reading_past_last")),
+    test("captures_in_pieces", captures_in_pieces),
+    test("captures_of_few_streams", captures_of_few_streams),
+    test("captures_of_many_streams", captures_of_many_streams),
+    test("captures_of_full_queues", captures_of_full_queues),
+    test("captures_with_purges", captures_with_purges),
+    test("captures_of_best_effort", captures_of_best_effort),
+    test("captures_of_wrong_arguments", captures_of_wrong_arguments),
+    test("captures_of_any_events", captures_of_any_events),
+    test("captures_of_greatest_length", captures_of_greatest_length),
+];
+
+/// A test of this kind.
+pub const fn test(name: &'static str, body: fn(&mut Run) -> Result<(), String>) -> Test {
+    Test { kind: Kind::Captures, name, body }
+}
+
+/// How many records a capture can have after record 0.
+const MOST_RECORDS: usize = MOST_OCTETS / RECORD_OCTETS - 1;
+
+/// Every stored capture, from a pipe and from its file: both programs print the stored output.
+fn stored_captures(run: &mut Run) -> Result<(), String> {
+    stored::all()?.iter().try_for_each(|stored| replay_stored(run, stored))
+}
+
+/// One stored capture.
+fn stored_capture(run: &mut Run, name: &str) -> Result<(), String> {
+    replay_stored(run, &stored::one(name)?)
+}
+
+/// Replays a stored capture, from a pipe and from its file.
+fn replay_stored(run: &mut Run, stored: &Stored) -> Result<(), String> {
+    run.next_capture(&stored.name);
+    run.replay_prints(&stored.octets, &stored.output)?;
+    run.replay_file(&stored::path(&stored.name), &stored.output)
+}
+
+/// Captures that come in pieces of several sizes, whole records and parts of one.
+fn captures_in_pieces(run: &mut Run) -> Result<(), String> {
+    for piece in [1, 5, 15, 16, 17, 100, 4_096, 65_535] {
+        let records = (4 * piece / RECORD_OCTETS + 8).min(MOST_RECORDS);
+        for _ in 0..run.scaled(10) {
+            let mut random = run.next_capture(&format!("pieces of {piece}"));
+            let (shape, profile) = (random.pick(&SHAPES).1, any_profile(&mut random));
+            let octets = capture(&mut run.coverage, &mut random, shape, records, &profile);
+            run.replay_in_pieces(&octets, piece)?;
+        }
+    }
+    Ok(())
+}
+
+/// Few streams, which arrivals press at every place.
+fn captures_of_few_streams(run: &mut Run) -> Result<(), String> {
+    let weights = Weights { open: 0, reserve: 4, arrive: 70, tick: 15, transmit: 20, best_effort: 5, close: 0 };
+    let profile = Profile { weights, streams: 4, links: 10_000..=FULL_LINK, permitted: Permitted::UpTo(2_000), ..ORDINARY };
+    play(run, 500, 50..=600, |_| profile.clone())?;
+    run.demand(&at_each_place(Seen::JoinedAt, 5_000))?;
+    run.demand(&at_each_place(Seen::ExactFitAt, 1_000))?;
+    run.demand(&[(Seen::Refused(DISCARD), 5_000)])
+}
+
+/// All 64 streams, with reservations up to the share and past it.
+fn captures_of_many_streams(run: &mut Run) -> Result<(), String> {
+    let weights = Weights { open: 1, reserve: 150, arrive: 200, tick: 40, transmit: 60, best_effort: 20, close: 0 };
+    let profile = Profile { weights, links: 7_000..=FULL_LINK, permitted: Permitted::Parts, ..ORDINARY };
+    play(run, 400, 100..=800, |_| profile.clone())?;
+    run.demand(&[(Seen::Refused(SHARE_EXCEEDED), 2_000), (Seen::ShareFilled, 40), (Seen::AllReserved, 30), (Seen::Reserved, 5_000)])
+}
+
+/// Queues of 256 frames, each of the least charge.
+fn captures_of_full_queues(run: &mut Run) -> Result<(), String> {
+    let weights = Weights { open: 0, reserve: 100, arrive: 1_000, tick: 2, transmit: 3, best_effort: 50, close: 0 };
+    let profile = |random: &mut Random| {
+        let permitted = Permitted::Exactly(random.pick(&[FULL_SHARE, FULL_SHARE / STREAMS as u32]));
+        Profile { weights, links: FULL_LINK..=FULL_LINK, permitted, charges: Charges::Least, ..ORDINARY }
+    };
+    play(run, 150, 800..=3_000, profile)?;
+    run.demand(&[(Seen::QueueFilled, 50), (Seen::Refused(DISCARD), 500), (Seen::PurgedFrame, 2_000)])
+}
+
+/// Hardly any transmits, so that ticks purge.
+fn captures_with_purges(run: &mut Run) -> Result<(), String> {
+    let weights = Weights { open: 0, reserve: 4, arrive: 60, tick: 30, transmit: 4, best_effort: 4, close: 0 };
+    let profile = Profile { weights, streams: 16, links: 5_000..=FULL_LINK, permitted: Permitted::UpTo(3_000), ..ORDINARY };
+    play(run, 400, 50..=600, |_| profile.clone())?;
+    run.demand(&[(Seen::PurgedFrame, 20_000), (Seen::SentFromPrior, 500), (Seen::Ticked, 10_000)])
+}
+
+/// Best effort to its limit, below it after a reservation, and to 256 frames.
+fn captures_of_best_effort(run: &mut Run) -> Result<(), String> {
+    let profile = |random: &mut Random| {
+        let (charges, links) = random.pick(&[(Charges::Least, FULL_LINK), (Charges::NearLeft, 1_626)]);
+        let weights = Weights { open: 0, reserve: 1, arrive: 5, tick: 3, transmit: random.pick(&[2, 30]), best_effort: 90, close: 0 };
+        Profile { weights, links: links..=FULL_LINK, charges, edges: 2, ..ORDINARY }
+    };
+    play(run, 400, 50..=900, profile)?;
+    run.demand(&[(Seen::BestEffortFilled, 50), (Seen::BestEffortWrapped, 1_000), (Seen::SentFromBestEffort, 5_000)])?;
+    run.demand(&[(Seen::Refused(BEST_EFFORT_FULL), 2_000), (Seen::Refused(BEST_EFFORT_EXCEEDED), 2_000), (Seen::LimitBelowWaits, 50)])?;
+    run.demand(&[(Seen::BestEffortAtLimit, 500), (Seen::BestEffortOneAbove, 500)])
+}
+
+/// Every argument outside its range, at its ends and where fewer bits would hide it.
+fn captures_of_wrong_arguments(run: &mut Run) -> Result<(), String> {
+    let weights = Weights { open: 15, reserve: 30, arrive: 40, tick: 3, transmit: 7, best_effort: 15, close: 0 };
+    let profile = Profile { weights, edges: 60, ..ORDINARY };
+    play(run, 500, 10..=400, |_| profile.clone())?;
+    run.demand(&OF_PLANNER.map(|refusal| (Seen::Refused(refusal), 200)))?;
+    run.demand(&OF_SENDER.map(|refusal| (Seen::Refused(refusal), 500)))
+}
+
+/// Everything, in captures of few records and of many.
+fn captures_of_any_events(run: &mut Run) -> Result<(), String> {
+    play(run, 600, 1..=12, any_profile)?;
+    play(run, 400, 100..=500, any_profile)?;
+    run.demand(&[(Seen::SharedRecord, 50_000), (Seen::UnusedRecord, 5_000), (Seen::PortWithoutEvents, 500)])?;
+    run.demand(&[(Seen::Ticked, 5_000), (Seen::SentFromPrior, 2_000), (Seen::SentFromCurrent, 1_000), (Seen::SentNothing, 500)])
+}
+
+/// Files of 65,536 octets.
+fn captures_of_greatest_length(run: &mut Run) -> Result<(), String> {
+    let records = MOST_RECORDS as u32;
+    play(run, 60, records..=records, any_profile)?;
+    run.demand(&[(Seen::SharedRecord, 20_000), (Seen::UnusedRecord, 5_000)])
+}
+
+/// Replays so many captures at full size, the shapes in turn, each with any number of records of a range after record 0.
+fn play(run: &mut Run, captures: usize, records: RangeInclusive<u32>, profile: impl Fn(&mut Random) -> Profile) -> Result<(), String> {
+    for number in 0..run.scaled(captures) {
+        let (what, shape) = SHAPES[number % SHAPES.len()];
+        let mut random = run.next_capture(what);
+        let (profile, records) = (profile(&mut random), random.between(records.clone()) as usize);
+        let octets = capture(&mut run.coverage, &mut random, shape, records, &profile);
+        let text = run.replay(&octets)?;
+        if text.starts_with("refused") {
+            return Err(format!("{}: a good capture is {text}", run.place));
+        }
+    }
+    never_met_from_opening(run)
+}

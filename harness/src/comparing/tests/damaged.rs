@@ -1,0 +1,203 @@
+//! The kind `captures`, damaged ones: octets changed, files cut and extended, and every refusal of a file at every kind of place, alone and in pairs.
+
+use crate::capture::writing;
+use crate::comparing::calls::ORDINARY;
+use crate::comparing::chains::{capture, Shape, SHAPES};
+use crate::comparing::coverage::{Coverage, Seen};
+use crate::comparing::damage::{Check, Fault, Field, FIELDS};
+use crate::comparing::random::Random;
+use crate::comparing::test::{Run, Test};
+use crate::comparing::tests::captures::test;
+use crate::comparing::tests::lists::any_profile;
+use crate::model::capture::{MOST_OCTETS, RECORD_OCTETS};
+use crate::model::refusal::{CAPTURE_HEADER, CAPTURE_INDEX, CAPTURE_LENGTH, CAPTURE_RECORD};
+
+/// The tests of this file.
+pub const TESTS: [Test; 6] = [
+    test("refusals_at_every_place", refusals_at_every_place),
+    test("order_of_checks", order_of_checks),
+    test("each_octet_changed", each_octet_changed),
+    test("cut_at_every_length", cut_at_every_length),
+    test("lengths_about_the_greatest", lengths_about_the_greatest),
+    test("damaged_anywhere", damaged_anywhere),
+];
+
+/// A capture of 15 records: each port's chain, all kinds, records that ports share, and two on no chain.
+const CAPTURE: &str = "
+first 3 11            # in the middle of port 2's chain
+port 0                # record 1
+open 2142 1
+reserve 5 200
+arrive 5 120 7
+best effort 84 1
+tick
+transmit
+chain                 # record 7, on no chain
+tick
+port 1                # record 8
+open 2226 16 next 10
+chain                 # record 9, on no chain
+transmit
+port 2                # record 10
+reserve 63 84
+arrive 63 84 2
+best effort 1542 3
+tick
+transmit
+";
+
+/// What `replay` prints of it.
+const OUTPUT: &str = "0 1 1 0 600 0\n0 2 2 0 400 0\n0 3 3 0 1 80\n0 4 4 0 84 0\n0 5 5 0 0 0\n0 6 6 0 5 7\n\
+1 1 1 0 684 0\n1 2 2 0 600 0\n1 3 3 0 1 84\n1 4 4 0 1542 0\n1 5 5 0 0 0\n1 6 6 0 63 2\n\
+2 1 2 1 0 0\n2 2 3 1 0 0\n2 3 4 1 0 0\n2 4 5 1 0 0\n2 5 6 1 0 0\n3 1 3 1 0 0\n3 2 4 1 0 0\n3 3 5 1 0 0\n3 4 6 1 0 0\n";
+
+/// Its records on no chain.
+const UNUSED: [usize; 2] = [7, 9];
+
+/// Its records in the order in which the ports' walks first meet them, each behind the port of that walk; ports 2 and 3 meet none first.
+const WALKS: [(usize, &[usize]); 4] = [(0, &[1, 2, 3, 4, 5, 6]), (1, &[8, 10, 11, 12, 13, 14]), (2, &[]), (3, &[])];
+
+/// The octets of that capture.
+fn good_capture() -> Vec<u8> {
+    writing::octets(CAPTURE.as_bytes()).expect("the text is good")
+}
+
+/// All checks of that capture in their order: the file, then the ports, each "first index tested as a port's walk begins, each chain from its front, 24
+/// before 23 at a record".
+fn checks() -> Vec<Check> {
+    let walk = |&(port, records): &(usize, &[usize])| {
+        let of_records = records.iter().flat_map(|&index| [Check::Record(index), Check::Next(index)]);
+        [Check::First(port)].into_iter().chain(of_records).collect::<Vec<_>>()
+    };
+    [Check::Length, Check::Header].into_iter().chain(WALKS.iter().flat_map(walk)).collect()
+}
+
+/// Replays the capture with faults, and fails unless both programs print just this text.
+fn replay_with(run: &mut Run, faults: &[&Fault], text: &str) -> Result<(), String> {
+    let mut capture = good_capture();
+    faults.iter().for_each(|fault| fault.apply(&mut capture));
+    run.replay_prints(&capture, text)
+}
+
+/// Replays the capture with each fault of a check alone.
+fn replay_with_each(run: &mut Run, check: Check, what: &str, text: &str) -> Result<(), String> {
+    for fault in check.faults(&good_capture()) {
+        run.next_capture(&format!("{check:?}, {what}"));
+        replay_with(run, &[&fault], text)?;
+    }
+    Ok(())
+}
+
+/// Each fault alone: it is refused where a chain meets it, and not seen in a record on no chain.
+fn refusals_at_every_place(run: &mut Run) -> Result<(), String> {
+    run.next_capture("no fault");
+    replay_with(run, &[], OUTPUT)?;
+    for check in checks() {
+        replay_with_each(run, check, "to be refused", &check.refused())?;
+    }
+    for check in UNUSED.into_iter().flat_map(|index| [Check::Record(index), Check::Next(index)]) {
+        replay_with_each(run, check, "on no chain", OUTPUT)?;
+    }
+    Ok(())
+}
+
+/// Each two checks that fail in one file: the one that comes first is told.
+fn order_of_checks(run: &mut Run) -> Result<(), String> {
+    let (capture, checks) = (good_capture(), checks());
+    for (place, first) in checks.iter().enumerate() {
+        for later in &checks[place + 1..] {
+            let mut random = run.next_capture(&format!("{first:?}, then {later:?}"));
+            let [one, other] = [first, later].map(|check| any_of(&mut random, check.faults(&capture)));
+            replay_with(run, &[&other, &one], &first.refused())?;
+        }
+    }
+    Ok(())
+}
+
+/// Any of the faults.
+fn any_of(random: &mut Random, faults: Vec<Fault>) -> Fault {
+    faults[random.below(faults.len())].clone()
+}
+
+/// Every octet of a small capture, each changed in several ways.
+fn each_octet_changed(run: &mut Run) -> Result<(), String> {
+    for number in 0..run.scaled(20) {
+        let capture = small_capture(run, number)?;
+        for at in 0..capture.len() {
+            let mut random = run.next_capture(&format!("octet {at} changed"));
+            let (octet, other) = (capture[at], random.other_octet(capture[at]));
+            let mut changed = capture.clone();
+            changed[at] = random.pick(&[octet.wrapping_add(1), octet.wrapping_sub(1), octet ^ 0x80, other]);
+            run.coverage.count(Seen::Changed(Field::at(at)));
+            run.replay(&changed)?;
+        }
+    }
+    run.demand(&FIELDS.map(|field| (Seen::Changed(field), 80)))?;
+    run.demand(&[CAPTURE_HEADER, CAPTURE_INDEX, CAPTURE_RECORD].map(|refusal| (Seen::Refused(refusal), 100)))
+}
+
+/// A small capture, cut at every length, and with octets added.
+fn cut_at_every_length(run: &mut Run) -> Result<(), String> {
+    for number in 0..run.scaled(4) {
+        let capture = small_capture(run, number)?;
+        for length in 0..capture.len() + 2 * RECORD_OCTETS {
+            let mut random = run.next_capture(&format!("length {length}"));
+            let mut cut = capture[..length.min(capture.len())].to_vec();
+            cut.resize_with(length, || random.octet());
+            let text = run.replay(&cut)?;
+            let whole = length >= RECORD_OCTETS && length % RECORD_OCTETS == 0;
+            if !whole && text != Check::Length.refused() {
+                return Err(format!("{}: both print {text}", run.place));
+            }
+        }
+    }
+    run.demand(&[(Seen::Refused(CAPTURE_LENGTH), 200)])
+}
+
+/// A good capture of few records, of each shape in turn, replayed as it is.
+fn small_capture(run: &mut Run, number: usize) -> Result<Vec<u8>, String> {
+    let (what, shape): (&str, Shape) = SHAPES[number % SHAPES.len()];
+    let mut random = run.next_capture(what);
+    let records = random.between(4..=9) as usize;
+    let octets = capture(&mut Coverage::default(), &mut random, shape, records, &ORDINARY);
+    run.replay(&octets)?;
+    Ok(octets)
+}
+
+/// Files about the greatest length, and far longer ones.
+fn lengths_about_the_greatest(run: &mut Run) -> Result<(), String> {
+    let around = [MOST_OCTETS - 17, MOST_OCTETS - 16, MOST_OCTETS - 15, MOST_OCTETS - 1, MOST_OCTETS, MOST_OCTETS + 1];
+    let longer = [MOST_OCTETS + 15, MOST_OCTETS + 16, MOST_OCTETS + 17, 2 * MOST_OCTETS, 2 * MOST_OCTETS + 16, 1_000_000];
+    for (number, length) in around.into_iter().chain(longer).enumerate() {
+        let mut random = run.next_capture(&format!("length {length}"));
+        let profile = any_profile(&mut random);
+        let (records, shape) = (length / RECORD_OCTETS - 1, SHAPES[number % 2].1);
+        let mut octets = capture(&mut Coverage::default(), &mut random, shape, records, &profile);
+        octets.resize(length, 0);
+        let text = run.replay(&octets)?;
+        let good = length % RECORD_OCTETS == 0 && length <= MOST_OCTETS;
+        if good == text.starts_with("refused") || (!good && text != Check::Length.refused()) {
+            return Err(format!("{}: both print {}", run.place, text.lines().next().unwrap_or_default()));
+        }
+    }
+    Ok(())
+}
+
+/// Captures of any shape and length with up to four octets changed.
+fn damaged_anywhere(run: &mut Run) -> Result<(), String> {
+    for number in 0..run.scaled(1_200) {
+        let (what, shape): (&str, Shape) = SHAPES[number % SHAPES.len()];
+        let mut random = run.next_capture(what);
+        let (profile, records) = (any_profile(&mut random), random.between(1..=100) as usize);
+        let mut octets = capture(&mut Coverage::default(), &mut random, shape, records, &profile);
+        for _ in 0..random.between(1..=4) {
+            let (header, any) = (random.below(RECORD_OCTETS), random.below(octets.len()));
+            let at = random.pick(&[header, any, any, any]);
+            octets[at] = random.other_octet(octets[at]);
+            run.coverage.count(Seen::Changed(Field::at(at)));
+        }
+        run.replay(&octets)?;
+    }
+    run.demand(&FIELDS.map(|field| (Seen::Changed(field), 80)))?;
+    run.demand(&[CAPTURE_HEADER, CAPTURE_INDEX, CAPTURE_RECORD].map(|refusal| (Seen::Refused(refusal), 100)))
+}
