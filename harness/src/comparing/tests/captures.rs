@@ -110,15 +110,14 @@ fn captures_with_purges(run: &mut Run) -> Result<(), String> {
 
 /// Best effort to its limit, below it after a reservation, and to 256 frames.
 fn captures_of_best_effort(run: &mut Run) -> Result<(), String> {
-    let profile = |random: &mut Random| {
-        let (charges, links) = random.pick(&[(Charges::Least, FULL_LINK), (Charges::NearLeft, 1_626)]);
-        let weights = Weights { open: 0, reserve: 1, arrive: 5, tick: 3, transmit: random.pick(&[2, 30]), best_effort: 90, close: 0 };
-        Profile { weights, links: links..=FULL_LINK, charges, edges: 2, ..ORDINARY }
-    };
-    play(run, 400, 50..=900, profile)?;
-    run.demand(&[(Seen::BestEffortFilled, 50), (Seen::BestEffortWrapped, 1_000), (Seen::SentFromBestEffort, 5_000)])?;
-    run.demand(&[(Seen::Refused(BEST_EFFORT_FULL), 2_000), (Seen::Refused(BEST_EFFORT_EXCEEDED), 2_000), (Seen::LimitBelowWaits, 50)])?;
-    run.demand(&[(Seen::BestEffortAtLimit, 500), (Seen::BestEffortOneAbove, 500)])
+    let weights = |transmit| Weights { open: 0, reserve: 1, arrive: 5, tick: 3, transmit, best_effort: 90, close: 0 };
+    let pressed = |random: &mut Random| Profile { weights: weights(random.pick(&[2, 30])), edges: 2, ..ORDINARY };
+    play(run, 250, 50..=600, pressed)?;
+    run.demand(&[(Seen::Refused(BEST_EFFORT_EXCEEDED), 2_000), (Seen::LimitBelowWaits, 50), (Seen::BestEffortAtLimit, 500)])?;
+    let filled = |random: &mut Random| Profile { links: FULL_LINK..=FULL_LINK, charges: Charges::Least, ..pressed(random) };
+    play(run, 150, 600..=1_500, filled)?;
+    run.demand(&[(Seen::BestEffortFilled, 100), (Seen::BestEffortWrapped, 1_000), (Seen::SentFromBestEffort, 5_000)])?;
+    run.demand(&[(Seen::Refused(BEST_EFFORT_FULL), 2_000), (Seen::BestEffortOneAbove, 200)])
 }
 
 /// Every argument outside its range, at its ends and where fewer bits would hide it.
@@ -126,7 +125,7 @@ fn captures_of_wrong_arguments(run: &mut Run) -> Result<(), String> {
     let weights = Weights { open: 15, reserve: 30, arrive: 40, tick: 3, transmit: 7, best_effort: 15, close: 0 };
     let profile = Profile { weights, edges: 60, ..ORDINARY };
     play(run, 500, 10..=400, |_| profile.clone())?;
-    run.demand(&OF_PLANNER.map(|refusal| (Seen::Refused(refusal), 200)))?;
+    run.demand(&OF_PLANNER.map(|refusal| (Seen::Refused(refusal), 80)))?;
     run.demand(&OF_SENDER.map(|refusal| (Seen::Refused(refusal), 500)))
 }
 

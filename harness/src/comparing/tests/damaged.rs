@@ -198,6 +198,6 @@ fn damaged_anywhere(run: &mut Run) -> Result<(), String> {
         }
         run.replay(&octets)?;
     }
-    run.demand(&FIELDS.map(|field| (Seen::Changed(field), 80)))?;
+    run.demand(&FIELDS.map(|field| (Seen::Changed(field), 30)))?;
     run.demand(&[CAPTURE_HEADER, CAPTURE_INDEX, CAPTURE_RECORD].map(|refusal| (Seen::Refused(refusal), 100)))
 }
