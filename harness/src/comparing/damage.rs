@@ -7,6 +7,9 @@ use crate::model::capture::{
     STREAM_AT, ZEROS_AT,
 };
 
+/// Where a number of one octet starts over.
+const OVER_AN_OCTET: u16 = 1 << 8;
+
 /// What an octet of a capture is part of.
 #[derive(Clone, Copy, Debug, PartialEq, Eq, PartialOrd, Ord)]
 pub enum Field {
@@ -117,7 +120,7 @@ impl Check {
         format!("refused {refusal} {index}\n")
     }
 
-    /// Every fault that is tried for this check in a good capture.
+    /// Every fault that is tried for this check in a good capture of fewer than 256 records; some indices would be good ones if one octet of them were read.
     pub fn faults(self, capture: &[u8]) -> Vec<Fault> {
         let count = (capture.len() / RECORD_OCTETS) as u16;
         match self {
@@ -125,9 +128,12 @@ impl Check {
                 vec![Fault::Cut(0), Fault::Cut(1), Fault::Cut(15), Fault::Cut(capture.len() - 1), Fault::Added(1), Fault::Added(65_536)]
             }
             Check::Header => header_faults(capture),
-            Check::First(port) => index_faults(FIRST_INDICES_AT + 2 * port, &[count, count + 1, u16::MAX]),
+            Check::First(port) => {
+                index_faults(FIRST_INDICES_AT + 2 * port, &[count, count + 1, OVER_AN_OCTET, OVER_AN_OCTET + 1, u16::MAX])
+            }
             Check::Next(index) => {
-                let wrong: Vec<u16> = (1..=index as u16).chain([count, count + 1, u16::MAX]).collect();
+                let own = index as u16;
+                let wrong: Vec<u16> = (1..=own).chain([count, count + 1, OVER_AN_OCTET, OVER_AN_OCTET + own + 1, u16::MAX]).collect();
                 index_faults(index * RECORD_OCTETS + NEXT_INDEX_AT, &wrong)
             }
             Check::Record(index) => record_faults(capture, index * RECORD_OCTETS),

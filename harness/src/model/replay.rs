@@ -1,11 +1,20 @@
 //! The outside program's `replay`: "All checks of the file come before any event", then port after port, each on a fresh port of the model.
 
-use std::fmt::Write;
+use std::fmt::Write as _;
+use std::io::{self, Read, Write};
 
-use super::capture::{self, Refused};
+use super::capture::{self, Refused, MOST_OCTETS};
 use super::port::Port;
 use super::rule;
 use crate::call::Call;
+
+/// "The program `replay` reads a capture from standard input", and prints what it prints to standard output.
+pub fn program() -> io::Result<()> {
+    let mut octets = Vec::new();
+    // One octet more than the longest capture shows that a file is too long.
+    io::stdin().lock().take(MOST_OCTETS as u64 + 1).read_to_end(&mut octets)?;
+    io::stdout().lock().write_all(replay(&octets).as_bytes())
+}
 
 /// What `replay` prints of a capture: "one line per event", or of a bad file only `refused N I`.
 pub fn replay(octets: &[u8]) -> String {

@@ -5,7 +5,6 @@ use crate::comparing::calls::ORDINARY;
 use crate::comparing::chains::{capture, Shape, SHAPES};
 use crate::comparing::coverage::{Coverage, Seen};
 use crate::comparing::damage::{Check, Fault, Field, FIELDS};
-use crate::comparing::random::Random;
 use crate::comparing::test::{Run, Test};
 use crate::comparing::tests::captures::test;
 use crate::comparing::tests::lists::any_profile;
@@ -57,6 +56,9 @@ const UNUSED: [usize; 2] = [7, 9];
 /// Its records in the order in which the ports' walks first meet them, each behind the port of that walk; ports 2 and 3 meet none first.
 const WALKS: [(usize, &[usize]); 4] = [(0, &[1, 2, 3, 4, 5, 6]), (1, &[8, 10, 11, 12, 13, 14]), (2, &[]), (3, &[])];
 
+/// How many faults of the first of two checks are tried.
+const FAULTS_OF_A_PAIR: usize = 6;
+
 /// The octets of that capture.
 fn good_capture() -> Vec<u8> {
     writing::octets(CAPTURE.as_bytes()).expect("the text is good")
@@ -101,22 +103,20 @@ fn refusals_at_every_place(run: &mut Run) -> Result<(), String> {
     Ok(())
 }
 
-/// Each two checks that fail in one file: the one that comes first is told.
+/// Each two checks that fail in one file, with several faults of each: the check that comes first is told.
 fn order_of_checks(run: &mut Run) -> Result<(), String> {
     let (capture, checks) = (good_capture(), checks());
     for (place, first) in checks.iter().enumerate() {
         for later in &checks[place + 1..] {
-            let mut random = run.next_capture(&format!("{first:?}, then {later:?}"));
-            let [one, other] = [first, later].map(|check| any_of(&mut random, check.faults(&capture)));
-            replay_with(run, &[&other, &one], &first.refused())?;
+            let [faults, others] = [first, later].map(|check| check.faults(&capture));
+            for number in 0..FAULTS_OF_A_PAIR {
+                let mut random = run.next_capture(&format!("{first:?}, then {later:?}"));
+                let other = &others[random.below(others.len())];
+                replay_with(run, &[other, &faults[number % faults.len()]], &first.refused())?;
+            }
         }
     }
     Ok(())
-}
-
-/// Any of the faults.
-fn any_of(random: &mut Random, faults: Vec<Fault>) -> Fault {
-    faults[random.below(faults.len())].clone()
 }
 
 /// Every octet of a small capture, each changed in several ways.

@@ -1,0 +1,54 @@
+//! Runs the proved program `replay` under valgrind on a few stored captures. One that prints other than its stored output, or of which valgrind reports
+//! anything, is a failure. `--replay PROGRAM` names the program where it is another than the repository's. The last line is the total.
+
+use std::env;
+use std::path::Path;
+use std::process::{Command, ExitCode};
+
+use harness::capture::stored;
+use harness::comparing::replayed::{self, judged, printed_of_file};
+
+/// The captures: the sample, shared records, each sort of refused file, no event, and as many events as one port can have.
+const CAPTURES: [&str; 9] = [
+    "sample",
+    "shared_records",
+    "refused_21_cut",
+    "refused_21_too_long",
+    "refused_22_last_zero",
+    "refused_23_last_record",
+    "refused_24_last_record",
+    "no_events",
+    "full_file",
+];
+
+/// Valgrind says nothing but what is wrong, which then is its status; the program's arrays stand on its stack.
+const OPTIONS: [&str; 5] =
+    ["--quiet", "--error-exitcode=99", "--leak-check=full", "--main-stacksize=16777216", "--max-stackframe=16777216"];
+
+fn main() -> ExitCode {
+    let words: Vec<String> = env::args().skip(1).collect();
+    let named = words.iter().skip_while(|word| *word != replayed::OPTION).nth(1);
+    let program = named.map_or_else(replayed::proved, Into::into);
+    let failed = CAPTURES.iter().filter(|name| !passes(&program, name)).count();
+    println!("{} passed, {failed} failed", CAPTURES.len() - failed);
+    ExitCode::from(u8::from(failed > 0))
+}
+
+/// Runs the program on one stored capture, and prints whether it passed.
+fn passes(program: &Path, name: &str) -> bool {
+    let result = checked(program, name);
+    match &result {
+        Ok(()) => println!("{name} under valgrind: ok"),
+        Err(why) => println!("{name} under valgrind: FAILED: {why}"),
+    }
+    result.is_ok()
+}
+
+/// Runs the program on one stored capture under valgrind, and judges what it printed and what valgrind said.
+fn checked(program: &Path, name: &str) -> Result<(), String> {
+    if !program.is_file() {
+        return Err(format!("there is no program {}", program.display()));
+    }
+    let output = printed_of_file(Command::new("valgrind").args(OPTIONS).arg(program), &stored::path(name));
+    judged(&output.map_err(|why| format!("valgrind: {why}"))?, &stored::one(name)?.output)
+}
