@@ -1,10 +1,11 @@
 //! What a replay costs: the proved program `replay` beside the outside program's, on the same captures in one run. Wall time and instructions of a capture
-//! of 65,536 octets on four ports, 16,380 events; then the instructions of an event in captures of several lengths. Nothing here is a test: it prints figures
-//! and judges none. `--replay PROGRAM` names the proved program where it is another than the repository's; the instructions want valgrind.
+//! of 65,536 octets on four ports, 16,380 events; then the instructions of an event in captures of several lengths. Most of what the outside program takes
+//! is Rust's way to print a line, so it stands there a second time with the digits put by hand. Nothing here is a test: it prints figures and judges none.
+//! `--replay PROGRAM` names the proved program where it is another than the repository's; the instructions want valgrind.
 
 use std::env;
 use std::fs::{self, File};
-use std::io;
+use std::io::{self, Read, Write};
 use std::path::{Path, PathBuf};
 use std::process::{Command, ExitCode, Stdio};
 use std::time::Instant;
@@ -13,13 +14,18 @@ use harness::call::Call;
 use harness::capture::file;
 use harness::comparing::random::Random;
 use harness::comparing::replayed::{self, judged, printed_of_file};
-use harness::model::capture::{MOST_OCTETS, PORTS, RECORD_OCTETS};
-use harness::model::replay;
+use harness::model::capture::{self, MOST_OCTETS, PORTS, RECORD_OCTETS};
+use harness::model::port::Port;
+use harness::model::{replay, rule};
 
 /// How often each program runs for its wall time.
 const ROUNDS: usize = 101;
-/// The word with which this program is the outside program's `replay`, so that both are built alike.
+/// The word with which this program is the outside program's `replay`, so that it is built as the benchmark is.
 const AS_OUTSIDE: &str = "outside";
+/// The word with which this program is that with the digits put by hand.
+const BY_DIGITS: &str = "digits";
+/// How many programs there are: the proved one and two to hold beside it.
+const PROGRAMS: usize = 3;
 /// The records after record 0 of the largest capture, which each port has as events.
 const MOST_RECORDS: usize = MOST_OCTETS / RECORD_OCTETS - 1;
 /// The records of the captures that show how the cost grows: 1,000, 4,000 and 16,000 events on four ports.
@@ -35,16 +41,17 @@ const ARRIVALS: usize = 28;
 const BEST_EFFORTS: usize = 5;
 const TRANSMITS: usize = 30;
 
-/// The two programs.
+/// Where the programs are: this one is all but the proved one.
 struct Programs {
     proved: PathBuf,
-    outside: PathBuf,
+    this: PathBuf,
 }
 
 fn main() -> ExitCode {
     let words: Vec<String> = env::args().skip(1).collect();
     let result = match words.first().map(String::as_str) {
         Some(AS_OUTSIDE) => replay::program(),
+        Some(BY_DIGITS) => by_digits(),
         _ => report(words.iter().skip_while(|word| *word != replayed::OPTION).nth(1)),
     };
     match result {
@@ -58,7 +65,7 @@ fn main() -> ExitCode {
 
 /// Prints all figures.
 fn report(named: Option<&String>) -> io::Result<()> {
-    let programs = Programs { proved: named.map_or_else(replayed::proved, PathBuf::from), outside: env::current_exe()? };
+    let programs = Programs { proved: named.map_or_else(replayed::proved, PathBuf::from), this: env::current_exe()? };
     let path = env::temp_dir().join(format!("replay_benchmark_{}.capture", std::process::id()));
     let result = wall_time(&programs, &path).and_then(|()| instructions(&programs, &path));
     fs::remove_file(&path)?;
@@ -66,31 +73,34 @@ fn report(named: Option<&String>) -> io::Result<()> {
 }
 
 impl Programs {
-    /// Each program by its name.
-    fn each(&self) -> [(&'static str, Command); 2] {
-        let mut outside = Command::new(&self.outside);
-        outside.arg(AS_OUTSIDE);
-        [("replay", Command::new(&self.proved)), ("outside", outside)]
+    /// Each program by its name, the proved one first.
+    fn each(&self) -> [(&'static str, Command); PROGRAMS] {
+        let this = |word: &'static str| {
+            let mut program = Command::new(&self.this);
+            program.arg(word);
+            (word, program)
+        };
+        [("replay", Command::new(&self.proved)), this(AS_OUTSIDE), this(BY_DIGITS)]
     }
 }
 
-/// Prints the wall time of both programs on the largest capture: in each round both run, one after the other.
+/// Prints the wall time of the programs on the largest capture: in each round all run, one after the other.
 fn wall_time(programs: &Programs, path: &Path) -> io::Result<()> {
-    fs::write(path, capture(MOST_RECORDS))?;
-    same_output(programs, path)?;
-    let mut milliseconds = [Vec::new(), Vec::new()];
+    write_capture(programs, path, MOST_RECORDS)?;
+    let mut milliseconds: [Vec<f64>; PROGRAMS] = Default::default();
     for _ in 0..ROUNDS {
         for ((_, program), figures) in programs.each().iter_mut().zip(&mut milliseconds) {
             figures.push(timed(program, path)?);
         }
     }
+    milliseconds.iter_mut().for_each(|figures| figures.sort_by(f64::total_cmp));
+    let [proved, ..] = &milliseconds;
     println!("wall time of {} events, {MOST_OCTETS} octets on four ports, in milliseconds, {ROUNDS} rounds", PORTS * MOST_RECORDS);
-    println!("  {:<10}{:>9}{:>9}{:>9}", "", "least", "median", "greatest");
-    for ((name, _), figures) in programs.each().iter().zip(&mut milliseconds) {
-        figures.sort_by(f64::total_cmp);
-        println!("  {:<10}{:>9.2}{:>9.2}{:>9.2}", name, figures[0], figures[ROUNDS / 2], figures[ROUNDS - 1]);
+    println!("  {:<10}{:>9}{:>9}{:>9}{:>18}", "", "least", "median", "greatest", "replay / median");
+    for ((name, _), figures) in programs.each().iter().zip(&milliseconds) {
+        let (least, median, greatest) = (figures[0], figures[ROUNDS / 2], figures[ROUNDS - 1]);
+        println!("  {:<10}{:>9.2}{:>9.2}{:>9.2}{:>18.2}", name, least, median, greatest, proved[ROUNDS / 2] / median);
     }
-    println!("  {:<10}{:>27.2}", "ratio", milliseconds[0][ROUNDS / 2] / milliseconds[1][ROUNDS / 2]);
     Ok(())
 }
 
@@ -102,39 +112,44 @@ fn timed(program: &mut Command, path: &Path) -> io::Result<f64> {
     Ok(began.elapsed().as_secs_f64() * 1_000.0)
 }
 
-/// Stops unless both programs print the same of a capture: else they would not do the same work.
-fn same_output(programs: &Programs, path: &Path) -> io::Result<()> {
-    let [(_, mut proved), (_, mut outside)] = programs.each();
-    let text = String::from_utf8_lossy(&printed_of_file(&mut outside, path)?.stdout).into_owned();
-    let output = printed_of_file(&mut proved, path).map_err(|why| io::Error::other(format!("{}: {why}", programs.proved.display())))?;
-    judged(&output, &text).map_err(|why| io::Error::other(format!("the programs part: {why}")))
-}
-
-/// Prints the instructions of both programs, of the largest capture and of one event in captures of several lengths.
-fn instructions(programs: &Programs, path: &Path) -> io::Result<()> {
-    let counts: Vec<[u64; 2]> =
-        [0].iter().chain(&GROWING).chain(&[MOST_RECORDS]).map(|&records| counted(programs, path, records)).collect::<io::Result<_>>()?;
-    let (none, of_events) = (counts[0], &counts[1..]);
-    println!(
-        "instructions, by valgrind --tool=callgrind; those of an event are what the capture takes above one without events, for each event"
-    );
-    println!("  {:<10}{:>14}{:>14}{:>8}{:>16}{:>16}", "events", "replay", "outside", "ratio", "replay, event", "outside, event");
-    println!("  {:<10}{:>14}{:>14}{:>8.2}", 0, none[0], none[1], none[0] as f64 / none[1] as f64);
-    for (records, count) in GROWING.iter().chain(&[MOST_RECORDS]).zip(of_events) {
-        let events = PORTS * records;
-        let of_event = [0, 1].map(|program| (count[program] - none[program]) as f64 / events as f64);
-        let ratio = count[0] as f64 / count[1] as f64;
-        println!("  {:<10}{:>14}{:>14}{:>8.2}{:>16.1}{:>16.1}", events, count[0], count[1], ratio, of_event[0], of_event[1]);
+/// Writes a capture of so many records, and stops unless all programs print the same of it: else they would not do the same work.
+fn write_capture(programs: &Programs, path: &Path, records: usize) -> io::Result<()> {
+    let capture = capture(records);
+    let text = replay::replay(&capture);
+    fs::write(path, capture)?;
+    for (name, mut program) in programs.each() {
+        let output = printed_of_file(&mut program, path).map_err(|why| io::Error::other(format!("{name}: {why}")))?;
+        judged(&output, &text).map_err(|why| io::Error::other(format!("{name} parts from the outside program: {why}")))?;
     }
     Ok(())
 }
 
-/// The instructions of both programs on a capture of so many records.
-fn counted(programs: &Programs, path: &Path, records: usize) -> io::Result<[u64; 2]> {
-    fs::write(path, capture(records))?;
-    same_output(programs, path)?;
-    let [(_, proved), (_, outside)] = programs.each();
-    Ok([counted_of(&proved, path)?, counted_of(&outside, path)?])
+/// Prints the instructions of the programs for captures of several lengths, and those of an event: what the capture takes above one without events.
+fn instructions(programs: &Programs, path: &Path) -> io::Result<()> {
+    let none = counted(programs, path, 0)?;
+    println!(
+        "instructions, by valgrind --tool=callgrind; those of an event are what a capture takes above one without events, for each event"
+    );
+    println!("  {:<8}{:<10}{:>14}{:>18}{:>12}", "events", "", "in all", "replay / in all", "of an event");
+    for records in [0].into_iter().chain(GROWING).chain([MOST_RECORDS]) {
+        let (events, counts) = (PORTS * records, counted(programs, path, records)?);
+        for (program, (name, _)) in programs.each().iter().enumerate() {
+            let of_event = (counts[program] - none[program]) as f64 / events.max(1) as f64;
+            let ratio = counts[0] as f64 / counts[program] as f64;
+            println!("  {:<8}{:<10}{:>14}{:>18.2}{:>12.1}", events, name, counts[program], ratio, of_event);
+        }
+    }
+    Ok(())
+}
+
+/// The instructions of the programs on a capture of so many records.
+fn counted(programs: &Programs, path: &Path, records: usize) -> io::Result<[u64; PROGRAMS]> {
+    write_capture(programs, path, records)?;
+    let mut counts = [0; PROGRAMS];
+    for (count, (_, program)) in counts.iter_mut().zip(programs.each()) {
+        *count = counted_of(&program, path)?;
+    }
+    Ok(counts)
 }
 
 /// The instructions of one run of a program, from its start to its end.
@@ -146,6 +161,38 @@ fn counted_of(program: &Command, path: &Path) -> io::Result<u64> {
     let said = String::from_utf8_lossy(&output.stderr);
     let count = said.lines().find_map(|line| line.split_once("Collected :")?.1.trim().parse().ok());
     count.ok_or_else(|| io::Error::other(format!("valgrind tells no count: {said}")))
+}
+
+/// The outside program's `replay` of a good capture with the digits of each line put by hand.
+fn by_digits() -> io::Result<()> {
+    let mut octets = Vec::new();
+    io::stdin().lock().read_to_end(&mut octets)?;
+    let ports = capture::events(&octets).map_err(|refused| io::Error::other(format!("{refused:?}")))?;
+    let mut lines = Vec::new();
+    for (number, events) in ports.iter().enumerate() {
+        let mut port = Port::closed();
+        for (before, event) in events.iter().enumerate() {
+            let reply = rule::step(event, &mut port);
+            let numbers = [number as u32, before as u32 + 1, capture::kind(event).into(), reply.refusal.into(), reply.first, reply.second];
+            numbers.into_iter().for_each(|number| put_number(&mut lines, number));
+            *lines.last_mut().expect("a line has numbers") = b'\n';
+        }
+    }
+    io::stdout().lock().write_all(&lines)
+}
+
+/// Adds the digits of a number, at most ten, and a space.
+fn put_number(lines: &mut Vec<u8>, number: u32) {
+    let mut digits = [b' '; 11];
+    let (mut at, mut rest) = (digits.len() - 1, number);
+    loop {
+        at -= 1;
+        digits[at] = b'0' + (rest % 10) as u8;
+        rest /= 10;
+        if rest == 0 {
+            return lines.extend_from_slice(&digits[at..]);
+        }
+    }
 }
 
 /// A capture of one chain of so many records on four ports: a port is opened, its streams are reserved, then come epochs, until there are enough.

@@ -5,5 +5,6 @@ pub mod reading;
 pub mod stored;
 #[cfg(test)]
 mod tests;
+pub mod tool;
 pub mod words;
 pub mod writing;

@@ -1,7 +1,7 @@
 //! The text form: what its lines mean, that both ways are exact, and what is said of a bad text.
 
 use super::file::{header, put_first_index, put_next_index, record, Record};
-use super::{reading, stored, writing};
+use super::{reading, stored, tool, writing};
 use crate::call::Call;
 use crate::comparing::random::Random;
 use crate::model::replay::replay;
@@ -256,4 +256,33 @@ fn every_stored_capture_is_listed_once() {
     let names = stored::names().expect("the folder can be read");
     assert!(!names.is_empty());
     assert_eq!(stored::listed().expect("the list can be read"), names);
+}
+
+/// What the tool leaves when it is called with words and an input: status, output, and what it told.
+fn used(words: &[&str], input: &[u8]) -> (u8, Vec<u8>, String) {
+    let words: Vec<String> = words.iter().map(|word| String::from(*word)).collect();
+    let (mut output, mut errors) = (Vec::new(), Vec::new());
+    let status = tool::run(&words, &mut &input[..], &mut output, &mut errors);
+    (status, output, String::from_utf8(errors).expect("what is told is text"))
+}
+
+#[test]
+fn the_tool_turns_both_ways() {
+    let capture = SAMPLE_OCTETS.concat();
+    assert_eq!(used(&["write"], SAMPLE.as_bytes()), (0, capture.clone(), String::new()));
+    assert_eq!(used(&["read"], &capture), (0, SAMPLE.into(), String::new()));
+}
+
+#[test]
+fn the_tool_writes_nothing_of_a_bad_text() {
+    let (status, output, told) = used(&["write"], b"port 0\ntick\narrive 5\n");
+    assert_eq!((status, output, told.as_str()), (1, Vec::new(), "line 3: a charge is missing\n"));
+}
+
+#[test]
+fn the_tool_tells_how_it_is_called() {
+    for words in [&[][..], &["turn"], &["read", "write"]] {
+        let (status, output, told) = used(words, b"");
+        assert!(status == 2 && output.is_empty() && told.starts_with("usage: capture"), "{words:?}: {told}");
+    }
 }
