@@ -2,8 +2,8 @@
 //! an edit of faults/; builds it once; sees every test pass over the sound sides; and runs over each fault what its edit names: kinds of test,
 //! or single tests. Where one of these does not find it, that is a failure.
 //!
-//! `faults` prints, for each fault, what found it; `faults --all` also runs every kind on every fault; `--replay PROGRAM` names the proved program `replay`
-//! where it is another than the repository's. The last line is the total.
+//! `faults` prints, for each fault, what found it; `faults --all` also runs every kind on every fault; `--replay PROGRAM` names the proved program
+//! `replay` where it is another than the repository's. The last line is the total.
 
 use std::env;
 use std::fs;

@@ -1,7 +1,7 @@
-//! What a replay costs: the proved program `replay` beside the outside program's, on the same captures in one run. Wall time and instructions of a capture
-//! of 65,536 octets on four ports, 16,380 events; then the instructions of an event in captures of several lengths. Most of what the outside program takes
-//! is Rust's way to print a line, so it stands there a second time with the digits put by hand. Nothing here is a test: it prints figures and judges none.
-//! `--replay PROGRAM` names the proved program where it is another than the repository's; the instructions want valgrind.
+//! What a replay costs: the proved program `replay` beside the outside program's, on the same captures in one run. Wall time and instructions of a
+//! capture of 65,536 octets on four ports, 16,380 events; then the instructions of an event in captures of several lengths. Most of what the outside
+//! program takes is Rust's way to print a line, so it stands there a second time with the digits put by hand. Nothing here is a test: it prints
+//! figures and judges none. `--replay PROGRAM` names the proved program where it is another than the repository's; the instructions want valgrind.
 
 use std::env;
 use std::fs::{self, File};

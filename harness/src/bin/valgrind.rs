@@ -1,5 +1,5 @@
-//! Runs the proved program `replay` under valgrind on a few stored captures. One that prints other than its stored output, or of which valgrind reports
-//! anything, is a failure. `--replay PROGRAM` names the program where it is another than the repository's. The last line is the total.
+//! Runs the proved program `replay` under valgrind on a few stored captures. One that prints other than its stored output, or of which valgrind
+//! reports anything, is a failure. `--replay PROGRAM` names the program where it is another than the repository's. The last line is the total.
 
 use std::env;
 use std::path::Path;

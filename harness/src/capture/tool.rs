@@ -1,5 +1,5 @@
-//! The tool that turns the text form of a capture into the capture, and a capture into its text form. Status 0 says that it did, 1 that the text is bad or
-//! that input or output failed, 2 that a word of the command line is wrong. Of a bad text nothing is written.
+//! The tool that turns the text form of a capture into the capture, and a capture into its text form. Status 0 says that it did, 1 that the text is
+//! bad or that input or output failed, 2 that a word of the command line is wrong. Of a bad text nothing is written.
 
 use std::io::{Read, Write};
 

@@ -120,7 +120,8 @@ impl Check {
         format!("refused {refusal} {index}\n")
     }
 
-    /// Every fault that is tried for this check in a good capture of fewer than 256 records; some indices would be good ones if one octet of them were read.
+    /// Every fault that is tried for this check in a good capture of fewer than 256 records; some indices would be good ones if one octet of them
+    /// were read.
     pub fn faults(self, capture: &[u8]) -> Vec<Fault> {
         let count = (capture.len() / RECORD_OCTETS) as u16;
         match self {

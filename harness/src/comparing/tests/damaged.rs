@@ -64,8 +64,8 @@ fn good_capture() -> Vec<u8> {
     writing::octets(CAPTURE.as_bytes()).expect("the text is good")
 }
 
-/// All checks of that capture in their order: the file, then the ports, each "first index tested as a port's walk begins, each chain from its front, 24
-/// before 23 at a record".
+/// All checks of that capture in their order: the file, then the ports, each "first index tested as a port's walk begins, each chain from its front,
+/// 24 before 23 at a record".
 fn checks() -> Vec<Check> {
     let walk = |&(port, records): &(usize, &[usize])| {
         let of_records = records.iter().flat_map(|&index| [Check::Record(index), Check::Next(index)]);

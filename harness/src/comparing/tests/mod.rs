@@ -1,6 +1,6 @@
 //! The tests of each kind: `lists` and `sample` hold the calls against the model on lists of calls, `records` on records of any content, and `quick`
-//! and `fences` are about the quick calls and about octets outside the lent ones; `guarantee` holds lists of calls against demand 3; `captures` and `damaged`
-//! hold the program `replay` against the outside program's.
+//! and `fences` are about the quick calls and about octets outside the lent ones; `guarantee` holds lists of calls against demand 3; `captures` and
+//! `damaged` hold the program `replay` against the outside program's.
 
 pub mod captures;
 pub mod damaged;
