@@ -117,6 +117,14 @@ fn an_index_outright_may_come_anywhere_and_digits_in_either_case() {
 }
 
 #[test]
+fn a_next_index_that_is_said_stays_within_a_run() {
+    let bad = [7, 0, 0, 1, 0, 0, 0, 0, 0, 0, 0, 0, 0, 0, 0, 0];
+    let text = "port 0\ntick next 3\noctets 07000001000000000000000000000000\ntransmit\ntick";
+    let records = [header([1, 0, 0, 0]), record(&Call::Tick, 3), bad, record(&Call::Transmit, 4), record(&Call::Tick, 0)];
+    assert_eq!(written(text), records.concat());
+}
+
+#[test]
 fn any_octets_come_back() {
     for number in 0..2_000 {
         let mut random = Random::of(1, "any_octets_come_back", number);
@@ -218,6 +226,7 @@ fn bad_octets_get_their_line_and_what_is_wrong() {
         (String::from("header 45\nchain\ntick"), "line 2: only the last octets can be fewer than a record's 16"),
         (format!("port 0\ntick\n{header}"), "line 3: a header comes first"),
         (format!("first 0 1\n{header}"), "line 2: a header comes first"),
+        (format!("chain\ntick\n{header}"), "line 3: a header comes first"),
         (format!("{header}\n{header}"), "line 2: a header comes first"),
         (format!("{header}\nport 0\ntick"), "line 2: the header gives the first indices"),
         (format!("{header}\nfirst 0 1"), "line 2: the header gives the first indices"),
