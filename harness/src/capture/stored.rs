@@ -1,5 +1,6 @@
 //! The stored captures of the repository's folder captures/.
 
+use std::collections::BTreeSet;
 use std::fs;
 use std::path::{Path, PathBuf};
 
@@ -55,18 +56,16 @@ pub fn all() -> Result<Vec<Stored>, String> {
 /// The names of the stored captures: every file of the folder is one of a capture's three, or the one that says what each shows.
 pub fn names() -> Result<Vec<String>, String> {
     let entries = fs::read_dir(folder()).map_err(|why| format!("{}: {why}", folder().display()))?;
-    let mut names = Vec::new();
+    let mut names = BTreeSet::new();
     for entry in entries {
         let file = entry.map_err(|why| why.to_string())?.file_name().to_string_lossy().into_owned();
         match file.split_once('.') {
-            Some((name, CAPTURE)) => names.push(String::from(name)),
-            Some((_, TEXT | OUTPUT)) => (),
-            _ if file == README => (),
+            Some((name, CAPTURE | TEXT | OUTPUT)) => names.insert(String::from(name)),
+            _ if file == README => continue,
             _ => return Err(format!("{file} is no file of a stored capture")),
-        }
+        };
     }
-    names.sort();
-    Ok(names)
+    Ok(names.into_iter().collect())
 }
 
 /// The names in the tables of what each capture shows, by name.

@@ -1,4 +1,4 @@
-//! What can be wrong with a capture: the fields of its octets, and every fault that document 01 refuses, in the order in which its checks meet them.
+//! What can be wrong with a capture: the fields of its octets, and for each check of the file every damage that it must refuse.
 
 use std::fmt;
 
@@ -72,7 +72,7 @@ impl fmt::Display for Field {
 
 /// What a check looks at.
 #[derive(Clone, Copy, Debug, PartialEq, Eq)]
-pub enum Check {
+pub enum FileCheck {
     /// 21.
     Length,
     /// 22.
@@ -87,7 +87,7 @@ pub enum Check {
 
 /// One way to make a capture wrong.
 #[derive(Clone)]
-pub enum Fault {
+pub enum Damage {
     /// Octets are written over those from a place on.
     Written { at: usize, octets: Vec<u8> },
     /// The file is cut to a length.
@@ -96,68 +96,75 @@ pub enum Fault {
     Added(usize),
 }
 
-impl Fault {
+impl Damage {
     /// Makes a capture wrong.
     pub fn apply(&self, capture: &mut Vec<u8>) {
         match self {
-            Fault::Written { at, octets } => capture[*at..at + octets.len()].copy_from_slice(octets),
-            Fault::Cut(length) => capture.truncate(*length),
-            Fault::Added(octets) => capture.resize(capture.len() + octets, 0),
+            Damage::Written { at, octets } => capture[*at..at + octets.len()].copy_from_slice(octets),
+            Damage::Cut(length) => capture.truncate(*length),
+            Damage::Added(octets) => capture.resize(capture.len() + octets, 0),
         }
     }
 }
 
-impl Check {
+impl FileCheck {
     /// What `replay` prints where this check is the first that fails.
     pub fn refused(self) -> String {
         let (refusal, index) = match self {
-            Check::Length => (21, 0),
-            Check::Header => (22, 0),
-            Check::First(_) => (23, 0),
-            Check::Next(index) => (23, index),
-            Check::Record(index) => (24, index),
+            FileCheck::Length => (21, 0),
+            FileCheck::Header => (22, 0),
+            FileCheck::First(_) => (23, 0),
+            FileCheck::Next(index) => (23, index),
+            FileCheck::Record(index) => (24, index),
         };
         format!("refused {refusal} {index}\n")
     }
 
-    /// Every fault that is tried for this check in a good capture of fewer than 256 records; some indices would be good ones if one octet of them
+    /// Every damage that is tried for this check in a good capture of fewer than 256 records; some indices would be good ones if one octet of them
     /// were read.
-    pub fn faults(self, capture: &[u8]) -> Vec<Fault> {
+    pub fn damages(self, capture: &[u8]) -> Vec<Damage> {
         let count = (capture.len() / RECORD_OCTETS) as u16;
         match self {
-            Check::Length => {
-                vec![Fault::Cut(0), Fault::Cut(1), Fault::Cut(15), Fault::Cut(capture.len() - 1), Fault::Added(1), Fault::Added(65_536)]
+            FileCheck::Length => {
+                vec![
+                    Damage::Cut(0),
+                    Damage::Cut(1),
+                    Damage::Cut(15),
+                    Damage::Cut(capture.len() - 1),
+                    Damage::Added(1),
+                    Damage::Added(65_536),
+                ]
             }
-            Check::Header => header_faults(capture),
-            Check::First(port) => {
-                index_faults(FIRST_INDICES_AT + 2 * port, &[count, count + 1, OVER_AN_OCTET, OVER_AN_OCTET + 1, u16::MAX])
+            FileCheck::Header => header_damages(capture),
+            FileCheck::First(port) => {
+                index_damages(FIRST_INDICES_AT + 2 * port, &[count, count + 1, OVER_AN_OCTET, OVER_AN_OCTET + 1, u16::MAX])
             }
-            Check::Next(index) => {
+            FileCheck::Next(index) => {
                 let own = index as u16;
                 let wrong: Vec<u16> = (1..=own).chain([count, count + 1, OVER_AN_OCTET, OVER_AN_OCTET + own + 1, u16::MAX]).collect();
-                index_faults(index * RECORD_OCTETS + NEXT_INDEX_AT, &wrong)
+                index_damages(index * RECORD_OCTETS + NEXT_INDEX_AT, &wrong)
             }
-            Check::Record(index) => record_faults(capture, index * RECORD_OCTETS),
+            FileCheck::Record(index) => record_damages(capture, index * RECORD_OCTETS),
         }
     }
 }
 
 /// Another octet in each of the header's letters and zero octets.
-fn header_faults(capture: &[u8]) -> Vec<Fault> {
+fn header_damages(capture: &[u8]) -> Vec<Damage> {
     let places = (0..LETTERS.len()).chain(ZEROS_AT..RECORD_OCTETS);
-    places.flat_map(|at| [1, 0x20, 0x80].map(|change| Fault::Written { at, octets: vec![capture[at] ^ change] })).collect()
+    places.flat_map(|at| [1, 0x20, 0x80].map(|change| Damage::Written { at, octets: vec![capture[at] ^ change] })).collect()
 }
 
 /// Each of the indices, written at a place.
-fn index_faults(at: usize, indices: &[u16]) -> Vec<Fault> {
-    indices.iter().map(|index| Fault::Written { at, octets: index.to_be_bytes().to_vec() }).collect()
+fn index_damages(at: usize, indices: &[u16]) -> Vec<Damage> {
+    indices.iter().map(|index| Damage::Written { at, octets: index.to_be_bytes().to_vec() }).collect()
 }
 
 /// "24 kind, stream octet, unused number or zero octets" of the record at a place of the file.
-fn record_faults(capture: &[u8], at: usize) -> Vec<Fault> {
-    let octet = |within: usize, octet: u8| Fault::Written { at: at + within, octets: vec![octet] };
-    let mut faults = [0, 7, 128, 255].map(|kind| octet(KIND_AT, kind)).to_vec();
-    faults.extend((ZEROS_AT..RECORD_OCTETS).flat_map(|within| [octet(within, 1), octet(within, 255)]));
+fn record_damages(capture: &[u8], at: usize) -> Vec<Damage> {
+    let octet = |within: usize, octet: u8| Damage::Written { at: at + within, octets: vec![octet] };
+    let mut damages = [0, 7, 128, 255].map(|kind| octet(KIND_AT, kind)).to_vec();
+    damages.extend((ZEROS_AT..RECORD_OCTETS).flat_map(|within| [octet(within, 1), octet(within, 255)]));
     let (streams, unused): (&[u8], _) = match capture[at + KIND_AT] {
         OPEN => (&[1, 255], 0..0),
         RESERVE => (&[], NUMBER_B_AT..ZEROS_AT),
@@ -165,7 +172,7 @@ fn record_faults(capture: &[u8], at: usize) -> Vec<Fault> {
         BEST_EFFORT => (&[0, 1, 253, 254], 0..0),
         _ => (&[1, 128, 255], NUMBER_A_AT..ZEROS_AT),
     };
-    faults.extend(streams.iter().map(|&stream| octet(STREAM_AT, stream)));
-    faults.extend(unused.flat_map(|within| [octet(within, 1), octet(within, 128)]));
-    faults
+    damages.extend(streams.iter().map(|&stream| octet(STREAM_AT, stream)));
+    damages.extend(unused.flat_map(|within| [octet(within, 1), octet(within, 128)]));
+    damages
 }

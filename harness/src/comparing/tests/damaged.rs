@@ -4,7 +4,7 @@ use crate::capture::writing;
 use crate::comparing::calls::ORDINARY;
 use crate::comparing::chains::{capture, Shape, SHAPES};
 use crate::comparing::coverage::{Coverage, Seen};
-use crate::comparing::damage::{Check, Fault, Field, FIELDS};
+use crate::comparing::damage::{Damage, Field, FileCheck, FIELDS};
 use crate::comparing::test::{Run, Test};
 use crate::comparing::tests::captures::test;
 use crate::comparing::tests::lists::any_profile;
@@ -56,8 +56,8 @@ const UNUSED: [usize; 2] = [7, 9];
 /// Its records in the order in which the ports' walks first meet them, each behind the port of that walk; ports 2 and 3 meet none first.
 const WALKS: [(usize, &[usize]); 4] = [(0, &[1, 2, 3, 4, 5, 6]), (1, &[8, 10, 11, 12, 13, 14]), (2, &[]), (3, &[])];
 
-/// How many faults of the first of two checks are tried.
-const FAULTS_OF_A_PAIR: usize = 6;
+/// How many damages of the first of two checks are tried.
+const DAMAGES_OF_A_PAIR: usize = 6;
 
 /// The octets of that capture.
 fn good_capture() -> Vec<u8> {
@@ -66,53 +66,53 @@ fn good_capture() -> Vec<u8> {
 
 /// All checks of that capture in their order: the file, then the ports, each "first index tested as a port's walk begins, each chain from its front,
 /// 24 before 23 at a record".
-fn checks() -> Vec<Check> {
+fn checks() -> Vec<FileCheck> {
     let walk = |&(port, records): &(usize, &[usize])| {
-        let of_records = records.iter().flat_map(|&index| [Check::Record(index), Check::Next(index)]);
-        [Check::First(port)].into_iter().chain(of_records).collect::<Vec<_>>()
+        let of_records = records.iter().flat_map(|&index| [FileCheck::Record(index), FileCheck::Next(index)]);
+        [FileCheck::First(port)].into_iter().chain(of_records).collect::<Vec<_>>()
     };
-    [Check::Length, Check::Header].into_iter().chain(WALKS.iter().flat_map(walk)).collect()
+    [FileCheck::Length, FileCheck::Header].into_iter().chain(WALKS.iter().flat_map(walk)).collect()
 }
 
-/// Replays the capture with faults, and fails unless both programs print just this text.
-fn replay_with(run: &mut Run, faults: &[&Fault], text: &str) -> Result<(), String> {
+/// Replays the capture with damages, and fails unless both programs print just this text.
+fn replay_with(run: &mut Run, damages: &[&Damage], text: &str) -> Result<(), String> {
     let mut capture = good_capture();
-    faults.iter().for_each(|fault| fault.apply(&mut capture));
+    damages.iter().for_each(|damage| damage.apply(&mut capture));
     run.replay_prints(&capture, text)
 }
 
-/// Replays the capture with each fault of a check alone.
-fn replay_with_each(run: &mut Run, check: Check, what: &str, text: &str) -> Result<(), String> {
-    for fault in check.faults(&good_capture()) {
+/// Replays the capture with each damage of a check alone.
+fn replay_with_each(run: &mut Run, check: FileCheck, what: &str, text: &str) -> Result<(), String> {
+    for damage in check.damages(&good_capture()) {
         run.next_capture(&format!("{check:?}, {what}"));
-        replay_with(run, &[&fault], text)?;
+        replay_with(run, &[&damage], text)?;
     }
     Ok(())
 }
 
-/// Each fault alone: it is refused where a chain meets it, and not seen in a record on no chain.
+/// Each damage alone: it is refused where a chain meets it, and not seen in a record on no chain.
 fn refusals_at_every_place(run: &mut Run) -> Result<(), String> {
-    run.next_capture("no fault");
+    run.next_capture("no damage");
     replay_with(run, &[], OUTPUT)?;
     for check in checks() {
         replay_with_each(run, check, "to be refused", &check.refused())?;
     }
-    for check in UNUSED.into_iter().flat_map(|index| [Check::Record(index), Check::Next(index)]) {
+    for check in UNUSED.into_iter().flat_map(|index| [FileCheck::Record(index), FileCheck::Next(index)]) {
         replay_with_each(run, check, "on no chain", OUTPUT)?;
     }
     Ok(())
 }
 
-/// Each two checks that fail in one file, with several faults of each: the check that comes first is told.
+/// Each two checks that fail in one file, with several damages of each: the check that comes first is told.
 fn order_of_checks(run: &mut Run) -> Result<(), String> {
     let (capture, checks) = (good_capture(), checks());
     for (place, first) in checks.iter().enumerate() {
         for later in &checks[place + 1..] {
-            let [faults, others] = [first, later].map(|check| check.faults(&capture));
-            for number in 0..FAULTS_OF_A_PAIR {
+            let [damages, others] = [first, later].map(|check| check.damages(&capture));
+            for number in 0..DAMAGES_OF_A_PAIR {
                 let mut random = run.next_capture(&format!("{first:?}, then {later:?}"));
                 let other = &others[random.below(others.len())];
-                replay_with(run, &[other, &faults[number % faults.len()]], &first.refused())?;
+                replay_with(run, &[other, &damages[number % damages.len()]], &first.refused())?;
             }
         }
     }
@@ -146,7 +146,7 @@ fn cut_at_every_length(run: &mut Run) -> Result<(), String> {
             cut.resize_with(length, || random.octet());
             let text = run.replay(&cut)?;
             let whole = length >= RECORD_OCTETS && length % RECORD_OCTETS == 0;
-            if !whole && text != Check::Length.refused() {
+            if !whole && text != FileCheck::Length.refused() {
                 return Err(format!("{}: both print {text}", run.place));
             }
         }
@@ -176,7 +176,7 @@ fn lengths_about_the_greatest(run: &mut Run) -> Result<(), String> {
         octets.resize(length, 0);
         let text = run.replay(&octets)?;
         let good = length % RECORD_OCTETS == 0 && length <= MOST_OCTETS;
-        if good == text.starts_with("refused") || (!good && text != Check::Length.refused()) {
+        if good == text.starts_with("refused") || (!good && text != FileCheck::Length.refused()) {
             return Err(format!("{}: both print {}", run.place, text.lines().next().unwrap_or_default()));
         }
     }
