@@ -31,19 +31,19 @@ impl<'a> Words<'a> {
     }
 
     /// The next word, if there is one.
-    pub fn next(&mut self) -> Option<&'a str> {
+    pub fn word(&mut self) -> Option<&'a str> {
         self.words.next()
     }
 
     /// A number up to the greatest, the next word; `what` is its name with an article.
     pub fn number(&mut self, what: &str, greatest: u32) -> Result<u32, String> {
-        let word = self.next().ok_or_else(|| format!("{what} is missing"))?;
+        let word = self.word().ok_or_else(|| format!("{what} is missing"))?;
         number(word, what, greatest)
     }
 
     /// Octets in hexadecimal digits, at most as many as are given; none where the word is missing.
     pub fn octets(&mut self, most: usize) -> Result<Vec<u8>, String> {
-        let word = self.next().unwrap_or_default();
+        let word = self.word().unwrap_or_default();
         if let Some(other) = word.chars().find(|digit| !digit.is_digit(HEXADECIMAL)) {
             return Err(format!("'{other}' is no hexadecimal digit"));
         }
@@ -59,7 +59,7 @@ impl<'a> Words<'a> {
 
     /// Nothing follows.
     pub fn end(&mut self) -> Result<(), String> {
-        match self.next() {
+        match self.word() {
             None => Ok(()),
             Some(word) => Err(format!("'{word}' is one word too many")),
         }

@@ -66,7 +66,7 @@ pub fn octets(text: &[u8]) -> Result<Vec<u8>, BadText> {
 impl Capture {
     /// Takes one line; whether there was anything in it.
     fn line(&mut self, words: &mut Words) -> Result<bool, String> {
-        let Some(word) = words.next() else { return Ok(false) };
+        let Some(word) = words.word() else { return Ok(false) };
         if self.within == Within::End {
             return Err(String::from("only the last octets can be fewer than a record's 16"));
         }
@@ -108,7 +108,7 @@ impl Capture {
         let mut port = words.number("a port", LAST_PORT)?;
         loop {
             self.put_first(port, front)?;
-            match words.next() {
+            match words.word() {
                 Some(word) => port = number(word, "a port", LAST_PORT)?,
                 None => return self.run(),
             }
@@ -160,7 +160,7 @@ impl Capture {
     /// The record of an event, with a next index of its own or that of the record that follows in the run.
     fn event(&mut self, word: &str, words: &mut Words) -> Result<(), String> {
         let event = event(word, words)?;
-        match words.next() {
+        match words.word() {
             None => self.record(file::record(&event, 0), true),
             Some(NEXT) => self.record(file::record(&event, words.number("a next index", LAST_INDEX)? as u16), false),
             Some(word) => Err(format!("'{word}' is one word too many")),
@@ -204,7 +204,7 @@ fn event(word: &str, words: &mut Words) -> Result<Call, String> {
         "open" => Call::Open { link: words.number("an L", u32::MAX)?, delay: words.number("a K", u32::MAX)? },
         "reserve" => Call::Reserve { stream: stream(words)?, permitted: words.number("a P", u32::MAX)? },
         "arrive" => Call::Arrive { stream: stream(words)?, charge: charge(words)?, tag: tag(words)? },
-        "best" => match words.next() {
+        "best" => match words.word() {
             Some("effort") => Call::BestEffort { charge: charge(words)?, tag: tag(words)? },
             _ => return Err(String::from("'effort' is missing after 'best'")),
         },
