@@ -19,7 +19,7 @@ use Rattle.sending.specs.Sending.{transmitStep}
 use Rattle.best_effort.specs.BestEffort.{bestEffortStep}
 use Rattle.gates.specs.Refusals.{openRefusal, reserveRefusal, arriveRefusal, closedRefusal, bestEffortRefusal}
 use Rattle.port.specs.Calls.{openCall}
-use Rattle.port_laws.specs.Cases.{freshRecord, freshMemory}
+use Rattle.port_laws.specs.Lists.{freshRecord, freshMemory}
 use Rattle.guarantee.specs.Events.{Event}
 use Rattle.guarantee.specs.Demand3.{CallList}
 use Rattle.guarantee_examples.specs.Shown.{AllHappen}

@@ -4,7 +4,7 @@ use mathlib.Core.Path.{_≡_}
 use Rattle.lists.specs.Each.{All, Some}
 use Rattle.stream.specs.State.{lastPlace}
 use Rattle.ranges.specs.Ranges.{leastCharge, shareOf}
-use Rattle.port_laws.specs.Cases.{freshRecord, freshMemory}
+use Rattle.port_laws.specs.Lists.{freshRecord, freshMemory}
 use Rattle.guarantee.specs.Events.{events}
 use Rattle.guarantee.specs.Claims.{reservedOctets, Idle, LinkCondition, PurgesNothing, SentBefore, AllSentBefore, grants, answers}
 use Rattle.guarantee_examples.specs.Examples.{frameOf, Happens, busy, light, afterArrival, withheld, permitted200, permitted100, silently, silent, callsOf}

@@ -1,7 +1,7 @@
 -- Laws of `octetsEqual`: it is true of a list and itself, and of no two other lists. Assumes nothing.
 use Prim.Native.Nat.{ℕ}
-use mathlib.Core.Path.{_≡_, refl, ap₂}
-use mathlib.Core.Bool.{true, _&&_}
+use mathlib.Core.Path.{_≡_, refl, sym, ap, ap₂, _∙_}
+use mathlib.Core.Bool.{Bool, true, false, _&&_}
 use mathlib.Core.List.{List}
 use lib.ListN.{length, getD}
 use lib.Seq.{ext-getD}
@@ -22,3 +22,12 @@ equal-octets xs ys h =
 pub octets-equal : (xs : List ℕ) → octetsEqual xs xs ≡ true
 unfolding octetsEqual
 octets-equal xs = ap₂ _&&_ (eq-eqb (length xs) (length xs) refl) (allTo-all _ (length xs) (λ i b. eq-eqb (getD xs i 0) (getD xs i 0) refl))
+
+-- an answer that is yes of equal lists and of no others is the test
+pub same-is : (r : Bool) (xs ys : List ℕ) → (r ≡ true → xs ≡ ys) × (xs ≡ ys → r ≡ true) → r ≡ octetsEqual xs ys
+same-is true xs ys h = sym (octets-equal xs) ∙ ap (octetsEqual xs) (h .0 refl)
+same-is false xs ys h = told (octetsEqual xs ys) refl
+  where
+    told : (b : Bool) → octetsEqual xs ys ≡ b → false ≡ b
+    told true e = h .1 (equal-octets xs ys e)
+    told false e = refl

@@ -5,7 +5,7 @@ use mathlib.Core.Path.{_≡_, refl, sym, ap, ap₂, _∙_}
 use mathlib.Core.List.{List, [], _∷_, _++_}
 use native.Mathlib.Omega.{arith}
 use lib.ListN.{length, getD, set, take, drop, length-set}
-use lib.Seq.{getD-set-same, getD-set-other, set-comm, take-set-le, drop-set-lt, take-set-lt, drop-set-add}
+use lib.Seq.{drop-cons, getD-set-same, getD-set-other, set-comm, take-set-le, drop-set-lt, take-set-lt, drop-set-add}
 use borrow.Rule.Slice.PartMut.{midOf, putMid, put-same}
 use Rattle.lists.specs.Window.{put, get, Apart}
 
@@ -51,6 +51,14 @@ get-get l i m j zero h = refl
 get-get l i m j (suc n) h =
     ap₂ _∷_ (getD-get l i m j (omega arith)) (get-get l i m (j + 1) n (omega arith) ∙ ap (λ (k : ℕ). get l k n) (omega arith))
 
+-- the part of a list that a slice of it has, read octet by octet
+pub mid-get : (l : List ℕ) (i n : ℕ) → i + n ≤ length l → midOf i n l ≡ get l i n
+mid-get l i zero h = refl
+mid-get l i (suc n) h =
+    let further : suc i ≡ i + 1 = omega arith in
+    ap (take (suc n)) (drop-cons l i 0 (omega arith))
+    ∙ ap (λ (r : List ℕ). getD l i 0 ∷ r) (ap (λ (k : ℕ). midOf k n l) further ∙ mid-get l (i + 1) n (omega arith))
+
 -- one octet written before or after others that lie apart
 set-put : (l : List ℕ) (i : ℕ) (vs : List ℕ) (k a : ℕ) → Apart k 1 i (length vs) → set (put l i vs) k a ≡ put (set l k a) i vs
 set-put l i [] k a h = refl
@@ -64,6 +72,10 @@ put-comm l i vs j [] h = refl
 put-comm l i vs j (w ∷ ws) h =
     ap (λ (x : List ℕ). put x (j + 1) ws) (set-put l i vs j w (λ m a b c d. h m a (omega arith) c d))
     ∙ put-comm (set l j w) i vs (j + 1) ws (λ m a b c d. h m (omega arith) (omega arith) c d)
+
+-- the last of several octets may be written first
+pub put-last : (l : List ℕ) (i : ℕ) (vs : List ℕ) (v : ℕ) → put l i (vs ++ (v ∷ [])) ≡ put (set l (i + length vs) v) i vs
+put-last l i vs v = put-append l i vs (v ∷ []) ∙ put-comm l i vs (i + length vs) (v ∷ []) (λ k a b c d. omega arith)
 
 -- octets put into the part of k that starts at a are put into the whole from there on
 pub put-mid : (a k : ℕ) (vs xs : List ℕ) (j : ℕ) → j + length vs ≤ k → putMid a k xs (put (midOf a k xs) j vs) ≡ put xs (a + j) vs

@@ -11,3 +11,4 @@ pub mod QuickLaws
 pub mod StayLaws
 pub mod CasesHold
 pub mod GateNumbers
+pub mod FreshFit

@@ -2,18 +2,9 @@
 -- otherwise.
 use Prim.Native.Nat.{ℕ}
 use mathlib.Core.List.{List, [], _∷_, _++_}
-use lib.ListN.{replicate}
 use Rattle.stream.specs.declared.Reply.{Reply}
 use Rattle.stream.specs.Replies.{granted, refusedBy}
-use Rattle.record.specs.Layout.{recordLength, memoryLength}
-use Rattle.port_laws.specs.Lists.{Call, opening, reserving, arriving, ticking, transmitting, joiningBestEffort, called, replies}
-
--- "A port starts closed, its queues empty and no stream reserved"
-abbrev pub freshRecord : List ℕ
-freshRecord = replicate recordLength 0
-
-abbrev pub freshMemory : List ℕ
-freshMemory = replicate memoryLength 0
+use Rattle.port_laws.specs.Lists.{Call, opening, reserving, arriving, ticking, transmitting, joiningBestEffort, called, replies, freshRecord, freshMemory}
 
 -- a case: the calls, and what they are to reply
 pub record Case : Type 0 where

@@ -1,0 +1,62 @@
+use borrow.Author.Needs.{needs}
+use Prim.Native.Nat.{_+_, ℕ}
+use mathlib.Core.Path.{_∙_, ap, ap₂}
+use mathlib.Core.List.{List}
+use lib.ListN.{length}
+use Rattle.capture.specs.Events.{eventLine}
+use Rattle.lists.specs.Window.{put}
+use Rattle.steps.specs.Outcome.{Outcome}
+use Rattle.capture.proofs.events.put_event.Statement.{statement}
+use Rattle.capture.proofs.events.put_event.Tie as tie
+use Rattle.capture.proofs.events.put_event.Reads as reads
+use Rattle.capture.proofs.events.put_event.Lts as lts
+use Rattle.capture.proofs.events.play.Reads as play-reads
+use Rattle.capture.proofs.lines.put_event.Reads as put-event-reads
+use Rattle.capture_file.proofs.field.kind.Reads as kind-reads
+
+-- src/events.rt:63:9
+play-requires : tie.Need-play-requires
+play-requires c κs = search needs
+
+-- src/events.rt:64:9
+kind-requires : tie.Need-kind-requires
+kind-requires c κs = search needs
+
+-- src/events.rt:65:5
+put-event-requires : tie.Need-put-event-requires
+put-event-requires c κs = search needs
+
+-- src/events.rt:54:1
+same-length : tie.Need-same-length
+same-length c = search needs
+
+-- src/events.rt:54:1
+same-length-2 : tie.Need-same-length-2
+same-length-2 c = search needs
+
+-- src/events.rt:54:1
+same-length-3 : tie.Need-same-length-3
+same-length-3 c = search needs
+
+-- src/events.rt:54:1
+returns : tie.Need-returns
+returns c =
+    let a = c .before .before .before .before .before .before .before .before .before .before .before .before .before .before .before .before .args in
+    let w = c .before .before .put-event in
+    let o = c .before .before .before .before .before .before .before .before .before .play .ensures in
+    let line = ap₂ (eventLine (a .place) (a .number)) (c .before .before .before .before .kind .ensures) (ap (λ (x : Outcome). x .reply) o) in (
+      (w .ensures .0 .0 ∙ ap (λ (t : List ℕ). a .at + length t) line, w .ensures .0 .1 ∙ ap (put (a .text .now) (a .at)) line),
+      (ap (λ (x : Outcome). x .port) o, (ap (λ (x : Outcome). x .memory) o, w .ensures .1)),
+    )
+
+pub put-event-spec : {M : Type 1} → statement M
+put-event-spec =
+    tie.close
+    (tie.spec
+    play-requires
+    kind-requires
+    put-event-requires
+    same-length
+    same-length-2
+    same-length-3
+    returns)

@@ -1,0 +1,37 @@
+-- The events of a capture: each record's call, and the line that its reply prints.
+use Prim.Native.Nat.{ℕ, _+_}
+use mathlib.Core.Bool.{cond}
+use mathlib.Core.List.{List, [], _∷_, _++_}
+use lib.Dec.{eqb}
+use Rattle.stream.specs.declared.Reply.{Reply}
+use Rattle.steps.specs.Outcome.{Outcome}
+use Rattle.port_laws.specs.Lists.{Call, opening, reserving, arriving, ticking, transmitting, joiningBestEffort, called, freshRecord, freshMemory}
+use Rattle.text.specs.Lines.{lineOf}
+use Rattle.capture_file.specs.File.{kindOf, streamOf, numberA, numberB, chainOf}
+
+-- "1 open (A = L, B = K); 2 reserve (A = P); 3 arrive (A charge, B tag); 4 best effort (A charge, B tag); 5 tick; 6 transmit", and no other kind
+-- passes the checks
+abbrev pub callOf : ℕ → ℕ → ℕ → ℕ → Call
+callOf kind stream a b =
+    cond (eqb kind 1) (opening a b)
+    (cond (eqb kind 2) (reserving stream a)
+    (cond (eqb kind 3) (arriving stream a b)
+    (cond (eqb kind 4) (joiningBestEffort a b)
+    (cond (eqb kind 5) ticking transmitting))))
+
+-- the call of record i
+unfoldable pub callAt : List ℕ → ℕ → Call
+callAt f i = callOf (kindOf f i) (streamOf f i) (numberA f i) (numberB f i)
+
+-- "one line per event: port, event number from 1, kind, refusal or 0, two reply numbers"
+unfoldable pub eventLine : ℕ → ℕ → ℕ → Reply → List ℕ
+eventLine q n kind r = lineOf (q ∷ n ∷ kind ∷ r .refusal ∷ r .first ∷ r .second ∷ [])
+
+-- the lines of the records of a chain, played in turn on a record and a memory, the first of them event n of port q
+unfoldable pub linesOf : List ℕ → ℕ → ℕ → List ℕ → List ℕ → List ℕ → List ℕ
+linesOf f q n [] p m = []
+linesOf f q n (i ∷ is) p m = let o = called (callAt f i) p m in eventLine q n (kindOf f i) (o .reply) ++ linesOf f q (n + 1) is (o .port) (o .memory)
+
+-- the lines of a port: its chain, from event 1 on, on a record and a memory of its own
+abbrev pub portText : List ℕ → ℕ → List ℕ
+portText f q = linesOf f q 1 (chainOf f q) freshRecord freshMemory

@@ -1,0 +1,3 @@
+-- The replay of a capture as text.
+pub mod Events
+pub mod Output

@@ -1,0 +1,14 @@
+-- A port that was never opened, and its memory, are fit. Assumes nothing.
+use mathlib.Core.Path.{_≡_, refl}
+use mathlib.Core.Bool.{true}
+use Rattle.port_laws.specs.Lists.{freshRecord, freshMemory}
+use Rattle.lists.specs.Turns.{allTo, sumTo, listTo}
+use Rattle.octets.specs.Numbers.{twoOf, fourOf, eightOf}
+use Rattle.queue.specs.Waiting.{waiting}
+use Rattle.record.specs.Head.{openAt, priorAt, delayAt, linkAt, waitsAt, queueAt}
+use Rattle.record.specs.Entry.{streamAt, boundAt, vidAt, pairAt}
+use Rattle.fitness.specs.Fit.{recordFits}
+
+pub fresh-fits : recordFits freshRecord freshMemory ≡ true
+unfolding allTo sumTo listTo twoOf fourOf eightOf waiting openAt priorAt delayAt linkAt waitsAt queueAt streamAt boundAt vidAt pairAt recordFits
+fresh-fits = refl

@@ -1,0 +1,58 @@
+-- Laws of a number's digits: one digit, or those of a tenth of the number and one more; and how many there are. Assumes nothing.
+use Prim.Native.Nat.{ℕ, zero, suc, _+_, _*_, _/_, _%_, _^_, _≤_, _<_}
+use mathlib.Core.Path.{_≡_, refl, sym, ap, ap₂, _∙_}
+use mathlib.Core.Bool.{Bool, true, false, cond}
+use mathlib.Core.Logic.{⊎-elim}
+use mathlib.Core.List.{List, [], _∷_, _++_}
+use native.Mathlib.Omega.{arith}
+use lib.ListN.{length, length-append}
+use lib.Dec.{ltb}
+use borrow.Author.Tests.{lt-ltb, le-ltb}
+use Rattle.lists.proofs.Order.{le-or-lt}
+use Rattle.text.specs.Digits.{digit, digitsWithin, digits}
+
+within-one : (k n : ℕ) → n < 10 → digitsWithin (suc k) n ≡ digit n ∷ []
+unfolding digitsWithin
+within-one k n h = ap (λ (b : Bool). cond b (digit n ∷ []) (digitsWithin k (n / 10) ++ (digit (n % 10) ∷ []))) (lt-ltb n 10 h)
+
+within-more : (k n : ℕ) → 10 ≤ n → digitsWithin (suc k) n ≡ digitsWithin k (n / 10) ++ (digit (n % 10) ∷ [])
+unfolding digitsWithin
+within-more k n h = ap (λ (b : Bool). cond b (digit n ∷ []) (digitsWithin k (n / 10) ++ (digit (n % 10) ∷ []))) (le-ltb n 10 h)
+
+-- where there is room for all digits, more room changes nothing
+within-any : (k j n : ℕ) → n ≤ k → n ≤ j → digitsWithin (suc k) n ≡ digitsWithin (suc j) n
+within-any zero j n h i = within-one zero n (omega arith) ∙ sym (within-one j n (omega arith))
+within-any (suc k) zero n h i = within-one (suc k) n (omega arith) ∙ sym (within-one zero n (omega arith))
+within-any (suc k) (suc j) n h i =
+    ⊎-elim
+    (λ (more : 10 ≤ n). within-more (suc k) n more
+    ∙ ap (λ (l : List ℕ). l ++ (digit (n % 10) ∷ [])) (within-any k j (n / 10) (omega arith) (omega arith))
+    ∙ sym (within-more (suc j) n more))
+    (λ (one : n < 10). within-one (suc k) n one ∙ sym (within-one (suc j) n one))
+    (le-or-lt 10 n)
+
+pub digits-one : (n : ℕ) → n < 10 → digits n ≡ digit n ∷ []
+unfolding digits
+digits-one n h = within-one n n h
+
+pub digits-more : (n : ℕ) → 10 ≤ n → digits n ≡ digits (n / 10) ++ (digit (n % 10) ∷ [])
+unfolding digits
+digits-more zero h = absurd (omega arith)
+digits-more (suc n) h =
+    within-more (suc n) (suc n) h
+    ∙ ap (λ (l : List ℕ). l ++ (digit (suc n % 10) ∷ [])) (within-any n (suc n / 10) (suc n / 10) (omega arith) (omega arith))
+
+pub length-more : (n : ℕ) → 10 ≤ n → length (digits n) ≡ length (digits (n / 10)) + 1
+length-more n h = ap length (digits-more n h) ∙ length-append (digits (n / 10)) (digit (n % 10) ∷ [])
+
+pub length-one : (n : ℕ) → n < 10 → length (digits n) ≡ 1
+length-one n h = ap length (digits-one n h)
+
+-- a number below a power of ten has at most as many digits as the power says
+pub length-digits : (k n : ℕ) → n < 10 ^ suc k → length (digits n) ≤ suc k
+length-digits zero n h = omega (arith, length-one n (omega arith))
+length-digits (suc k) n h =
+    ⊎-elim
+    (λ (more : 10 ≤ n). omega (arith, length-more n more, length-digits k (n / 10) (omega arith)))
+    (λ (one : n < 10). omega (arith, length-one n one))
+    (le-or-lt 10 n)

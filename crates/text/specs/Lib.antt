@@ -1,0 +1,3 @@
+-- Text in ASCII: numbers and lines.
+pub mod Digits
+pub mod Lines
