@@ -7,7 +7,7 @@ use Rattle.stream.specs.declared.Reply.{Reply}
 use Rattle.steps.specs.Outcome.{Outcome}
 use Rattle.port_laws.specs.Lists.{Call, opening, reserving, arriving, ticking, transmitting, joiningBestEffort, called, freshRecord, freshMemory}
 use Rattle.text.specs.Lines.{lineOf}
-use Rattle.capture_file.specs.File.{kindOf, streamOf, numberA, numberB, chainOf}
+use Rattle.capture_file.specs.File.{kindOf, streamOf, numberA, numberB, firstOf, chainWithin, mostEvents}
 
 -- "1 open (A = L, B = K); 2 reserve (A = P); 3 arrive (A charge, B tag); 4 best effort (A charge, B tag); 5 tick; 6 transmit", and no other kind
 -- passes the checks
@@ -32,6 +32,10 @@ unfoldable pub linesOf : List ℕ → ℕ → ℕ → List ℕ → List ℕ → 
 linesOf f q n [] p m = []
 linesOf f q n (i ∷ is) p m = let o = called (callAt f i) p m in eventLine q n (kindOf f i) (o .reply) ++ linesOf f q (n + 1) is (o .port) (o .memory)
 
--- the lines of a port: its chain, from event 1 on, on a record and a memory of its own
+-- the events of a port: the records of its chain
+abbrev pub eventsOf : List ℕ → ℕ → List ℕ
+eventsOf f q = chainWithin f (mostEvents f) (firstOf f q)
+
+-- the lines of a port: its events from event 1 on, on a record and a memory of its own
 abbrev pub portText : List ℕ → ℕ → List ℕ
-portText f q = linesOf f q 1 (chainOf f q) freshRecord freshMemory
+portText f q = linesOf f q 1 (eventsOf f q) freshRecord freshMemory

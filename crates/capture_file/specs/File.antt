@@ -60,9 +60,6 @@ unfoldable pub chainWithin : List ℕ → ℕ → ℕ → List ℕ
 chainWithin f zero i = []
 chainWithin f (suc n) i = cond (eqb i 0) [] (i ∷ chainWithin f n (nextOf f i))
 
--- the chain of a port: no chain of a good file has more records than the file has after its header
+-- no chain of a good file has more records than the file has after its header
 abbrev pub mostEvents : List ℕ → ℕ
 mostEvents f = recordCount f - 1
-
-abbrev pub chainOf : List ℕ → ℕ → List ℕ
-chainOf f q = chainWithin f (mostEvents f) (firstOf f q)

@@ -1,3 +1,4 @@
+-- `capture::put_output` meets its contract. By the refusal of the file. Assumes nothing.
 use borrow.Author.Needs.{needs}
 use Prim.Native.Nat.{_+_, ℕ}
 use mathlib.Core.Path.{_∙_, _≡_, ap, sym}
@@ -13,25 +14,16 @@ use Rattle.capture.specs.Output.{output, portsText, refusalText}
 use Rattle.lists.specs.Window.{put}
 use Rattle.capture.proofs.put_output.Statement.{statement}
 use Rattle.capture.proofs.put_output.Tie as tie
-use Rattle.capture.proofs.put_output.Reads as reads
-use Rattle.capture.proofs.put_output.Lts as lts
-use Rattle.capture.proofs.lines.put_refusal.Reads as put-refusal-reads
-use Rattle.capture.proofs.put_ports.Reads as put-ports-reads
-use Rattle.capture_file.proofs.refusal.Reads as refusal-reads
 
--- src/lib.rt:55:9
 refusal-requires : tie.Need-refusal-requires
 refusal-requires c κs = search needs
 
--- src/lib.rt:57:9
 put-refusal-requires : tie.Need-put-refusal-requires
 put-refusal-requires c κs = omega (arith, c .before .before .before .before .before .before .pre)
 
--- src/lib.rt:57:9
 same-length : tie.Need-same-length
 same-length c = search needs
 
--- src/lib.rt:57:9
 returns : tie.Need-returns
 unfolding output
 returns c =
@@ -43,15 +35,12 @@ returns c =
     (ne-eqb _ _ (λ e. c .before .before .before .before .if1 .taken (ap (λ (x : FileRefusal). x .number) r ∙ e))))) in
     ((w .0 .0 ∙ ap (λ (t : List ℕ). 0 + length t) text, w .0 .1 ∙ ap (put (a .text .now) 0) text), omega (arith, w .1))
 
--- src/lib.rt:59:5
 put-ports-requires : tie.Need-put-ports-requires
 put-ports-requires c κs = (ap (λ (x : FileRefusal). x .number) (sym (c .before .before .before .refusal .ensures)) ∙ c .before .if1 .left, c .before .before .before .before .before .before .pre)
 
--- src/lib.rt:50:1
 same-length-2 : tie.Need-same-length-2
 same-length-2 c = search needs
 
--- src/lib.rt:50:1
 returns-2 : tie.Need-returns-2
 unfolding output
 returns-2 c =

@@ -1,3 +1,4 @@
+-- `capture::put_port` meets its contract. A file of which nothing is refused has a good chain for each port, and a fresh record is fit. Assumes nothing.
 use borrow.Author.Needs.{needs}
 use Prim.Native.Nat.{_+_, ℕ}
 use mathlib.Core.Path.{_∙_, _≡_, ap, ap₂, refl}
@@ -12,22 +13,13 @@ use Rattle.lists.specs.Window.{put}
 use Rattle.port_laws.proofs.FreshFit.{fresh-fits}
 use Rattle.capture.proofs.put_port.Statement.{statement}
 use Rattle.capture.proofs.put_port.Tie as tie
-use Rattle.capture.proofs.put_port.Reads as reads
-use Rattle.capture.proofs.put_port.Lts as lts
-use Rattle.capture.proofs.events.put_chain.Reads as put-chain-reads
-use Rattle.capture.proofs.fresh_memory.Reads as fresh-memory-reads
-use Rattle.capture.proofs.fresh_record.Reads as fresh-record-reads
-use Rattle.capture_file.proofs.field.first.Reads as first-reads
 
--- src/lib.rt:27:22
 fresh-record-requires : tie.Need-fresh-record-requires
 fresh-record-requires c κs = search needs
 
--- src/lib.rt:28:22
 fresh-memory-requires : tie.Need-fresh-memory-requires
 fresh-memory-requires c κs = search needs
 
--- src/lib.rt:29:9
 first-requires : tie.Need-first-requires
 first-requires c κs =
     let a = c .before .before .before .before .args in
@@ -37,15 +29,12 @@ first-requires c κs =
     let ends = length-passed f (passed .0) in
     (ends .0, c .before .before .before .before .pre .1 .0)
 
--- src/lib.rt:30:42
 slice-aggregate-put-chain : tie.Need-slice-aggregate-put-chain
 slice-aggregate-put-chain c = search needs
 
--- src/lib.rt:30:55
 slice-aggregate-put-chain-2 : tie.Need-slice-aggregate-put-chain-2
 slice-aggregate-put-chain-2 c = search needs
 
--- src/lib.rt:30:5
 put-chain-requires : tie.Need-put-chain-requires
 put-chain-requires c κs =
     let a = c .before .before .before .before .before .before .before .before .args in
@@ -58,11 +47,9 @@ put-chain-requires c κs =
     let fit = ap₂ recordFits (c .before .before .before .before .before .fresh-record .ensures) (c .before .before .before .before .fresh-memory .ensures) ∙ fresh-fits in
     rw first (has, (good .1, ((omega (arith, c .before .before .before .before .before .before .before .before .pre .1 .0), ends .1), (fit, c .before .before .before .before .before .before .before .before .pre .1 .1))))
 
--- src/lib.rt:21:1
 same-length : tie.Need-same-length
 same-length c = search needs
 
--- src/lib.rt:21:1
 returns : tie.Need-returns
 returns c =
     let a = c .before .before .before .before .before .before .before .before .before .before .before .before .before .args in

@@ -1,3 +1,4 @@
+-- `capture::put_ports` meets its contract. After each port the lines of the ports so far are written. Assumes nothing.
 use borrow.Author.Needs.{needs}
 use Prim.Native.Nat.{_*_, _-_, _≤_, ℕ}
 use mathlib.Core.Path.{_∙_, _≡_, refl, subst}
@@ -12,9 +13,6 @@ use Rattle.text.proofs.LineLaws.{wrote-then}
 use Rattle.text.specs.Lines.{Wrote}
 use Rattle.capture.proofs.put_ports.Statement.{statement}
 use Rattle.capture.proofs.put_ports.Tie as tie
-use Rattle.capture.proofs.put_ports.Reads as reads
-use Rattle.capture.proofs.put_ports.Lts as lts
-use Rattle.capture.proofs.put_port.Reads as put-port-reads
 
 abbrev Inv-loop : tie.InvT-loop
 Inv-loop file text₀ at₀ port₀ text at port = ((port ≤ portCount) × (length text ≡ length text₀)) × ((at ≤ port * 143325) × Wrote text₀ 0 (portsText file port) text at)
@@ -22,12 +20,10 @@ Inv-loop file text₀ at₀ port₀ text at port = ((port ≤ portCount) × (len
 abbrev μ-loop : tie.MeasureT-loop
 μ-loop file text₀ at₀ port₀ text at port = portCount - port
 
--- src/lib.rt:42:5
 loop-holds : tie.Need-loop-holds Inv-loop μ-loop
 unfolding portsText
 loop-holds c = ((omega arith, refl), (omega arith, (refl, refl)))
 
--- src/lib.rt:43:9
 put-port-requires : tie.Need-put-port-requires Inv-loop μ-loop
 put-port-requires c κs =
     let l = c .before .before .loop in
@@ -35,15 +31,12 @@ put-port-requires c κs =
     let ends = length-passed f (file-passed f (c .before .before .before .before .before .pre .0) .0) in
     (c .before .before .before .before .before .pre .0, (c .before .loop-test .taken, omega (arith, l .inv .0 .1, l .inv .1 .0, ends .1, c .before .before .before .before .before .pre .1, c .before .loop-test .taken)))
 
--- src/lib.rt:44:9
 add-port : tie.Need-add-port Inv-loop μ-loop
 add-port c = search needs
 
--- src/lib.rt:42:5
 loop-less : tie.Need-loop-less Inv-loop μ-loop
 loop-less c = omega arith
 
--- src/lib.rt:42:5
 loop-again : tie.Need-loop-again Inv-loop μ-loop
 unfolding portsText
 loop-again c =
@@ -59,11 +52,9 @@ loop-again c =
       ),
     )
 
--- src/lib.rt:34:1
 same-length : tie.Need-same-length Inv-loop μ-loop
 same-length c = c .before .loop .inv .0 .1
 
--- src/lib.rt:34:1
 returns : tie.Need-returns Inv-loop μ-loop
 returns c =
     let l = c .before .loop in

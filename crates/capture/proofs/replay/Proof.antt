@@ -1,3 +1,4 @@
+-- `capture::replay` meets its contract. By the length of the memory for the text. Assumes nothing.
 use borrow.Author.Needs.{needs}
 use Prim.Native.Nat.{ℕ}
 use mathlib.Core.Path.{_∙_, _≡_, ap, ap₂, refl, sym}
@@ -10,17 +11,10 @@ use Rattle.lists.specs.Window.{put}
 use Rattle.stream.specs.Replies.{granted, refusedBy}
 use Rattle.capture.proofs.replay.Statement.{statement}
 use Rattle.capture.proofs.replay.Tie as tie
-use Rattle.capture.proofs.replay.Reads as reads
-use Rattle.capture.proofs.replay.Lts as lts
-use Rattle.capture.proofs.put_output.Reads as put-output-reads
-use Rattle.steps.proofs.granted.Reads as granted-reads
-use Rattle.steps.proofs.refused.Reads as refused-reads
 
--- src/lib.rt:68:9
 refused-requires : tie.Need-refused-requires
 refused-requires c κs = search needs
 
--- src/lib.rt:68:9
 returns : tie.Need-returns
 unfolding replayOf
 returns c =
@@ -30,23 +24,18 @@ returns c =
       rw (c .refused .ensures) (omega arith),
     )
 
--- src/lib.rt:70:9
 put-output-requires : tie.Need-put-output-requires
 put-output-requires c κs = c .before .if1 .left
 
--- src/lib.rt:71:20
 cast-granted : tie.Need-cast-granted
 cast-granted c = omega (arith, c .before .before .put-output .ensures .1)
 
--- src/lib.rt:71:5
 granted-requires : tie.Need-granted-requires
 granted-requires c κs = search needs
 
--- src/lib.rt:63:1
 same-length : tie.Need-same-length
 same-length c = search needs
 
--- src/lib.rt:63:1
 returns-2 : tie.Need-returns-2
 unfolding replayOf
 returns-2 c =

@@ -1,18 +1,14 @@
+-- `capture_file::all_zero` meets its contract. By the tests that lead to each return. Assumes nothing.
 use borrow.Author.Tests.{eq-eqb, ne-eqb}
 use Rattle.capture_file.proofs.all_zero.Statement.{statement}
 use Rattle.capture_file.proofs.all_zero.Tie as tie
-use Rattle.capture_file.proofs.all_zero.Reads as reads
-use Rattle.capture_file.proofs.all_zero.Lts as lts
 
--- src/lib.rt:127:9
 returns : tie.Need-returns
 returns c = simp (ne-eqb _ _ (c .if1 .taken))
 
--- src/lib.rt:130:9
 returns-2 : tie.Need-returns-2
 returns-2 c = simp (eq-eqb _ _ (c .before .if1 .left), ne-eqb _ _ (c .if2 .taken))
 
--- src/lib.rt:123:1
 returns-3 : tie.Need-returns-3
 returns-3 c = simp (eq-eqb _ _ (c .before .if1 .left), eq-eqb _ _ (c .if2 .left))
 

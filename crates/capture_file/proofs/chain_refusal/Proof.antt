@@ -1,3 +1,4 @@
+-- `capture_file::chain_refusal` meets its contract. The walk from the index on refuses what the whole chain does, and goes forward. Assumes nothing.
 use borrow.Author.Needs.{needs}
 use Prim.Native.Nat.{_<_, ℕ}
 use mathlib.Core.Path.{_∙_, ap, subst, sym}
@@ -6,11 +7,6 @@ use Rattle.capture_file.specs.Checks.{refusedAt}
 use Rattle.capture_file.specs.File.{recordCount}
 use Rattle.capture_file.proofs.chain_refusal.Statement.{statement}
 use Rattle.capture_file.proofs.chain_refusal.Tie as tie
-use Rattle.capture_file.proofs.chain_refusal.Reads as reads
-use Rattle.capture_file.proofs.chain_refusal.Lts as lts
-use Rattle.capture_file.proofs.field.next.Reads as next-reads
-use Rattle.capture_file.proofs.record_refusal.Reads as record-refusal-reads
-use Rattle.capture_file.proofs.refused.Reads as refused-reads
 
 abbrev Inv-loop : tie.InvT-loop
 Inv-loop file first index₀ index = (index < recordCount file) × Walk file first index
@@ -18,19 +14,15 @@ Inv-loop file first index₀ index = (index < recordCount file) × Walk file fir
 abbrev μ-loop : tie.MeasureT-loop
 μ-loop file first index₀ index = ahead file index
 
--- src/lib.rt:179:5
 loop-holds : tie.Need-loop-holds Inv-loop μ-loop
 loop-holds c = (search needs, walk-begins _ _)
 
--- src/lib.rt:180:13
 record-refusal-requires : tie.Need-record-refusal-requires Inv-loop μ-loop
 record-refusal-requires c κs = c .before .loop .inv .0
 
--- src/lib.rt:182:13
 refused-requires : tie.Need-refused-requires Inv-loop μ-loop
 refused-requires c κs = search needs
 
--- src/lib.rt:182:13
 returns : tie.Need-returns Inv-loop μ-loop
 returns c =
     let l = c .before .before .before .before .loop in
@@ -40,11 +32,9 @@ returns c =
     ∙ ap (λ (n : ℕ). refusedAt n (l .index)) found
     ∙ walk-stops f _ (l .index) (c .before .before .before .loop-test .taken) (l .inv .0) (λ e. c .before .if1 .taken (found ∙ e)) (l .inv .1)
 
--- src/lib.rt:184:9
 next-requires : tie.Need-next-requires Inv-loop μ-loop
 next-requires c κs = c .before .before .before .loop .inv .0
 
--- src/lib.rt:179:5
 loop-less : tie.Need-loop-less Inv-loop μ-loop
 loop-less c =
     let l = c .before .before .before .before .loop in
@@ -52,7 +42,6 @@ loop-less c =
     let good = sym (c .before .before .record-refusal .ensures) ∙ c .before .if1 .left in
     rw (c .next .ensures) (ahead-falls f (l .index) (c .before .before .before .loop-test .taken) (l .inv .0) (record-passed f (l .index) good .1))
 
--- src/lib.rt:179:5
 loop-again : tie.Need-loop-again Inv-loop μ-loop
 loop-again c =
     let l = c .before .before .before .before .loop in
@@ -61,11 +50,9 @@ loop-again c =
     rw (c .next .ensures)
     (next-has f (l .index) (l .inv .0) (record-passed f (l .index) good .1), walk-goes-on f _ (l .index) (c .before .before .before .loop-test .taken) (l .inv .0) good (l .inv .1))
 
--- src/lib.rt:186:5
 refused-requires-2 : tie.Need-refused-requires-2 Inv-loop μ-loop
 refused-requires-2 c κs = search needs
 
--- src/lib.rt:174:1
 returns-2 : tie.Need-returns-2 Inv-loop μ-loop
 returns-2 c =
     let l = c .before .before .loop in

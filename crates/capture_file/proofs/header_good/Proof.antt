@@ -1,28 +1,21 @@
+-- `capture_file::header_good` meets its contract. By the tests that lead to each return. Assumes nothing.
 use borrow.Author.Needs.{needs}
 use mathlib.Core.Path.{_∙_, sym}
 use borrow.Author.Tests.{not-false, not-true}
 use Rattle.capture_file.specs.Checks.{headerGood}
 use Rattle.capture_file.proofs.header_good.Statement.{statement}
 use Rattle.capture_file.proofs.header_good.Tie as tie
-use Rattle.capture_file.proofs.header_good.Reads as reads
-use Rattle.capture_file.proofs.header_good.Lts as lts
-use Rattle.capture_file.proofs.field.end.Reads as end-reads
-use Rattle.capture_file.proofs.field.has_letters.Reads as has-letters-reads
 
--- src/lib.rt:65:9
 has-letters-requires : tie.Need-has-letters-requires
 has-letters-requires c κs = search needs
 
--- src/lib.rt:66:9
 returns : tie.Need-returns
 unfolding headerGood
 returns c = simp (sym (c .before .has-letters .ensures) ∙ not-true _ (c .if1 .taken))
 
--- src/lib.rt:68:5
 end-requires : tie.Need-end-requires
 end-requires c κs = search needs
 
--- src/lib.rt:61:1
 returns-2 : tie.Need-returns-2
 unfolding headerGood
 returns-2 c = simp (sym (c .before .before .has-letters .ensures) ∙ not-false _ (c .before .if1 .left), c .end .ensures)

@@ -1,18 +1,14 @@
+-- `capture_file::length_good` meets its contract. By the tests that lead to each return. Assumes nothing.
 use borrow.Author.Tests.{eq-eqb, le-leb, lt-leb, ne-eqb}
 use Rattle.capture_file.proofs.length_good.Statement.{statement}
 use Rattle.capture_file.proofs.length_good.Tie as tie
-use Rattle.capture_file.proofs.length_good.Reads as reads
-use Rattle.capture_file.proofs.length_good.Lts as lts
 
--- src/lib.rt:52:9
 returns : tie.Need-returns
 returns c = simp (ne-eqb _ _ (c .if1 .taken))
 
--- src/lib.rt:55:9
 returns-2 : tie.Need-returns-2
 returns-2 c = simp (eq-eqb _ _ (c .before .if1 .left), lt-leb _ _ (c .if2 .taken))
 
--- src/lib.rt:48:1
 returns-3 : tie.Need-returns-3
 returns-3 c = simp (eq-eqb _ _ (c .before .if1 .left), le-leb _ _ (c .if2 .left))
 

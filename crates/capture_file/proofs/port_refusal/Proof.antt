@@ -1,3 +1,4 @@
+-- `capture_file::port_refusal` meets its contract. A good first index is that of a record, where the walk of the chain begins. Assumes nothing.
 use borrow.Author.Needs.{needs}
 use mathlib.Core.Path.{_∙_, ap, sym}
 use native.Mathlib.Omega.{arith}
@@ -7,35 +8,23 @@ use Rattle.capture_file.specs.Checks.{chainRefusal, portRefusal}
 use Rattle.capture_file.specs.File.{mostEvents}
 use Rattle.capture_file.proofs.port_refusal.Statement.{statement}
 use Rattle.capture_file.proofs.port_refusal.Tie as tie
-use Rattle.capture_file.proofs.port_refusal.Reads as reads
-use Rattle.capture_file.proofs.port_refusal.Lts as lts
-use Rattle.capture_file.proofs.chain_refusal.Reads as chain-refusal-reads
-use Rattle.capture_file.proofs.field.first.Reads as first-reads
-use Rattle.capture_file.proofs.first_good.Reads as first-good-reads
-use Rattle.capture_file.proofs.refused.Reads as refused-reads
 
--- src/lib.rt:194:9
 first-good-requires : tie.Need-first-good-requires
 first-good-requires c κs = search needs
 
--- src/lib.rt:195:9
 refused-requires : tie.Need-refused-requires
 refused-requires c κs = search needs
 
--- src/lib.rt:195:9
 returns : tie.Need-returns
 unfolding portRefusal
 returns c = simp (sym (c .before .before .first-good .ensures) ∙ not-true _ (c .before .if1 .taken), c .refused .ensures)
 
--- src/lib.rt:197:25
 first-requires : tie.Need-first-requires
 first-requires c κs = search needs
 
--- src/lib.rt:197:5
 chain-refusal-requires : tie.Need-chain-refusal-requires
 chain-refusal-requires c κs = rw (c .first .ensures) (first-has _ _ (omega arith) (sym (c .before .before .first-good .ensures) ∙ not-false _ (c .before .if1 .left)))
 
--- src/lib.rt:190:1
 returns-2 : tie.Need-returns-2
 unfolding portRefusal
 returns-2 c = simp (sym (c .before .before .before .first-good .ensures) ∙ not-false _ (c .before .before .if1 .left)) (c .chain-refusal .ensures ∙ ap (chainRefusal (c .before .before .before .before .before .args .file .now) (mostEvents (c .before .before .before .before .before .args .file .now))) (c .before .first .ensures))

@@ -1,3 +1,4 @@
+-- `capture_file::ports_refusal` meets its contract. The ports from this one on refuse what all ports do. Assumes nothing.
 use borrow.Author.Needs.{needs}
 use Prim.Native.Nat.{_+_, _-_, _≤_, suc}
 use mathlib.Core.Path.{_∙_, _≡_, ap, refl, sym}
@@ -8,10 +9,6 @@ use Rattle.capture_file.specs.File.{portCount}
 use Rattle.capture_file.specs.declared.FileRefusal.{FileRefusal}
 use Rattle.capture_file.proofs.ports_refusal.Statement.{statement}
 use Rattle.capture_file.proofs.ports_refusal.Tie as tie
-use Rattle.capture_file.proofs.ports_refusal.Reads as reads
-use Rattle.capture_file.proofs.ports_refusal.Lts as lts
-use Rattle.capture_file.proofs.port_refusal.Reads as port-refusal-reads
-use Rattle.capture_file.proofs.refused.Reads as refused-reads
 
 abbrev Inv-loop : tie.InvT-loop
 Inv-loop file port₀ port = (port ≤ portCount) × (portsRefusal file port (portCount - port) ≡ portsRefusal file 0 portCount)
@@ -19,15 +16,12 @@ Inv-loop file port₀ port = (port ≤ portCount) × (portsRefusal file port (po
 abbrev μ-loop : tie.MeasureT-loop
 μ-loop file port₀ port = portCount - port
 
--- src/lib.rt:206:5
 loop-holds : tie.Need-loop-holds Inv-loop μ-loop
 loop-holds c = (omega arith, refl)
 
--- src/lib.rt:207:13
 port-refusal-requires : tie.Need-port-refusal-requires Inv-loop μ-loop
 port-refusal-requires c κs = search needs
 
--- src/lib.rt:209:13
 returns : tie.Need-returns Inv-loop μ-loop
 returns c =
     let l = c .before .before .before .before .loop in
@@ -39,15 +33,12 @@ returns c =
     ∙ ap (portsRefusal f (l .port)) (sym more)
     ∙ l .inv .1
 
--- src/lib.rt:211:9
 add-port : tie.Need-add-port Inv-loop μ-loop
 add-port c = search needs
 
--- src/lib.rt:206:5
 loop-less : tie.Need-loop-less Inv-loop μ-loop
 loop-less c = omega arith
 
--- src/lib.rt:206:5
 loop-again : tie.Need-loop-again Inv-loop μ-loop
 loop-again c =
     let l = c .before .before .before .before .loop in
@@ -60,11 +51,9 @@ loop-again c =
           ∙ l .inv .1,
     )
 
--- src/lib.rt:213:5
 refused-requires : tie.Need-refused-requires Inv-loop μ-loop
 refused-requires c κs = search needs
 
--- src/lib.rt:201:1
 returns-2 : tie.Need-returns-2 Inv-loop μ-loop
 unfolding portsRefusal
 returns-2 c =

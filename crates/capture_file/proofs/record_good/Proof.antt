@@ -1,3 +1,4 @@
+-- `capture_file::record_good` meets its contract. By the fields as they stand in the file. Assumes nothing.
 use borrow.Author.Needs.{needs}
 use mathlib.Core.Path.{_∙_, _≡_, sym}
 use borrow.Author.Tests.{not-false, not-true}
@@ -5,36 +6,22 @@ use Rattle.capture_file.specs.Checks.{fieldsGood, recordGood}
 use Rattle.capture_file.specs.File.{kindOf, numberA, numberB, streamOf}
 use Rattle.capture_file.proofs.record_good.Statement.{statement}
 use Rattle.capture_file.proofs.record_good.Tie as tie
-use Rattle.capture_file.proofs.record_good.Reads as reads
-use Rattle.capture_file.proofs.record_good.Lts as lts
-use Rattle.capture_file.proofs.field.end.Reads as end-reads
-use Rattle.capture_file.proofs.field.kind.Reads as kind-reads
-use Rattle.capture_file.proofs.field.number_a.Reads as number-a-reads
-use Rattle.capture_file.proofs.field.number_b.Reads as number-b-reads
-use Rattle.capture_file.proofs.field.stream.Reads as stream-reads
-use Rattle.capture_file.proofs.fields_good.Reads as fields-good-reads
 
--- src/lib.rt:141:9
 kind-requires : tie.Need-kind-requires
 kind-requires c κs = search needs
 
--- src/lib.rt:142:9
 stream-requires : tie.Need-stream-requires
 stream-requires c κs = search needs
 
--- src/lib.rt:143:9
 number-a-requires : tie.Need-number-a-requires
 number-a-requires c κs = search needs
 
--- src/lib.rt:144:9
 number-b-requires : tie.Need-number-b-requires
 number-b-requires c κs = search needs
 
--- src/lib.rt:140:9
 fields-good-requires : tie.Need-fields-good-requires
 fields-good-requires c κs = search needs
 
--- src/lib.rt:146:9
 returns : tie.Need-returns
 unfolding recordGood
 returns c =
@@ -43,11 +30,9 @@ returns c =
     rw (c .before .before .before .before .before .kind .ensures, c .before .before .before .before .stream .ensures, c .before .before .before .number-a .ensures, c .before .before .number-b .ensures) at (c .before .fields-good .ensures) in
     simp (sym e ∙ not-true _ (c .if1 .taken))
 
--- src/lib.rt:148:5
 end-requires : tie.Need-end-requires
 end-requires c κs = search needs
 
--- src/lib.rt:136:1
 returns-2 : tie.Need-returns-2
 unfolding recordGood
 returns-2 c =

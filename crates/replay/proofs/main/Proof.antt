@@ -1,64 +1,47 @@
+-- `replay::main` meets its contract. What was read lies within the room. Assumes nothing.
 use native.Mathlib.Omega.{arith}
 use lib.ListN.{length-take}
 use borrow.Author.Needs.{needs}
 use Rattle.replay.proofs.main.Statement.{statement}
 use Rattle.replay.proofs.main.Tie as tie
-use Rattle.replay.proofs.main.Reads as reads
-use Rattle.replay.proofs.main.Lts as lts
-use Rattle.os.proofs.fail.Reads as fail-reads
-use Rattle.replay.proofs.file_room.Reads as file-room-reads
-use Rattle.replay.proofs.read_input.Reads as read-input-reads
-use Rattle.replay.proofs.write_replay.Reads as write-replay-reads
 
--- src/main.rt:63:20
 file-room-requires : tie.Need-file-room-requires
 file-room-requires c κs = search needs
 
--- src/main.rt:64:22
 slice-aggregate-read-input : tie.Need-slice-aggregate-read-input
 slice-aggregate-read-input c = search needs
 
--- src/main.rt:64:11
 read-input-requires : tie.Need-read-input-requires
 read-input-requires c κs = search needs
 
--- src/main.rt:65:23
 enum-known-length : tie.Need-enum-known-length
 enum-known-length c = search needs
 
--- src/main.rt:65:47
 array-share-prefix-file : tie.Need-array-share-prefix-file
 array-share-prefix-file c =
     let within = rw (c .before .length .given .1) at (c .before .before .before .before .read-input .ensures) in
     omega (arith, within, c .before .before .before .before .read-input .kept .0, c .before .before .before .before .before .before .file-room .ensures)
 
--- src/main.rt:65:47
 slice-aggregate-write-replay : tie.Need-slice-aggregate-write-replay
 slice-aggregate-write-replay c =
     let within = rw (c .before .before .length .given .1) at (c .before .before .before .before .before .read-input .ensures) in
     simp length-take (omega (arith, within, c .before .before .before .before .before .read-input .kept .0, c .before .before .before .before .before .before .before .file-room .ensures))
 
--- src/main.rt:65:34
 write-replay-requires : tie.Need-write-replay-requires
 write-replay-requires c κs = search needs
 
--- src/main.rt:66:35
 enum-told : tie.Need-enum-told
 enum-told c = search needs
 
--- src/main.rt:66:35
 slice-aggregate-fail : tie.Need-slice-aggregate-fail
 slice-aggregate-fail c = search needs
 
--- src/main.rt:66:26
 fail-requires : tie.Need-fail-requires
 fail-requires c κs = search needs
 
--- src/main.rt:62:1
 returns : tie.Need-returns
 returns c = search needs
 
--- src/main.rt:62:1
 returns-2 : tie.Need-returns-2
 returns-2 c = search needs
 

@@ -1,3 +1,4 @@
+-- `text::places` meets its contract. Each turn leaves a tenth of the number, and counts one digit more. Assumes nothing.
 use native.Mathlib.Omega.{arith}
 use lib.ListN.{length}
 use Prim.Native.Nat.{_≤_, _+_}
@@ -7,8 +8,6 @@ use Rattle.text.proofs.DigitLaws.{length-one, length-more}
 use lib.ListN.{length}
 use Rattle.text.proofs.places.Statement.{statement}
 use Rattle.text.proofs.places.Tie as tie
-use Rattle.text.proofs.places.Reads as reads
-use Rattle.text.proofs.places.Lts as lts
 
 abbrev Inv-loop : tie.InvT-loop
 Inv-loop number count₀ rest₀ count rest = (count + rest ≤ number + 1) × (count + length (digits rest) ≡ length (digits number) + 1)
@@ -16,23 +15,18 @@ Inv-loop number count₀ rest₀ count rest = (count + rest ≤ number + 1) × (
 abbrev μ-loop : tie.MeasureT-loop
 μ-loop number count₀ rest₀ count rest = rest
 
--- src/lib.rt:28:5
 loop-holds : tie.Need-loop-holds Inv-loop μ-loop
 loop-holds c = (omega arith, omega arith)
 
--- src/lib.rt:30:9
 add-count : tie.Need-add-count Inv-loop μ-loop
 add-count c = omega (arith, c .before .loop .inv .0)
 
--- src/lib.rt:28:5
 loop-less : tie.Need-loop-less Inv-loop μ-loop
 loop-less c = omega arith
 
--- src/lib.rt:28:5
 loop-again : tie.Need-loop-again Inv-loop μ-loop
 loop-again c = (omega (arith, c .before .loop .inv .0), omega (arith, c .before .loop .inv .1, length-more (c .before .loop .rest) (c .loop-test .taken)))
 
--- src/lib.rt:23:1
 returns : tie.Need-returns Inv-loop μ-loop
 returns c = omega (arith, c .before .loop .inv .1, length-one (c .before .loop .rest) (c .loop-test .left))
 

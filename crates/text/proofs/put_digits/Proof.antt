@@ -1,3 +1,4 @@
+-- `text::put_digits` meets its contract. What is written with the digits of what is left is the digits of the number. Assumes nothing.
 use borrow.Author.Needs.{needs}
 use Prim.Native.Nat.{_%_, _+_, _-_, _/_, _<_, _≤_, ℕ}
 use mathlib.Core.Path.{_∙_, _≡_, ap, refl, sym}
@@ -10,10 +11,6 @@ use Rattle.text.proofs.DigitLaws.{digits-more, digits-one, length-more,
 use Rattle.text.specs.Digits.{digit, digits}
 use Rattle.text.proofs.put_digits.Statement.{statement}
 use Rattle.text.proofs.put_digits.Tie as tie
-use Rattle.text.proofs.put_digits.Reads as reads
-use Rattle.text.proofs.put_digits.Lts as lts
-use Rattle.text.proofs.octet.Reads as octet-reads
-use Rattle.text.proofs.places.Reads as places-reads
 
 -- the last digit written, and the others still to write
 later : (text : List ℕ) (at rest to octet : ℕ)
@@ -34,35 +31,27 @@ Inv-loop text₀ at number end to₀ rest₀ text to rest = ((to ≡ at + length
 abbrev μ-loop : tie.MeasureT-loop
 μ-loop text₀ at number end to₀ rest₀ text to rest = rest
 
--- src/lib.rt:40:20
 places-requires : tie.Need-places-requires Inv-loop μ-loop
 places-requires c κs = search needs
 
--- src/lib.rt:40:15
 add-end : tie.Need-add-end Inv-loop μ-loop
 add-end c = search needs
 
--- src/lib.rt:43:5
 loop-holds : tie.Need-loop-holds Inv-loop μ-loop
 loop-holds c = ((omega (arith, c .places .ensures), omega (arith, c .places .ensures)), (refl, refl))
 
--- src/lib.rt:44:9
 sub-to : tie.Need-sub-to Inv-loop μ-loop
 sub-to c = omega (arith, c .before .loop .inv .0 .0, length-more (c .before .loop .rest) (c .loop-test .taken))
 
--- src/lib.rt:45:20
 octet-requires : tie.Need-octet-requires Inv-loop μ-loop
 octet-requires c κs = search needs
 
--- src/lib.rt:45:9
 slice-write-text : tie.Need-slice-write-text Inv-loop μ-loop
 slice-write-text c = omega (arith, c .before .before .loop .inv .0 .0, c .before .before .loop .inv .0 .1, length-more (c .before .before .loop .rest) (c .before .loop-test .taken))
 
--- src/lib.rt:43:5
 loop-less : tie.Need-loop-less Inv-loop μ-loop
 loop-less c = omega arith
 
--- src/lib.rt:43:5
 loop-again : tie.Need-loop-again Inv-loop μ-loop
 loop-again c =
     let l = c .before .before .loop in
@@ -71,19 +60,15 @@ loop-again c =
     let e : l .to - 1 ≡ a .at + length (digits (l .rest / 10)) = omega (arith, l .inv .0 .0, length-more (l .rest) more) in
     ((e, simp length-set (omega (arith, l .inv .0 .1))), (length-set (l .text) (l .to - 1) (c .octet .result) ∙ l .inv .1 .0, later (l .text) (a .at) (l .rest) (l .to - 1) (c .octet .result) more e (c .octet .ensures) ∙ l .inv .1 .1))
 
--- src/lib.rt:48:16
 octet-requires-2 : tie.Need-octet-requires-2 Inv-loop μ-loop
 octet-requires-2 c κs = c .loop-test .left
 
--- src/lib.rt:48:5
 slice-write-text-2 : tie.Need-slice-write-text-2 Inv-loop μ-loop
 slice-write-text-2 c = omega (arith, c .before .before .loop .inv .0 .0, c .before .before .loop .inv .0 .1, length-one (c .before .before .loop .rest) (c .before .loop-test .left))
 
--- src/lib.rt:36:1
 same-length : tie.Need-same-length Inv-loop μ-loop
 same-length c = length-set (c .before .before .loop .text) _ (c .octet2 .result) ∙ c .before .before .loop .inv .1 .0
 
--- src/lib.rt:36:1
 returns : tie.Need-returns Inv-loop μ-loop
 returns c =
     let l = c .before .before .loop in

@@ -1,3 +1,4 @@
+-- `text::put_number` meets its contract. The digits, and one octet after them. Assumes nothing.
 use Prim.Native.Nat.{ℕ}
 use mathlib.Core.Path.{_∙_, ap₂, sym}
 use mathlib.Core.List.{List, [], _∷_}
@@ -8,18 +9,13 @@ use Rattle.text.specs.Digits.{digits}
 use Rattle.text.specs.Lines.{numberThen}
 use Rattle.text.proofs.put_number.Statement.{statement}
 use Rattle.text.proofs.put_number.Tie as tie
-use Rattle.text.proofs.put_number.Reads as reads
-use Rattle.text.proofs.put_number.Lts as lts
-use Rattle.text.proofs.put_digits.Reads as put-digits-reads
 
--- src/lib.rt:57:9
 put-digits-requires : tie.Need-put-digits-requires
 unfolding numberThen
 put-digits-requires c κs =
     let a = c .before .before .args in
     omega (arith, length-append (digits (a .number)) (a .end ∷ []))
 
--- src/lib.rt:58:5
 slice-write-text : tie.Need-slice-write-text
 unfolding numberThen
 slice-write-text c =
@@ -27,18 +23,15 @@ slice-write-text c =
     let d = c .before .before .put-digits in
     omega (arith, length-append (digits (a .number)) (a .end ∷ []), d .ensures .0, d .kept .0)
 
--- src/lib.rt:59:5
 add-result : tie.Need-add-result
 unfolding numberThen
 add-result c =
     let a = c .before .before .before .before .before .args in
     record { fits = omega (arith, length-append (digits (a .number)) (a .end ∷ []), c .before .before .put-digits .ensures .0) }
 
--- src/lib.rt:53:1
 same-length : tie.Need-same-length
 same-length c = simp length-set (c .before .before .put-digits .kept .0)
 
--- src/lib.rt:53:1
 returns : tie.Need-returns
 unfolding numberThen
 returns c =

@@ -1,3 +1,4 @@
+-- `text::put_octets` meets its contract. What is written with the octets that are left is all octets. Assumes nothing.
 use borrow.Author.Needs.{needs}
 use Prim.Native.Nat.{_+_, _-_, _<_, _≤_, suc, ℕ}
 use mathlib.Core.Path.{_∙_, _≡_, ap, ap₂, refl, sym}
@@ -8,8 +9,6 @@ use lib.Seq.{drop-cons}
 use Rattle.lists.specs.Window.{put}
 use Rattle.text.proofs.put_octets.Statement.{statement}
 use Rattle.text.proofs.put_octets.Tie as tie
-use Rattle.text.proofs.put_octets.Reads as reads
-use Rattle.text.proofs.put_octets.Lts as lts
 
 -- one octet more
 turn : (text octets : List ℕ) (at i : ℕ) → i < length octets → put (set text (at + i) (getD octets i 0)) (at + (i + 1)) (drop (i + 1) octets) ≡ put text (at + i) (drop i octets)
@@ -29,48 +28,38 @@ Inv-loop text₀ at octets i₀ text i = (i ≤ length octets) × ((length text 
 abbrev μ-loop : tie.MeasureT-loop
 μ-loop text₀ at octets i₀ text i = length octets - i
 
--- src/lib.rt:67:5
 loop-holds : tie.Need-loop-holds Inv-loop μ-loop
 loop-holds c =
     let a = c .args in
     (omega arith, (refl, let none : a .at + 0 ≡ a .at = omega arith in ap (λ (k : ℕ). put (a .text .now) k (a .octets .now)) none))
 
--- src/lib.rt:68:18
 add-to : tie.Need-add-to Inv-loop μ-loop
 add-to c = record { fits = omega (arith, c .before .loop .inv .1 .0) }
 
--- src/lib.rt:69:20
 shared-slice-read-text : tie.Need-shared-slice-read-text Inv-loop μ-loop
 shared-slice-read-text c = search needs
 
--- src/lib.rt:69:9
 slice-write-text : tie.Need-slice-write-text Inv-loop μ-loop
 slice-write-text c = omega (arith, c .before .before .loop .inv .1 .0)
 
--- src/lib.rt:70:9
 add-i : tie.Need-add-i Inv-loop μ-loop
 add-i c = search needs
 
--- src/lib.rt:67:5
 loop-less : tie.Need-loop-less Inv-loop μ-loop
 loop-less c = omega arith
 
--- src/lib.rt:67:5
 loop-again : tie.Need-loop-again Inv-loop μ-loop
 loop-again c =
     let l = c .before .before .loop in
     let a = c .before .before .before .args in
     (omega arith, (length-set (l .text) (a .at + l .i) _ ∙ l .inv .1 .0, turn (l .text) (a .octets .now) (a .at) (l .i) (c .before .loop-test .taken) ∙ l .inv .1 .1))
 
--- src/lib.rt:72:5
 add-result : tie.Need-add-result Inv-loop μ-loop
 add-result c = record { fits = omega (arith, c .before .loop .inv .1 .0) }
 
--- src/lib.rt:62:1
 same-length : tie.Need-same-length Inv-loop μ-loop
 same-length c = c .before .loop .inv .1 .0
 
--- src/lib.rt:62:1
 returns : tie.Need-returns Inv-loop μ-loop
 returns c =
     let l = c .before .loop in

@@ -1,3 +1,4 @@
+-- `capture::events::call` meets its contract. By the kind that leads to each return. Assumes nothing.
 use borrow.Author.Needs.{needs}
 use mathlib.Core.Path.{_∙_, _≡_, ap, sym}
 use borrow.Author.Tests.{eq-eqb, ne-eqb}
@@ -5,123 +6,91 @@ use Rattle.capture.specs.Events.{callOf}
 use Rattle.port_laws.specs.Lists.{Call, arriving, joiningBestEffort, opening, quicklyCalled, reserving, ticking, transmitting}
 use Rattle.capture.proofs.events.call.Statement.{statement}
 use Rattle.capture.proofs.events.call.Tie as tie
-use Rattle.capture.proofs.events.call.Reads as reads
-use Rattle.capture.proofs.events.call.Lts as lts
-use Rattle.port.proofs.quick.arrive.Reads as arrive-reads
-use Rattle.port.proofs.quick.best_effort.Reads as best-effort-reads
-use Rattle.port.proofs.quick.open_port.Reads as open-port-reads
-use Rattle.port.proofs.quick.reserve.Reads as reserve-reads
-use Rattle.port.proofs.quick.tick.Reads as tick-reads
-use Rattle.port.proofs.quick.transmit.Reads as transmit-reads
 
--- src/events.rt:21:9
 open-port-requires : tie.Need-open-port-requires
 open-port-requires c κs = search needs
 
--- src/events.rt:21:9
 same-length : tie.Need-same-length
 same-length c = search needs
 
--- src/events.rt:21:9
 same-length-2 : tie.Need-same-length-2
 same-length-2 c = search needs
 
--- src/events.rt:21:9
 returns : tie.Need-returns
 returns c =
     let g = c .before .before .before .before .before .before .before .before .args in
     let e : callOf (g .kind) (g .stream) (g .a) (g .b) ≡ opening (g .a) (g .b) = simp (eq-eqb _ _ (c .before .before .before .before .before .if1 .taken)) in
     c .before .before .open-port .ensures ∙ ap (λ (x : Call). quicklyCalled x (g .port .now) (g .memory .now)) (sym e)
 
--- src/events.rt:24:9
 reserve-requires : tie.Need-reserve-requires
 reserve-requires c κs = search needs
 
--- src/events.rt:24:9
 same-length-3 : tie.Need-same-length-3
 same-length-3 c = search needs
 
--- src/events.rt:24:9
 same-length-4 : tie.Need-same-length-4
 same-length-4 c = search needs
 
--- src/events.rt:24:9
 returns-2 : tie.Need-returns-2
 returns-2 c =
     let g = c .before .before .before .before .before .before .before .before .before .args in
     let e : callOf (g .kind) (g .stream) (g .a) (g .b) ≡ reserving (g .stream) (g .a) = simp (ne-eqb _ _ (c .before .before .before .before .before .before .if1 .left), eq-eqb _ _ (c .before .before .before .before .before .if2 .taken)) in
     c .before .before .reserve .ensures ∙ ap (λ (x : Call). quicklyCalled x (g .port .now) (g .memory .now)) (sym e)
 
--- src/events.rt:27:9
 arrive-requires : tie.Need-arrive-requires
 arrive-requires c κs = search needs
 
--- src/events.rt:27:9
 same-length-5 : tie.Need-same-length-5
 same-length-5 c = search needs
 
--- src/events.rt:27:9
 same-length-6 : tie.Need-same-length-6
 same-length-6 c = search needs
 
--- src/events.rt:27:9
 returns-3 : tie.Need-returns-3
 returns-3 c =
     let g = c .before .before .before .before .before .before .before .before .before .before .before .before .args in
     let e : callOf (g .kind) (g .stream) (g .a) (g .b) ≡ arriving (g .stream) (g .a) (g .b) = simp (ne-eqb _ _ (c .before .before .before .before .before .before .before .before .before .if1 .left), ne-eqb _ _ (c .before .before .before .before .before .before .before .before .if2 .left), eq-eqb _ _ (c .before .before .before .before .before .before .before .if3 .taken)) in
     c .before .before .before .before .arrive .ensures ∙ ap (λ (x : Call). quicklyCalled x (g .port .now) (g .memory .now)) (sym e)
 
--- src/events.rt:30:9
 best-effort-requires : tie.Need-best-effort-requires
 best-effort-requires c κs = search needs
 
--- src/events.rt:30:9
 same-length-7 : tie.Need-same-length-7
 same-length-7 c = search needs
 
--- src/events.rt:30:9
 same-length-8 : tie.Need-same-length-8
 same-length-8 c = search needs
 
--- src/events.rt:30:9
 returns-4 : tie.Need-returns-4
 returns-4 c =
     let g = c .before .before .before .before .before .before .before .before .before .before .before .before .before .args in
     let e : callOf (g .kind) (g .stream) (g .a) (g .b) ≡ joiningBestEffort (g .a) (g .b) = simp (ne-eqb _ _ (c .before .before .before .before .before .before .before .before .before .before .if1 .left), ne-eqb _ _ (c .before .before .before .before .before .before .before .before .before .if2 .left), ne-eqb _ _ (c .before .before .before .before .before .before .before .before .if3 .left), eq-eqb _ _ (c .before .before .before .before .before .before .before .if4 .taken)) in
     c .before .before .before .before .best-effort .ensures ∙ ap (λ (x : Call). quicklyCalled x (g .port .now) (g .memory .now)) (sym e)
 
--- src/events.rt:33:9
 tick-requires : tie.Need-tick-requires
 tick-requires c κs = search needs
 
--- src/events.rt:33:9
 same-length-9 : tie.Need-same-length-9
 same-length-9 c = search needs
 
--- src/events.rt:33:9
 same-length-10 : tie.Need-same-length-10
 same-length-10 c = search needs
 
--- src/events.rt:33:9
 returns-5 : tie.Need-returns-5
 returns-5 c =
     let g = c .before .before .before .before .before .before .before .before .before .before .before .before .args in
     let e : callOf (g .kind) (g .stream) (g .a) (g .b) ≡ ticking = simp (ne-eqb _ _ (c .before .before .before .before .before .before .before .before .before .if1 .left), ne-eqb _ _ (c .before .before .before .before .before .before .before .before .if2 .left), ne-eqb _ _ (c .before .before .before .before .before .before .before .if3 .left), ne-eqb _ _ (c .before .before .before .before .before .before .if4 .left), eq-eqb _ _ (c .before .before .before .before .before .if5 .taken)) in
     c .before .before .tick .ensures ∙ ap (λ (x : Call). quicklyCalled x (g .port .now) (g .memory .now)) (sym e)
 
--- src/events.rt:35:5
 transmit-requires : tie.Need-transmit-requires
 transmit-requires c κs = search needs
 
--- src/events.rt:17:1
 same-length-11 : tie.Need-same-length-11
 same-length-11 c = search needs
 
--- src/events.rt:17:1
 same-length-12 : tie.Need-same-length-12
 same-length-12 c = search needs
 
--- src/events.rt:17:1
 returns-6 : tie.Need-returns-6
 returns-6 c =
     let g = c .before .before .before .before .before .before .before .before .before .before .before .before .args in

@@ -1,46 +1,32 @@
+-- `capture::events::play` meets its contract. By the fields as they stand in the file. Assumes nothing.
 use borrow.Author.Needs.{needs}
 use mathlib.Core.Path.{_∙_, _≡_, ap, refl}
 use Rattle.capture.specs.Events.{callAt, callOf}
 use Rattle.port_laws.specs.Lists.{Call, quicklyCalled}
 use Rattle.capture.proofs.events.play.Statement.{statement}
 use Rattle.capture.proofs.events.play.Tie as tie
-use Rattle.capture.proofs.events.play.Reads as reads
-use Rattle.capture.proofs.events.play.Lts as lts
-use Rattle.capture.proofs.events.call.Reads as call-reads
-use Rattle.capture_file.proofs.field.kind.Reads as kind-reads
-use Rattle.capture_file.proofs.field.number_a.Reads as number-a-reads
-use Rattle.capture_file.proofs.field.number_b.Reads as number-b-reads
-use Rattle.capture_file.proofs.field.stream.Reads as stream-reads
 
--- src/events.rt:44:9
 kind-requires : tie.Need-kind-requires
 kind-requires c κs = search needs
 
--- src/events.rt:45:9
 stream-requires : tie.Need-stream-requires
 stream-requires c κs = search needs
 
--- src/events.rt:46:9
 number-a-requires : tie.Need-number-a-requires
 number-a-requires c κs = search needs
 
--- src/events.rt:47:9
 number-b-requires : tie.Need-number-b-requires
 number-b-requires c κs = search needs
 
--- src/events.rt:43:5
 call-requires : tie.Need-call-requires
 call-requires c κs = search needs
 
--- src/events.rt:39:1
 same-length : tie.Need-same-length
 same-length c = search needs
 
--- src/events.rt:39:1
 same-length-2 : tie.Need-same-length-2
 same-length-2 c = search needs
 
--- src/events.rt:39:1
 returns : tie.Need-returns
 unfolding callAt
 returns c =

@@ -1,3 +1,4 @@
+-- `capture::events::put_chain` meets its contract. What is written with the lines still to come is the lines of the chain. Assumes nothing.
 use Prim.Native.Nat.{_-_, ℕ}
 use mathlib.Core.Path.{subst}
 use native.Mathlib.Omega.{arith}
@@ -5,10 +6,6 @@ use Rattle.capture_file.specs.File.{recordCount}
 use Rattle.capture.proofs.PlayLaws.{Came, begins, finishes, goes-on, in-turn}
 use Rattle.capture.proofs.events.put_chain.Statement.{statement}
 use Rattle.capture.proofs.events.put_chain.Tie as tie
-use Rattle.capture.proofs.events.put_chain.Reads as reads
-use Rattle.capture.proofs.events.put_chain.Lts as lts
-use Rattle.capture.proofs.events.put_event.Reads as put-event-reads
-use Rattle.capture_file.proofs.field.next.Reads as next-reads
 
 abbrev Inv-loop : tie.InvT-loop
 Inv-loop file first place port₀ memory₀ text₀ at to₀ index₀ number₀ port memory text to index number =
@@ -17,14 +14,12 @@ Inv-loop file first place port₀ memory₀ text₀ at to₀ index₀ number₀ 
 abbrev μ-loop : tie.MeasureT-loop
 μ-loop file first place port₀ memory₀ text₀ at to₀ index₀ number₀ port memory text to index number = recordCount file - number
 
--- src/events.rt:81:5
 loop-holds : tie.Need-loop-holds Inv-loop μ-loop
 loop-holds c =
     let a = c .before .before .before .before .args in
     let pre = c .before .before .before .before .pre in
     begins (a .file .now) (a .place) (a .first) (a .at) (a .port .now) (a .memory .now) (a .text .now) (pre .0) (pre .1 .0) (pre .1 .1 .1 .0)
 
--- src/events.rt:82:9
 put-event-requires : tie.Need-put-event-requires Inv-loop μ-loop
 put-event-requires c κs =
     let l = c .before .before .before .before .loop in
@@ -33,19 +28,15 @@ put-event-requires c κs =
     let turn = in-turn f (a .place) (a .first) (a .at) (a .port .now) (a .memory .now) (a .text .now) (l .port) (l .memory) (l .text) (l .to) (l .index) (l .number) (c .before .before .before .loop-test .taken) (l .inv) (c .before .before .before .before .before .before .before .before .before .pre .1 .1 .0 .1) (c .before .before .before .before .before .before .before .before .before .pre .1 .1 .1 .1) in
     (l .inv .has, ((c .before .before .before .before .before .before .before .before .before .pre .1 .1 .0 .0, (turn .0, turn .1 .0)), turn .1 .1))
 
--- src/events.rt:83:9
 next-requires : tie.Need-next-requires Inv-loop μ-loop
 next-requires c κs = c .before .before .before .before .before .before .before .before .before .before .before .loop .inv .has
 
--- src/events.rt:84:9
 add-number : tie.Need-add-number Inv-loop μ-loop
 add-number c = record { fits = omega (arith, c .before .before .before .before .before .before .before .before .before .before .before .before .loop .inv .counted .1, c .before .before .before .before .before .before .before .before .before .before .before .before .before .before .before .before .before .pre .1 .1 .0 .1) }
 
--- src/events.rt:81:5
 loop-less : tie.Need-loop-less Inv-loop μ-loop
 loop-less c = omega (arith, c .before .before .before .before .before .before .before .before .before .before .before .before .loop .inv .has, c .before .before .before .before .before .before .before .before .before .before .before .before .loop .inv .beyond (c .before .before .before .before .before .before .before .before .before .before .before .loop-test .taken))
 
--- src/events.rt:81:5
 loop-again : tie.Need-loop-again Inv-loop μ-loop
 loop-again c =
     let l = c .before .before .before .before .before .before .before .before .before .before .before .before .loop in
@@ -55,19 +46,15 @@ loop-again c =
     rw (c .next .ensures)
     (goes-on f (a .place) (a .first) (a .at) (a .port .now) (a .memory .now) (a .text .now) (l .port) (l .memory) (l .text) (l .to) (l .index) (l .number) (c .before .before .before .before .before .before .before .before .before .before .before .loop-test .taken) (l .inv) _ _ _ (w .result) (w .ensures .0) (w .ensures .1 .0) (w .ensures .1 .1 .0) (w .ensures .1 .1 .1) (w .kept .1 .1 .1 .1 .0, (w .kept .1 .1 .1 .1 .1 .0, w .kept .1 .1 .1 .1 .1 .1 .0)))
 
--- src/events.rt:69:1
 same-length : tie.Need-same-length Inv-loop μ-loop
 same-length c = c .before .loop .inv .kept .0
 
--- src/events.rt:69:1
 same-length-2 : tie.Need-same-length-2 Inv-loop μ-loop
 same-length-2 c = c .before .loop .inv .kept .1 .0
 
--- src/events.rt:69:1
 same-length-3 : tie.Need-same-length-3 Inv-loop μ-loop
 same-length-3 c = c .before .loop .inv .kept .1 .1
 
--- src/events.rt:69:1
 returns : tie.Need-returns Inv-loop μ-loop
 returns c =
     let l = c .before .loop in

@@ -1,3 +1,4 @@
+-- `capture::events::put_event` meets its contract. The reply is the quick call's, and so are the record and the memory. Assumes nothing.
 use borrow.Author.Needs.{needs}
 use Prim.Native.Nat.{_+_, ℕ}
 use mathlib.Core.Path.{_∙_, ap, ap₂}
@@ -8,37 +9,25 @@ use Rattle.lists.specs.Window.{put}
 use Rattle.steps.specs.Outcome.{Outcome}
 use Rattle.capture.proofs.events.put_event.Statement.{statement}
 use Rattle.capture.proofs.events.put_event.Tie as tie
-use Rattle.capture.proofs.events.put_event.Reads as reads
-use Rattle.capture.proofs.events.put_event.Lts as lts
-use Rattle.capture.proofs.events.play.Reads as play-reads
-use Rattle.capture.proofs.lines.put_event.Reads as put-event-reads
-use Rattle.capture_file.proofs.field.kind.Reads as kind-reads
 
--- src/events.rt:63:9
 play-requires : tie.Need-play-requires
 play-requires c κs = search needs
 
--- src/events.rt:64:9
 kind-requires : tie.Need-kind-requires
 kind-requires c κs = search needs
 
--- src/events.rt:65:5
 put-event-requires : tie.Need-put-event-requires
 put-event-requires c κs = search needs
 
--- src/events.rt:54:1
 same-length : tie.Need-same-length
 same-length c = search needs
 
--- src/events.rt:54:1
 same-length-2 : tie.Need-same-length-2
 same-length-2 c = search needs
 
--- src/events.rt:54:1
 same-length-3 : tie.Need-same-length-3
 same-length-3 c = search needs
 
--- src/events.rt:54:1
 returns : tie.Need-returns
 returns c =
     let a = c .before .before .before .before .before .before .before .before .before .before .before .before .before .before .before .before .args in

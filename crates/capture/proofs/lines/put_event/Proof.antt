@@ -1,3 +1,4 @@
+-- `capture::lines::put_event` meets its contract. Six numbers, each written where the one before it ends. Assumes nothing.
 use borrow.Author.Needs.{needs}
 use native.Mathlib.Omega.{arith}
 use Rattle.capture.proofs.LineLaws.{wrote-six}
@@ -6,55 +7,43 @@ use Rattle.text.proofs.LineLaws.{length-number}
 use Rattle.text.specs.Lines.{lineFeed, space}
 use Rattle.capture.proofs.lines.put_event.Statement.{statement}
 use Rattle.capture.proofs.lines.put_event.Tie as tie
-use Rattle.capture.proofs.lines.put_event.Reads as reads
-use Rattle.capture.proofs.lines.put_event.Lts as lts
-use Rattle.text.proofs.put_number.Reads as put-number-reads
 
--- src/lines.rt:20:9
 put-number-requires : tie.Need-put-number-requires
 put-number-requires c κs =
     let a = c .before .before .args in
     omega (arith, length-number 0 (a .port) space (omega arith))
 
--- src/lines.rt:21:9
 put-number-requires-2 : tie.Need-put-number-requires-2
 put-number-requires-2 c κs =
     let a = c .before .before .before .before .before .before .args in
     omega (arith, length-number 0 (a .port) space (omega arith), length-number 3 (a .number) space (omega arith), c .before .before .before .put-number .ensures .0, c .before .before .before .put-number .kept .0)
 
--- src/lines.rt:22:9
 put-number-requires-3 : tie.Need-put-number-requires-3
 put-number-requires-3 c κs =
     let a = c .before .before .before .before .before .before .before .before .before .before .args in
     omega (arith, length-number 0 (a .port) space (omega arith), length-number 3 (a .number) space (omega arith), length-number 0 (a .kind) space (omega arith), c .before .before .before .before .before .before .before .put-number .ensures .0, c .before .before .before .before .before .before .before .put-number .kept .0, c .before .before .before .put-number2 .ensures .0, c .before .before .before .put-number2 .kept .0)
 
--- src/lines.rt:23:55
 cast-put-number : tie.Need-cast-put-number
 cast-put-number c = search needs
 
--- src/lines.rt:23:9
 put-number-requires-4 : tie.Need-put-number-requires-4
 put-number-requires-4 c κs =
     let a = c .before .before .before .before .before .before .before .before .before .before .before .before .before .before .before .args in
     omega (arith, length-number 0 (a .port) space (omega arith), length-number 3 (a .number) space (omega arith), length-number 0 (a .kind) space (omega arith), length-number 2 (a .reply .refusal) space (omega arith), c .before .before .before .before .before .before .before .before .before .before .before .before .put-number .ensures .0, c .before .before .before .before .before .before .before .before .before .before .before .before .put-number .kept .0, c .before .before .before .before .before .before .before .before .put-number2 .ensures .0, c .before .before .before .before .before .before .before .before .put-number2 .kept .0, c .before .before .before .before .put-number3 .ensures .0, c .before .before .before .before .put-number3 .kept .0)
 
--- src/lines.rt:24:9
 put-number-requires-5 : tie.Need-put-number-requires-5
 put-number-requires-5 c κs =
     let a = c .before .before .before .before .before .before .before .before .before .before .before .before .before .before .before .before .before .before .before .args in
     omega (arith, length-number 0 (a .port) space (omega arith), length-number 3 (a .number) space (omega arith), length-number 0 (a .kind) space (omega arith), length-number 2 (a .reply .refusal) space (omega arith), length-number 9 (a .reply .first) space (omega arith), c .before .before .before .before .before .before .before .before .before .before .before .before .before .before .before .before .put-number .ensures .0, c .before .before .before .before .before .before .before .before .before .before .before .before .before .before .before .before .put-number .kept .0, c .before .before .before .before .before .before .before .before .before .before .before .before .put-number2 .ensures .0, c .before .before .before .before .before .before .before .before .before .before .before .before .put-number2 .kept .0, c .before .before .before .before .before .before .before .before .put-number3 .ensures .0, c .before .before .before .before .before .before .before .before .put-number3 .kept .0, c .before .before .before .put-number4 .ensures .0, c .before .before .before .put-number4 .kept .0)
 
--- src/lines.rt:25:5
 put-number-requires-6 : tie.Need-put-number-requires-6
 put-number-requires-6 c κs =
     let a = c .before .before .before .before .before .before .before .before .before .before .before .before .before .before .before .before .before .before .before .before .before .before .before .args in
     omega (arith, length-number 0 (a .port) space (omega arith), length-number 3 (a .number) space (omega arith), length-number 0 (a .kind) space (omega arith), length-number 2 (a .reply .refusal) space (omega arith), length-number 9 (a .reply .first) space (omega arith), length-number 9 (a .reply .second) lineFeed (omega arith), c .before .before .before .before .before .before .before .before .before .before .before .before .before .before .before .before .before .before .before .before .put-number .ensures .0, c .before .before .before .before .before .before .before .before .before .before .before .before .before .before .before .before .before .before .before .before .put-number .kept .0, c .before .before .before .before .before .before .before .before .before .before .before .before .before .before .before .before .put-number2 .ensures .0, c .before .before .before .before .before .before .before .before .before .before .before .before .before .before .before .before .put-number2 .kept .0, c .before .before .before .before .before .before .before .before .before .before .before .before .put-number3 .ensures .0, c .before .before .before .before .before .before .before .before .before .before .before .before .put-number3 .kept .0, c .before .before .before .before .before .before .before .put-number4 .ensures .0, c .before .before .before .before .before .before .before .put-number4 .kept .0, c .before .before .before .put-number5 .ensures .0, c .before .before .before .put-number5 .kept .0)
 
--- src/lines.rt:14:1
 same-length : tie.Need-same-length
 same-length c = search needs
 
--- src/lines.rt:14:1
 returns : tie.Need-returns
 unfolding eventLine
 returns c =

@@ -1,3 +1,4 @@
+-- `capture::lines::put_refusal` meets its contract. The word, then two numbers. Assumes nothing.
 use borrow.Author.Needs.{needs}
 use native.Mathlib.Omega.{arith}
 use Rattle.capture.proofs.LineLaws.{wrote-refusal}
@@ -6,40 +7,28 @@ use Rattle.text.proofs.LineLaws.{length-number}
 use Rattle.text.specs.Lines.{lineFeed, space}
 use Rattle.capture.proofs.lines.put_refusal.Statement.{statement}
 use Rattle.capture.proofs.lines.put_refusal.Tie as tie
-use Rattle.capture.proofs.lines.put_refusal.Reads as reads
-use Rattle.capture.proofs.lines.put_refusal.Lts as lts
-use Rattle.text.proofs.put_number.Reads as put-number-reads
-use Rattle.text.proofs.put_octets.Reads as put-octets-reads
 
--- src/lines.rt:34:47
 slice-aggregate-put-octets : tie.Need-slice-aggregate-put-octets
 slice-aggregate-put-octets c = search needs
 
--- src/lines.rt:34:9
 put-octets-requires : tie.Need-put-octets-requires
 put-octets-requires c κs = omega arith
 
--- src/lines.rt:35:54
 cast-put-number : tie.Need-cast-put-number
 cast-put-number c = search needs
 
--- src/lines.rt:35:9
 put-number-requires : tie.Need-put-number-requires
 put-number-requires c κs = omega (arith, length-number 2 (c .before .before .before .before .before .before .before .before .args .refusal .number) space (omega arith), c .before .before .before .before .put-octets .ensures .0, c .before .before .before .before .put-octets .kept .0)
 
--- src/lines.rt:36:38
 cast-put-number-2 : tie.Need-cast-put-number-2
 cast-put-number-2 c = search needs
 
--- src/lines.rt:36:5
 put-number-requires-2 : tie.Need-put-number-requires-2
 put-number-requires-2 c κs = omega (arith, length-number 2 (c .before .before .before .before .before .before .before .before .before .before .before .before .before .args .refusal .number) space (omega arith), length-number 4 (c .before .before .before .before .before .before .before .before .before .before .before .before .before .args .refusal .index) lineFeed (omega arith), c .before .before .before .before .before .before .before .before .before .put-octets .ensures .0, c .before .before .before .before .before .before .before .before .before .put-octets .kept .0, c .before .before .before .before .put-number .ensures .0, c .before .before .before .before .put-number .kept .0)
 
--- src/lines.rt:29:1
 same-length : tie.Need-same-length
 same-length c = search needs
 
--- src/lines.rt:29:1
 returns : tie.Need-returns
 returns c =
     let a = c .before .before .before .before .before .before .before .before .before .before .before .before .before .before .before .before .args in (

@@ -1,3 +1,4 @@
+-- `capture_file::field::has_letters` meets its contract. The part of the file that is compared is its first four octets. Assumes nothing.
 use borrow.Author.Needs.{needs}
 use Prim.Native.Nat.{ℕ}
 use mathlib.Core.Path.{_∙_, ap}
@@ -9,31 +10,22 @@ use Rattle.lists.proofs.WindowLaws.{mid-get}
 use Rattle.lists.specs.Equal.{octetsEqual}
 use Rattle.capture_file.proofs.field.has_letters.Statement.{statement}
 use Rattle.capture_file.proofs.field.has_letters.Tie as tie
-use Rattle.capture_file.proofs.field.has_letters.Reads as reads
-use Rattle.capture_file.proofs.field.has_letters.Lts as lts
-use Rattle.check.proofs.same.Reads as same-reads
 
--- src/field.rt:23:17
 sub-same : tie.Need-sub-same
 sub-same c = search needs
 
--- src/field.rt:23:17
 part-same-start : tie.Need-part-same-start
 part-same-start c = search needs
 
--- src/field.rt:23:17
 part-same-end : tie.Need-part-same-end
 part-same-end c = search needs
 
--- src/field.rt:23:30
 slice-aggregate-same : tie.Need-slice-aggregate-same
 slice-aggregate-same c = search needs
 
--- src/field.rt:23:5
 same-requires : tie.Need-same-requires
 same-requires c κs = search needs
 
--- src/field.rt:19:1
 returns : tie.Need-returns
 unfolding lettersOf
 returns c = same-is (c .same .result) _ _ (c .same .ensures) ∙ ap (λ (l : List ℕ). octetsEqual l letters) (mid-get (c .before .before .before .before .args .file .now) 0 4 (omega arith))

@@ -1,3 +1,4 @@
+-- `capture_file::field::number_b` meets its contract. A number by its octets. Assumes nothing.
 use borrow.Author.Needs.{needs}
 use Prim.Native.Nat.{_+_, ℕ}
 use mathlib.Core.Path.{_∙_, ap}
@@ -6,24 +7,16 @@ use Rattle.lists.specs.Window.{get}
 use Rattle.octets.specs.Numbers.{fourOf}
 use Rattle.capture_file.proofs.field.number_b.Statement.{statement}
 use Rattle.capture_file.proofs.field.number_b.Tie as tie
-use Rattle.capture_file.proofs.field.number_b.Reads as reads
-use Rattle.capture_file.proofs.field.number_b.Lts as lts
-use Rattle.capture_file.proofs.field.start.Reads as start-reads
-use Rattle.octets.proofs.four_at.Reads as four-at-reads
 
--- src/field.rt:80:27
 start-requires : tie.Need-start-requires
 start-requires c κs = search needs
 
--- src/field.rt:80:27
 add-four-at : tie.Need-add-four-at
 add-four-at c = search needs
 
--- src/field.rt:80:5
 four-at-requires : tie.Need-four-at-requires
 four-at-requires c κs = search needs
 
--- src/field.rt:76:1
 returns : tie.Need-returns
 unfolding numberB
 returns c = c .four-at .ensures ∙ ap (λ (at : ℕ). fourOf (get (c .before .before .before .args .file .now) (at + 8) 4)) (c .before .start .ensures)
