@@ -6,7 +6,8 @@ use mathlib.Core.Logic.{⊎-elim}
 use mathlib.Core.List.{List, [], _++_}
 use native.Mathlib.Omega.{arith}
 use lib.ListN.{length, length-append}
-use Rattle.capture_file.proofs.ChainLaws.{forward, good-front, kind-known, list-ends, list-goes-on, next-has, record-passed}
+use Rattle.capture_file.proofs.ChainLaws.{forward, good-front, list-ends, list-goes-on, next-has, record-passed}
+use Rattle.capture_file.proofs.FileLaws.{kind-known}
 use Rattle.capture_file.specs.Checks.{chainRefusal, mostOctets, recordRefusal}
 use Rattle.capture_file.specs.File.{chainWithin, kindOf, mostEvents, nextOf, recordCount}
 use Rattle.capture.specs.Events.{callAt, eventLine, linesOf}

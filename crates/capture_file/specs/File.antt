@@ -60,6 +60,6 @@ unfoldable pub chainWithin : List ℕ → ℕ → ℕ → List ℕ
 chainWithin f zero i = []
 chainWithin f (suc n) i = cond (eqb i 0) [] (i ∷ chainWithin f n (nextOf f i))
 
--- no chain of a good file has more records than the file has after its header
+-- as many records as the file has after its header: no chain has more before its end or its first refused record (`refusal-whole`, `list-whole`)
 abbrev pub mostEvents : List ℕ → ℕ
 mostEvents f = recordCount f - 1

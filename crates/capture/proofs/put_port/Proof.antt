@@ -5,7 +5,7 @@ use mathlib.Core.Path.{_∙_, _≡_, ap, ap₂, refl}
 use mathlib.Core.List.{List}
 use native.Mathlib.Omega.{arith}
 use lib.ListN.{length}
-use Rattle.capture_file.proofs.ChainLaws.{file-passed, first-has, length-passed, port-passed, ports-good}
+use Rattle.capture_file.proofs.FileLaws.{file-passed, first-has, length-passed, port-passed, ports-good}
 use Rattle.capture_file.specs.File.{chainWithin, mostEvents}
 use Rattle.capture.specs.Events.{linesOf, portText}
 use Rattle.fitness.specs.Fit.{recordFits}

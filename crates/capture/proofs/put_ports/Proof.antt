@@ -5,7 +5,7 @@ use mathlib.Core.Path.{_∙_, _≡_, refl, subst}
 use native.Mathlib.Omega.{arith}
 use lib.ListN.{length}
 use native.Mathlib.Numerals.{add-one}
-use Rattle.capture_file.proofs.ChainLaws.{file-passed, length-passed}
+use Rattle.capture_file.proofs.FileLaws.{file-passed, length-passed}
 use Rattle.capture_file.specs.File.{portCount}
 use Rattle.capture.specs.Events.{portText}
 use Rattle.capture.specs.Output.{portsText}

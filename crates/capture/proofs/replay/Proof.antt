@@ -6,7 +6,7 @@ use mathlib.Core.Bool.{Bool, cond}
 use native.Mathlib.Omega.{arith}
 use lib.ListN.{length}
 use borrow.Author.Tests.{le-ltb, lt-ltb}
-use Rattle.capture.specs.Output.{output, replayOf, replayed}
+use Rattle.capture.specs.Output.{output, replayOf, replayed, textLength}
 use Rattle.lists.specs.Window.{put}
 use Rattle.stream.specs.Replies.{granted, refusedBy}
 use Rattle.capture.proofs.replay.Statement.{statement}
@@ -20,7 +20,7 @@ unfolding replayOf
 returns c =
     let a = c .before .before .before .before .args in (
       ap₂ replayed (c .refused .ensures) refl
-          ∙ sym (ap (λ (b : Bool). cond b (replayed (refusedBy 18) (a .text .now)) (replayed (granted (length (output (a .file .now))) 0) (put (a .text .now) 0 (output (a .file .now))))) (lt-ltb _ _ (c .before .if1 .taken))),
+          ∙ sym (ap (λ (b : Bool). cond b (replayed (refusedBy 18) (a .text .now)) (replayed (granted (length (output (a .file .now))) 0) (put (a .text .now) 0 (output (a .file .now))))) (lt-ltb (length (a .text .now)) textLength (omega (arith, c .before .if1 .taken)))),
       rw (c .refused .ensures) (omega arith),
     )
 
@@ -44,7 +44,7 @@ returns-2 c =
     let o = output (a .file .now) in
     let n : c .before .before .before .put-output .result ≡ length o = omega (arith, w .0 .0) in (
       ap₂ replayed (c .granted .ensures ∙ ap (λ (k : ℕ). granted k 0) n) (w .0 .1)
-          ∙ sym (ap (λ (b : Bool). cond b (replayed (refusedBy 18) (a .text .now)) (replayed (granted (length o) 0) (put (a .text .now) 0 o))) (le-ltb _ _ (c .before .before .before .before .before .if1 .left))),
+          ∙ sym (ap (λ (b : Bool). cond b (replayed (refusedBy 18) (a .text .now)) (replayed (granted (length o) 0) (put (a .text .now) 0 o))) (le-ltb (length (a .text .now)) textLength (omega (arith, c .before .before .before .before .before .if1 .left)))),
       rw (c .granted .ensures) (omega (arith, w .1, c .before .before .before .put-output .kept .1 .0, c .before .before .before .before .before .if1 .left)),
     )
 

@@ -3,7 +3,7 @@ use borrow.Author.Needs.{needs}
 use mathlib.Core.Path.{_∙_, ap, sym}
 use native.Mathlib.Omega.{arith}
 use borrow.Author.Tests.{not-false, not-true}
-use Rattle.capture_file.proofs.ChainLaws.{first-has}
+use Rattle.capture_file.proofs.FileLaws.{first-has}
 use Rattle.capture_file.specs.Checks.{chainRefusal, portRefusal}
 use Rattle.capture_file.specs.File.{mostEvents}
 use Rattle.capture_file.proofs.port_refusal.Statement.{statement}

@@ -3,7 +3,7 @@ use borrow.Author.Needs.{needs}
 use Prim.Native.Nat.{_+_, _-_, _≤_, suc}
 use mathlib.Core.Path.{_∙_, _≡_, ap, refl, sym}
 use native.Mathlib.Omega.{arith}
-use Rattle.capture_file.proofs.ChainLaws.{ports-go-on, ports-stop}
+use Rattle.capture_file.proofs.FileLaws.{ports-go-on, ports-stop}
 use Rattle.capture_file.specs.Checks.{portsRefusal}
 use Rattle.capture_file.specs.File.{portCount}
 use Rattle.capture_file.specs.declared.FileRefusal.{FileRefusal}

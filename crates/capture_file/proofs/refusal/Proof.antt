@@ -2,7 +2,7 @@
 use borrow.Author.Needs.{needs}
 use mathlib.Core.Path.{_∙_, sym}
 use borrow.Author.Tests.{not-false, not-true}
-use Rattle.capture_file.proofs.ChainLaws.{length-passed}
+use Rattle.capture_file.proofs.FileLaws.{length-passed}
 use Rattle.capture_file.specs.Checks.{refusalOf}
 use Rattle.capture_file.proofs.refusal.Statement.{statement}
 use Rattle.capture_file.proofs.refusal.Tie as tie
