@@ -1,11 +1,11 @@
 //! One capture on two sides: the proved program `replay` as a process of its own, and the outside program's `replay`, compared octet for octet.
 
 use std::fs::File;
-use std::io::{self, Write};
+use std::io::{self, Read, Write};
 use std::path::{Path, PathBuf};
-use std::process::{ChildStdin, Command, Output, Stdio};
+use std::process::{Child, ChildStdin, Command, ExitStatus, Output, Stdio};
 use std::thread;
-use std::time::Duration;
+use std::time::{Duration, Instant};
 
 use crate::capture::reading;
 use crate::comparing::coverage::Seen;
@@ -17,27 +17,31 @@ pub const OPTION: &str = "--replay";
 const TOLD_LINES: usize = 40;
 /// How long the writer waits between two pieces, so that the program meets a stream that has no octet ready.
 const BETWEEN_PIECES: Duration = Duration::from_micros(300);
+/// How long a program may run.
+const LIMIT: Duration = Duration::from_secs(60);
+/// How long it is left alone between two looks whether it has ended.
+const BETWEEN_LOOKS: Duration = Duration::from_micros(200);
 
 /// The proved program where `rt check replay` leaves it.
 pub fn proved() -> PathBuf {
     Path::new(env!("CARGO_MANIFEST_DIR")).join("../target/bin/replay")
 }
 
-/// What a program prints of a capture that is written to its standard input in pieces of so many octets.
-pub fn printed(program: &mut Command, capture: &[u8], piece: usize) -> io::Result<Output> {
+/// What a program prints of a capture that is written to its standard input in these pieces.
+pub fn printed(program: &mut Command, pieces: &[&[u8]]) -> io::Result<Output> {
     let mut child = program.stdin(Stdio::piped()).stdout(Stdio::piped()).stderr(Stdio::piped()).spawn()?;
     let input = child.stdin.take().expect("standard input is a pipe");
     thread::scope(|scope| {
-        let writer = scope.spawn(|| write_pieces(input, capture, piece));
-        let output = child.wait_with_output();
+        let writer = scope.spawn(|| write_pieces(input, pieces));
+        let output = ended(child, LIMIT);
         writer.join().expect("the writer does not panic")?;
         output
     })
 }
 
 /// Writes a capture; a program may close its standard input before the end of one that is too long.
-fn write_pieces(mut input: ChildStdin, capture: &[u8], piece: usize) -> io::Result<()> {
-    for (number, octets) in capture.chunks(piece).enumerate() {
+fn write_pieces(mut input: ChildStdin, pieces: &[&[u8]]) -> io::Result<()> {
+    for (number, octets) in pieces.iter().enumerate() {
         if number > 0 {
             thread::sleep(BETWEEN_PIECES);
         }
@@ -51,7 +55,39 @@ fn write_pieces(mut input: ChildStdin, capture: &[u8], piece: usize) -> io::Resu
 
 /// What a program prints of a capture that its standard input is the file of.
 pub fn printed_of_file(program: &mut Command, path: &Path) -> io::Result<Output> {
-    program.stdin(File::open(path)?).output()
+    ended(program.stdin(File::open(path)?).stdout(Stdio::piped()).stderr(Stdio::piped()).spawn()?, LIMIT)
+}
+
+/// What a started program prints to its pipes, and its status; one that runs longer than the limit is ended, which is an error.
+fn ended(mut child: Child, limit: Duration) -> io::Result<Output> {
+    let (stdout, stderr) = (child.stdout.take(), child.stderr.take());
+    let (stdout, stderr) = (thread::spawn(|| all_of(stdout)), thread::spawn(|| all_of(stderr)));
+    let status = status_within(&mut child, limit)?;
+    let [stdout, stderr] = [stdout, stderr].map(|reader| reader.join().expect("a reader does not panic"));
+    Ok(Output { status, stdout: stdout?, stderr: stderr? })
+}
+
+/// All octets of a pipe, if there is one.
+fn all_of(pipe: Option<impl Read>) -> io::Result<Vec<u8>> {
+    let mut octets = Vec::new();
+    pipe.map_or(Ok(0), |mut pipe| pipe.read_to_end(&mut octets))?;
+    Ok(octets)
+}
+
+/// The status with which a program ends within the limit.
+fn status_within(child: &mut Child, limit: Duration) -> io::Result<ExitStatus> {
+    let began = Instant::now();
+    loop {
+        if let Some(status) = child.try_wait()? {
+            return Ok(status);
+        }
+        if began.elapsed() >= limit {
+            child.kill()?;
+            child.wait()?;
+            return Err(io::Error::new(io::ErrorKind::TimedOut, format!("does not end within {limit:?}")));
+        }
+        thread::sleep(BETWEEN_LOOKS);
+    }
 }
 
 /// Fails unless a program ended with status 0, wrote nothing to standard error, and printed just the text.
@@ -95,14 +131,15 @@ fn or_nothing(line: Option<String>) -> String {
 impl Run<'_> {
     /// Replays a capture on both sides, all of it written at once; the text that both print.
     pub fn replay(&mut self, capture: &[u8]) -> Result<String, String> {
-        self.replay_in_pieces(capture, capture.len().max(1))
+        self.replay_in_pieces(&[capture])
     }
 
-    /// Replays a capture on both sides, written to the proved program in pieces of so many octets; the text that both print.
-    pub fn replay_in_pieces(&mut self, capture: &[u8], piece: usize) -> Result<String, String> {
-        let text = (self.sides.replay)(capture);
-        let output = printed(&mut Command::new(self.replay), capture, piece).map_err(|why| format!("{}: {why}", self.replay.display()))?;
-        judged(&output, &text).map_err(|why| self.differs(capture, &why))?;
+    /// Replays a capture on both sides, written to the proved program in these pieces; the text that both print.
+    pub fn replay_in_pieces(&mut self, pieces: &[&[u8]]) -> Result<String, String> {
+        let capture = pieces.concat();
+        let text = (self.sides.replay)(&capture);
+        let output = printed(&mut Command::new(self.replay), pieces).map_err(|why| self.not_run(&why))?;
+        judged(&output, &text).map_err(|why| self.differs(&capture, &why))?;
         match text.strip_prefix("refused ").and_then(|rest| rest.split(' ').next()?.parse().ok()) {
             Some(refusal) => self.coverage.count(Seen::Refused(refusal)),
             None => self.calls += text.lines().count() as u64,
@@ -121,8 +158,18 @@ impl Run<'_> {
 
     /// Fails unless the proved program prints just this text of a capture in a file.
     pub fn replay_file(&mut self, path: &Path, text: &str) -> Result<(), String> {
-        let output = printed_of_file(&mut Command::new(self.replay), path).map_err(|why| format!("{}: {why}", self.replay.display()))?;
+        let output = printed_of_file(&mut Command::new(self.replay), path).map_err(|why| self.not_run(&why))?;
         judged(&output, text).map_err(|why| format!("{}: from its file: {why}", self.place))
+    }
+
+    /// What the proved program leaves that was started with a standard input and a standard output as a test wants them.
+    pub fn ended(&self, child: io::Result<Child>) -> Result<Output, String> {
+        child.and_then(|child| ended(child, LIMIT)).map_err(|why| self.not_run(&why))
+    }
+
+    /// A report that the proved program could not be run to its end.
+    fn not_run(&self, why: &io::Error) -> String {
+        format!("{}: {}: {why}", self.place, self.replay.display())
     }
 
     /// A report of a difference: where, what, and the capture's text form where that is short.
@@ -168,14 +215,21 @@ mod tests {
     fn a_program_gets_all_octets_of_a_capture() {
         let capture: Vec<u8> = (0..200_000_u32).map(|place| place as u8).collect();
         for piece in [capture.len(), 70_000, 1_000] {
-            let output = printed(&mut Command::new("cat"), &capture, piece).expect("cat runs");
+            let output = printed(&mut Command::new("cat"), &capture.chunks(piece).collect::<Vec<_>>()).expect("cat runs");
             assert!(output.stdout == capture, "in pieces of {piece}");
         }
     }
 
     #[test]
     fn a_program_need_not_read_its_input() {
-        let output = printed(&mut Command::new("true"), &[0; 1_000_000], 1_000_000).expect("true runs");
+        let output = printed(&mut Command::new("true"), &[&[0; 1_000_000]]).expect("true runs");
         assert_eq!(judged(&output, ""), Ok(()));
+    }
+
+    #[test]
+    fn a_program_that_does_not_end_is_ended() {
+        let child = Command::new("sleep").arg("600").stdout(Stdio::piped()).stderr(Stdio::piped()).spawn().expect("sleep runs");
+        let why = ended(child, Duration::from_millis(50)).expect_err("sleep does not end");
+        assert_eq!(why.to_string(), "does not end within 50ms");
     }
 }

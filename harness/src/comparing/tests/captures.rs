@@ -65,7 +65,7 @@ fn captures_in_pieces(run: &mut Run) -> Result<(), String> {
             let mut random = run.next_capture(&format!("pieces of {piece}"));
             let (shape, profile) = (random.pick(&SHAPES).1, any_profile(&mut random));
             let octets = capture(&mut run.coverage, &mut random, shape, records, &profile);
-            run.replay_in_pieces(&octets, piece)?;
+            run.replay_in_pieces(&octets.chunks(piece).collect::<Vec<_>>())?;
         }
     }
     Ok(())
