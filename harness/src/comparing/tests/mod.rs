@@ -1,10 +1,11 @@
 //! The tests of each kind: `lists` and `sample` hold the calls against the model on lists of calls, `records` on records of any content, and `quick`
 //! and `fences` are about the quick calls and about octets outside the lent ones; `guarantee` holds lists of calls against demand 3; `captures` and
-//! `damaged` hold the program `replay` against the outside program's.
+//! `damaged` hold the program `replay` against the outside program's, and `failing` is about its input and output themselves.
 
 pub mod captures;
 pub mod damaged;
 pub mod each_call;
+pub mod failing;
 pub mod fences;
 pub mod guarantee;
 pub mod lists;
@@ -17,6 +18,6 @@ use crate::comparing::test::Test;
 /// All tests, in the order in which they are run.
 pub fn all() -> Vec<Test> {
     let of_calls = [&sample::TESTS[..], &lists::TESTS, &records::TESTS, &quick::TESTS, &fences::TESTS, &guarantee::TESTS];
-    let of_captures = [&captures::TESTS[..], &damaged::TESTS];
+    let of_captures = [&captures::TESTS[..], &damaged::TESTS, &failing::TESTS];
     [of_calls.concat(), of_captures.concat()].concat()
 }
