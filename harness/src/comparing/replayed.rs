@@ -4,7 +4,7 @@ use std::fs::File;
 use std::io::{self, Read, Write};
 use std::path::{Path, PathBuf};
 use std::process::{Child, ChildStdin, Command, ExitStatus, Output, Stdio};
-use std::thread;
+use std::thread::{self, JoinHandle};
 use std::time::{Duration, Instant};
 
 use crate::capture::reading;
@@ -28,19 +28,14 @@ pub fn proved() -> PathBuf {
 }
 
 /// What a program prints of a capture that is written to its standard input in these pieces.
-pub fn printed(program: &mut Command, pieces: &[&[u8]]) -> io::Result<Output> {
-    let mut child = program.stdin(Stdio::piped()).stdout(Stdio::piped()).stderr(Stdio::piped()).spawn()?;
-    let input = child.stdin.take().expect("standard input is a pipe");
-    thread::scope(|scope| {
-        let writer = scope.spawn(|| write_pieces(input, pieces));
-        let output = ended(child, LIMIT);
-        writer.join().expect("the writer does not panic")?;
-        output
-    })
+fn printed(program: &mut Command, pieces: &[&[u8]], limit: Duration) -> io::Result<Output> {
+    let child = program.stdin(Stdio::piped()).stdout(Stdio::piped()).stderr(Stdio::piped()).spawn()?;
+    ended(child, pieces.iter().map(|octets| octets.to_vec()).collect(), limit)
 }
 
-/// Writes a capture; a program may close its standard input before the end of one that is too long.
-fn write_pieces(mut input: ChildStdin, pieces: &[&[u8]]) -> io::Result<()> {
+/// Writes a capture to a pipe, if there is one; a program may close its standard input before the end of a capture that is too long.
+fn write_pieces(pipe: Option<ChildStdin>, pieces: &[Vec<u8>]) -> io::Result<()> {
+    let Some(mut input) = pipe else { return Ok(()) };
     for (number, octets) in pieces.iter().enumerate() {
         if number > 0 {
             thread::sleep(BETWEEN_PIECES);
@@ -55,15 +50,18 @@ fn write_pieces(mut input: ChildStdin, pieces: &[&[u8]]) -> io::Result<()> {
 
 /// What a program prints of a capture that its standard input is the file of.
 pub fn printed_of_file(program: &mut Command, path: &Path) -> io::Result<Output> {
-    ended(program.stdin(File::open(path)?).stdout(Stdio::piped()).stderr(Stdio::piped()).spawn()?, LIMIT)
+    ended(program.stdin(File::open(path)?).stdout(Stdio::piped()).stderr(Stdio::piped()).spawn()?, Vec::new(), LIMIT)
 }
 
-/// What a started program prints to its pipes, and its status; one that runs longer than the limit is ended, which is an error.
-fn ended(mut child: Child, limit: Duration) -> io::Result<Output> {
-    let (stdout, stderr) = (child.stdout.take(), child.stderr.take());
-    let (stdout, stderr) = (thread::spawn(|| all_of(stdout)), thread::spawn(|| all_of(stderr)));
-    let status = status_within(&mut child, limit)?;
-    let [stdout, stderr] = [stdout, stderr].map(|reader| reader.join().expect("a reader does not panic"));
+/// What a started program prints to its pipes, and its status, while these pieces are written to its standard input; one that runs longer than the
+/// limit is ended, which is an error, and so is a pipe that a child of the program keeps open so long.
+fn ended(mut child: Child, pieces: Vec<Vec<u8>>, limit: Duration) -> io::Result<Output> {
+    let (stdin, stdout, stderr) = (child.stdin.take(), child.stdout.take(), child.stderr.take());
+    let writer = thread::spawn(move || write_pieces(stdin, &pieces));
+    let readers = [thread::spawn(|| all_of(stdout)), thread::spawn(|| all_of(stderr))];
+    let status = status_within(&mut child, limit, || writer.is_finished() && readers.iter().all(JoinHandle::is_finished))?;
+    writer.join().expect("the writer does not panic")?;
+    let [stdout, stderr] = readers.map(|reader| reader.join().expect("a reader does not panic"));
     Ok(Output { status, stdout: stdout?, stderr: stderr? })
 }
 
@@ -74,17 +72,17 @@ fn all_of(pipe: Option<impl Read>) -> io::Result<Vec<u8>> {
     Ok(octets)
 }
 
-/// The status with which a program ends within the limit.
-fn status_within(child: &mut Child, limit: Duration) -> io::Result<ExitStatus> {
+/// The status with which a program ends within the limit, once its pipes are closed too.
+fn status_within(child: &mut Child, limit: Duration, pipes_closed: impl Fn() -> bool) -> io::Result<ExitStatus> {
     let began = Instant::now();
     loop {
-        if let Some(status) = child.try_wait()? {
+        if let Some(status) = child.try_wait()?.filter(|_| pipes_closed()) {
             return Ok(status);
         }
         if began.elapsed() >= limit {
             child.kill()?;
             child.wait()?;
-            return Err(io::Error::new(io::ErrorKind::TimedOut, format!("does not end within {limit:?}")));
+            return Err(io::Error::new(io::ErrorKind::TimedOut, format!("does not end and close its pipes within {limit:?}")));
         }
         thread::sleep(BETWEEN_LOOKS);
     }
@@ -138,7 +136,7 @@ impl Run<'_> {
     pub fn replay_in_pieces(&mut self, pieces: &[&[u8]]) -> Result<String, String> {
         let capture = pieces.concat();
         let text = (self.sides.replay)(&capture);
-        let output = printed(&mut Command::new(self.replay), pieces).map_err(|why| self.not_run(&why))?;
+        let output = printed(&mut Command::new(self.replay), pieces, LIMIT).map_err(|why| self.not_run(&why))?;
         judged(&output, &text).map_err(|why| self.differs(&capture, &why))?;
         match text.strip_prefix("refused ").and_then(|rest| rest.split(' ').next()?.parse().ok()) {
             Some(refusal) => self.coverage.count(Seen::Refused(refusal)),
@@ -164,7 +162,7 @@ impl Run<'_> {
 
     /// What the proved program leaves that was started with a standard input and a standard output as a test wants them.
     pub fn ended(&self, child: io::Result<Child>) -> Result<Output, String> {
-        child.and_then(|child| ended(child, LIMIT)).map_err(|why| self.not_run(&why))
+        child.and_then(|child| ended(child, Vec::new(), LIMIT)).map_err(|why| self.not_run(&why))
     }
 
     /// A report that the proved program could not be run to its end.
@@ -215,21 +213,32 @@ mod tests {
     fn a_program_gets_all_octets_of_a_capture() {
         let capture: Vec<u8> = (0..200_000_u32).map(|place| place as u8).collect();
         for piece in [capture.len(), 70_000, 1_000] {
-            let output = printed(&mut Command::new("cat"), &capture.chunks(piece).collect::<Vec<_>>()).expect("cat runs");
+            let output = printed(&mut Command::new("cat"), &capture.chunks(piece).collect::<Vec<_>>(), LIMIT).expect("cat runs");
             assert!(output.stdout == capture, "in pieces of {piece}");
         }
     }
 
     #[test]
     fn a_program_need_not_read_its_input() {
-        let output = printed(&mut Command::new("true"), &[&[0; 1_000_000]]).expect("true runs");
+        let output = printed(&mut Command::new("true"), &[&[0; 1_000_000]], LIMIT).expect("true runs");
         assert_eq!(judged(&output, ""), Ok(()));
     }
 
     #[test]
     fn a_program_that_does_not_end_is_ended() {
-        let child = Command::new("sleep").arg("600").stdout(Stdio::piped()).stderr(Stdio::piped()).spawn().expect("sleep runs");
-        let why = ended(child, Duration::from_millis(50)).expect_err("sleep does not end");
-        assert_eq!(why.to_string(), "does not end within 50ms");
+        assert_eq!(why_not(Command::new("sleep").arg("600"), &[]), "does not end and close its pipes within 50ms");
+    }
+
+    #[test]
+    fn a_child_that_keeps_the_pipes_is_not_waited_for() {
+        for words in ["sleep 5; true", "exec 3<&0; sleep 5 <&3 &"] {
+            let why = why_not(Command::new("sh").args(["-c", words]), &[0; 1_000_000]);
+            assert_eq!(why, "does not end and close its pipes within 50ms", "{words}");
+        }
+    }
+
+    /// Why a program leaves nothing within a short limit.
+    fn why_not(program: &mut Command, capture: &[u8]) -> String {
+        printed(program, &[capture], Duration::from_millis(50)).expect_err("it does not end").to_string()
     }
 }
