@@ -3,6 +3,7 @@
 
 pub mod call;
 pub mod capture;
+pub mod command_line;
 pub mod comparing;
 pub mod exports;
 pub mod guarantee;

@@ -12,9 +12,15 @@ use std::process::{Command, ExitCode, Stdio};
 use std::sync::atomic::{AtomicUsize, Ordering};
 use std::thread;
 
+use harness::command_line::{self, asked, Asked, REPLAY};
 use harness::comparing::program::named;
-use harness::comparing::replayed;
 use harness::comparing::test::KINDS;
+
+/// How the program is called.
+const USAGE: &str = "usage: faults [--all] [--replay PROGRAM]";
+
+/// The word that asks for every kind on every fault.
+const ALL: &str = "--all";
 
 /// How many faults are tried at a time.
 const AT_A_TIME: usize = 2;
@@ -80,14 +86,19 @@ struct Seeded {
 }
 
 fn main() -> ExitCode {
-    let words: Vec<String> = env::args().skip(1).collect();
-    let all = words.iter().any(|word| word == "--all");
-    let named_replay = words.iter().skip_while(|word| *word != replayed::OPTION).nth(1);
+    match asked(&command_line::words(), &[ALL], USAGE) {
+        Ok(asked) => run(asked),
+        Err(status) => status,
+    }
+}
+
+/// Reads the faults, builds the package, and tries them.
+fn run(asked: Asked) -> ExitCode {
     let harness = Path::new(env!("CARGO_MANIFEST_DIR"));
     let package = harness.join("target/seeded");
-    let seeded = Seeded { program: package.join("target/debug/seeded"), replay: named_replay.map_or_else(replayed::proved, PathBuf::from) };
+    let seeded = Seeded { program: package.join("target/debug/seeded"), replay: asked.replay };
     match read_faults(&harness.join("faults")).and_then(|faults| built(harness, &package, &faults).map(|()| faults)) {
-        Ok(faults) => tried(&seeded, &faults, all),
+        Ok(faults) => tried(&seeded, &faults, asked.own.iter().any(|word| word == ALL)),
         Err(why) => closed(0, 1, &why),
     }
 }
@@ -133,7 +144,7 @@ fn try_some(seeded: &Seeded, faults: &[Fault], all: bool, next: &AtomicUsize, fo
 /// How a kind of test, or a test, ends over a fault: 0 where it passes, 1 where it fails, anything else where it could not be run.
 fn status(seeded: &Seeded, fault: &str, word: &str) -> Option<i32> {
     let mut program = Command::new(&seeded.program);
-    program.args([fault, word, "--size", SIZE, "--first-failure", replayed::OPTION]).arg(&seeded.replay);
+    program.args([fault, word, "--size", SIZE, "--first-failure", REPLAY]).arg(&seeded.replay);
     program.stdout(Stdio::null()).stderr(Stdio::null()).status().ok()?.code()
 }
 

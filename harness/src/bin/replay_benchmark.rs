@@ -11,13 +11,17 @@ use std::process::{Command, ExitCode, Stdio};
 use std::time::Instant;
 
 use harness::call::Call;
-use harness::capture::file;
+use harness::capture::file::{self, MOST_RECORDS};
+use harness::command_line::{self, asked};
 use harness::comparing::random::Random;
-use harness::comparing::replayed::{self, judged, printed_of_file};
-use harness::model::capture::{self, MOST_OCTETS, PORTS, RECORD_OCTETS};
+use harness::comparing::replayed::{judged, printed_of_file};
+use harness::comparing::valgrind::valgrind;
+use harness::model::capture::{self, MOST_OCTETS, PORTS};
 use harness::model::port::Port;
 use harness::model::{replay, rule};
 
+/// How the program is called.
+const USAGE: &str = "usage: replay_benchmark [--replay PROGRAM]";
 /// How often each program runs for its wall time.
 const ROUNDS: usize = 101;
 /// The word with which this program is the outside program's `replay`, so that it is built as the benchmark is.
@@ -26,8 +30,6 @@ const AS_OUTSIDE: &str = "outside";
 const BY_DIGITS: &str = "digits";
 /// How many programs there are: the proved one and two to hold beside it.
 const PROGRAMS: usize = 3;
-/// The records after record 0 of the largest capture, which each port has as events.
-const MOST_RECORDS: usize = MOST_OCTETS / RECORD_OCTETS - 1;
 /// The records of the captures that show how the cost grows: 1,000, 4,000 and 16,000 events on four ports.
 const GROWING: [usize; 3] = [250, 1_000, 4_000];
 
@@ -48,11 +50,14 @@ struct Programs {
 }
 
 fn main() -> ExitCode {
-    let words: Vec<String> = env::args().skip(1).collect();
-    let result = match words.first().map(String::as_str) {
-        Some(AS_OUTSIDE) => replay::program(),
-        Some(BY_DIGITS) => by_digits(),
-        _ => report(words.iter().skip_while(|word| *word != replayed::OPTION).nth(1)),
+    let words = command_line::words();
+    let result = match &words[..] {
+        [word] if word == AS_OUTSIDE => replay::program(),
+        [word] if word == BY_DIGITS => by_digits(),
+        _ => match asked(&words, &[], USAGE) {
+            Ok(asked) => report(asked.replay),
+            Err(status) => return status,
+        },
     };
     match result {
         Ok(()) => ExitCode::SUCCESS,
@@ -64,8 +69,8 @@ fn main() -> ExitCode {
 }
 
 /// Prints all figures.
-fn report(named: Option<&String>) -> io::Result<()> {
-    let programs = Programs { proved: named.map_or_else(replayed::proved, PathBuf::from), this: env::current_exe()? };
+fn report(proved: PathBuf) -> io::Result<()> {
+    let programs = Programs { proved, this: env::current_exe()? };
     let path = env::temp_dir().join(format!("replay_benchmark_{}.capture", std::process::id()));
     let result = wall_time(&programs, &path).and_then(|()| instructions(&programs, &path));
     fs::remove_file(&path)?;
@@ -87,19 +92,29 @@ impl Programs {
 /// Prints the wall time of the programs on the largest capture: in each round all run, one after the other.
 fn wall_time(programs: &Programs, path: &Path) -> io::Result<()> {
     write_capture(programs, path, MOST_RECORDS)?;
-    let mut milliseconds: [Vec<f64>; PROGRAMS] = Default::default();
-    for _ in 0..ROUNDS {
-        for ((_, program), figures) in programs.each().iter_mut().zip(&mut milliseconds) {
-            figures.push(timed(program, path)?);
-        }
-    }
-    milliseconds.iter_mut().for_each(|figures| figures.sort_by(f64::total_cmp));
+    let milliseconds = milliseconds(programs, path)?;
     let [proved, ..] = &milliseconds;
     println!("wall time of {} events, {MOST_OCTETS} octets on four ports, in milliseconds, {ROUNDS} rounds", PORTS * MOST_RECORDS);
     println!("  {:<10}{:>9}{:>9}{:>9}{:>18}", "", "least", "median", "greatest", "replay / median");
     for ((name, _), figures) in programs.each().iter().zip(&milliseconds) {
         let (least, median, greatest) = (figures[0], figures[ROUNDS / 2], figures[ROUNDS - 1]);
         println!("  {:<10}{:>9.2}{:>9.2}{:>9.2}{:>18.2}", name, least, median, greatest, proved[ROUNDS / 2] / median);
+    }
+    Ok(())
+}
+
+/// The milliseconds of each program in each round, the least first.
+fn milliseconds(programs: &Programs, path: &Path) -> io::Result<[Vec<f64>; PROGRAMS]> {
+    let mut milliseconds: [Vec<f64>; PROGRAMS] = Default::default();
+    (0..ROUNDS).try_for_each(|_| round(programs, path, &mut milliseconds))?;
+    milliseconds.iter_mut().for_each(|figures| figures.sort_by(f64::total_cmp));
+    Ok(milliseconds)
+}
+
+/// Runs all programs once, one after the other, and adds the milliseconds of each.
+fn round(programs: &Programs, path: &Path, milliseconds: &mut [Vec<f64>; PROGRAMS]) -> io::Result<()> {
+    for ((_, program), figures) in programs.each().iter_mut().zip(milliseconds) {
+        figures.push(timed(program, path)?);
     }
     Ok(())
 }
@@ -132,14 +147,18 @@ fn instructions(programs: &Programs, path: &Path) -> io::Result<()> {
     );
     println!("  {:<8}{:<10}{:>14}{:>18}{:>12}", "events", "", "in all", "replay / in all", "of an event");
     for records in [0].into_iter().chain(GROWING).chain([MOST_RECORDS]) {
-        let (events, counts) = (PORTS * records, counted(programs, path, records)?);
-        for (program, (name, _)) in programs.each().iter().enumerate() {
-            let of_event = (counts[program] - none[program]) as f64 / events.max(1) as f64;
-            let ratio = counts[0] as f64 / counts[program] as f64;
-            println!("  {:<8}{:<10}{:>14}{:>18.2}{:>12.1}", events, name, counts[program], ratio, of_event);
-        }
+        instruction_lines(programs, PORTS * records, &counted(programs, path, records)?, &none);
     }
     Ok(())
+}
+
+/// Prints a line for each program: its instructions for a capture of so many events, and what these are above those for none.
+fn instruction_lines(programs: &Programs, events: usize, counts: &[u64; PROGRAMS], none: &[u64; PROGRAMS]) {
+    for (program, (name, _)) in programs.each().iter().enumerate() {
+        let of_event = (counts[program] - none[program]) as f64 / events.max(1) as f64;
+        let ratio = counts[0] as f64 / counts[program] as f64;
+        println!("  {:<8}{:<10}{:>14}{:>18.2}{:>12.1}", events, name, counts[program], ratio, of_event);
+    }
 }
 
 /// The instructions of the programs on a capture of so many records.
@@ -154,8 +173,7 @@ fn counted(programs: &Programs, path: &Path, records: usize) -> io::Result<[u64;
 
 /// The instructions of one run of a program, from its start to its end.
 fn counted_of(program: &Command, path: &Path) -> io::Result<u64> {
-    let mut valgrind = Command::new("valgrind");
-    valgrind.args(["--tool=callgrind", "--callgrind-out-file=/dev/null", "--main-stacksize=16777216", "--max-stackframe=16777216"]);
+    let mut valgrind = valgrind(&["--tool=callgrind", "--callgrind-out-file=/dev/null"]);
     valgrind.arg(program.get_program()).args(program.get_args());
     let output = printed_of_file(&mut valgrind, path).map_err(|why| io::Error::other(format!("valgrind: {why}")))?;
     let said = String::from_utf8_lossy(&output.stderr);
@@ -169,16 +187,19 @@ fn by_digits() -> io::Result<()> {
     io::stdin().lock().read_to_end(&mut octets)?;
     let ports = capture::events(&octets).map_err(|refused| io::Error::other(format!("{refused:?}")))?;
     let mut lines = Vec::new();
-    for (number, events) in ports.iter().enumerate() {
-        let mut port = Port::closed();
-        for (before, event) in events.iter().enumerate() {
-            let reply = rule::step(event, &mut port);
-            let numbers = [number as u32, before as u32 + 1, capture::kind(event).into(), reply.refusal.into(), reply.first, reply.second];
-            numbers.into_iter().for_each(|number| put_number(&mut lines, number));
-            *lines.last_mut().expect("a line has numbers") = b'\n';
-        }
-    }
+    (0..).zip(&ports).for_each(|(number, events)| put_lines(&mut lines, number, events));
     io::stdout().lock().write_all(&lines)
+}
+
+/// Adds the lines of the port of a number.
+fn put_lines(lines: &mut Vec<u8>, number: u32, events: &[Call]) {
+    let mut port = Port::closed();
+    for (event_number, event) in (1..).zip(events) {
+        let reply = rule::step(event, &mut port);
+        let numbers = [number, event_number, capture::kind(event).into(), reply.refusal.into(), reply.first, reply.second];
+        numbers.into_iter().for_each(|number| put_number(lines, number));
+        *lines.last_mut().expect("a line has numbers") = b'\n';
+    }
 }
 
 /// Adds the digits of a number, at most ten, and a space.
@@ -195,22 +216,27 @@ fn put_number(lines: &mut Vec<u8>, number: u32) {
     }
 }
 
-/// A capture of one chain of so many records on four ports: a port is opened, its streams are reserved, then come epochs, until there are enough.
+/// A capture of one chain of so many records on four ports.
 fn capture(records: usize) -> Vec<u8> {
-    let mut random = Random::of(1, "replay_benchmark", 0);
-    let mut events = vec![OPEN];
-    events.extend((0..STREAMS).map(|stream| Call::Reserve { stream: stream as u8, permitted: PERMITTED }));
-    while events.len() < records {
-        epoch(&mut random, &mut events);
-    }
-    events.truncate(records);
     let first = u16::from(records > 0);
     let mut octets = file::header([first; PORTS]).to_vec();
-    for (before, event) in events.iter().enumerate() {
+    for (before, event) in events(records).iter().enumerate() {
         let next = if before + 1 < records { before + 2 } else { 0 };
         octets.extend(file::record(event, next as u16));
     }
     octets
+}
+
+/// So many events: a port is opened, its streams are reserved, then come epochs, until there are enough.
+fn events(count: usize) -> Vec<Call> {
+    let mut random = Random::of(1, "replay_benchmark", 0);
+    let mut events = vec![OPEN];
+    events.extend((0..STREAMS).map(|stream| Call::Reserve { stream: stream as u8, permitted: PERMITTED }));
+    while events.len() < count {
+        epoch(&mut random, &mut events);
+    }
+    events.truncate(count);
+    events
 }
 
 /// The events of one epoch in any order, then its tick.

@@ -1,12 +1,16 @@
 //! Runs the proved program `replay` under valgrind on a few stored captures. One that prints other than its stored output, or of which valgrind
 //! reports anything, is a failure. `--replay PROGRAM` names the program where it is another than the repository's. The last line is the total.
 
-use std::env;
 use std::path::Path;
-use std::process::{Command, ExitCode};
+use std::process::ExitCode;
 
 use harness::capture::stored;
-use harness::comparing::replayed::{self, judged, printed_of_file};
+use harness::command_line::{self, asked};
+use harness::comparing::replayed::{judged, printed_of_file};
+use harness::comparing::valgrind::valgrind;
+
+/// How the program is called.
+const USAGE: &str = "usage: valgrind [--replay PROGRAM]";
 
 /// The captures: the sample, shared records, each sort of refused file, no event, and as many events as one port can have.
 const CAPTURES: [&str; 9] = [
@@ -21,15 +25,19 @@ const CAPTURES: [&str; 9] = [
     "full_file",
 ];
 
-/// Valgrind says nothing but what is wrong, which then is its status; the program's arrays stand on its stack.
-const OPTIONS: [&str; 5] =
-    ["--quiet", "--error-exitcode=99", "--leak-check=full", "--main-stacksize=16777216", "--max-stackframe=16777216"];
+/// Valgrind says nothing but what is wrong, which then is its status.
+const OPTIONS: [&str; 3] = ["--quiet", "--error-exitcode=99", "--leak-check=full"];
 
 fn main() -> ExitCode {
-    let words: Vec<String> = env::args().skip(1).collect();
-    let named = words.iter().skip_while(|word| *word != replayed::OPTION).nth(1);
-    let program = named.map_or_else(replayed::proved, Into::into);
-    let failed = CAPTURES.iter().filter(|name| !passes(&program, name)).count();
+    match asked(&command_line::words(), &[], USAGE) {
+        Ok(asked) => run(&asked.replay),
+        Err(status) => status,
+    }
+}
+
+/// Runs the program on all the captures, and prints the total.
+fn run(program: &Path) -> ExitCode {
+    let failed = CAPTURES.iter().filter(|name| !passes(program, name)).count();
     println!("{} passed, {failed} failed", CAPTURES.len() - failed);
     ExitCode::from(u8::from(failed > 0))
 }
@@ -49,6 +57,6 @@ fn checked(program: &Path, name: &str) -> Result<(), String> {
     if !program.is_file() {
         return Err(format!("there is no program {}", program.display()));
     }
-    let output = printed_of_file(Command::new("valgrind").args(OPTIONS).arg(program), &stored::path(name));
+    let output = printed_of_file(valgrind(&OPTIONS).arg(program), &stored::path(name));
     judged(&output.map_err(|why| format!("valgrind: {why}"))?, &stored::one(name)?.output)
 }

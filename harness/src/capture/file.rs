@@ -2,9 +2,16 @@
 
 use crate::call::Call;
 use crate::model::capture::{
-    kind, FIRST_INDICES_AT, KIND_AT, LETTERS, NEXT_INDEX_AT, NO_STREAM, NUMBER_A_AT, NUMBER_B_AT, PORTS, RECORD_OCTETS, STREAM_AT,
-    STREAM_OF_BEST_EFFORT,
+    kind, FIRST_INDICES_AT, KIND_AT, LETTERS, MOST_OCTETS, NEXT_INDEX_AT, NO_STREAM, NUMBER_A_AT, NUMBER_B_AT, PORTS, RECORD_OCTETS,
+    STREAM_AT, STREAM_OF_BEST_EFFORT,
 };
+use crate::model::octets::TWO;
+
+/// How many records the longest capture has after record 0.
+pub const MOST_RECORDS: usize = MOST_OCTETS / RECORD_OCTETS - 1;
+
+/// The greatest index that a record can hold.
+pub const LAST_INDEX: u32 = u16::MAX as u32;
 
 /// The octets of one record.
 pub type Record = [u8; RECORD_OCTETS];
@@ -14,7 +21,7 @@ pub fn header(first: [u16; PORTS]) -> Record {
     let mut record = Record::default();
     record[..LETTERS.len()].copy_from_slice(&LETTERS);
     for (port, index) in first.into_iter().enumerate() {
-        put_first_index(&mut record, port, index);
+        put(&mut record, FIRST_INDICES_AT + TWO * port, &index.to_be_bytes());
     }
     record
 }
@@ -35,12 +42,6 @@ pub fn record(event: &Call, next: u16) -> Record {
     put(&mut record, NUMBER_A_AT, &a.to_be_bytes());
     put(&mut record, NUMBER_B_AT, &b.to_be_bytes());
     record
-}
-
-/// Writes a port's first index into record 0.
-pub fn put_first_index(header: &mut [u8], port: usize, index: u16) {
-    let octets = index.to_be_bytes();
-    put(header, FIRST_INDICES_AT + octets.len() * port, &octets);
 }
 
 /// Writes the next index into a record.

@@ -1,9 +1,10 @@
 //! The text form: what its lines mean, that both ways are exact, and what is said of a bad text.
 
-use super::file::{header, put_first_index, put_next_index, record, Record};
+use super::file::{header, put_next_index, record, Record};
 use super::{reading, stored, tool, writing};
 use crate::call::Call;
 use crate::comparing::random::Random;
+use crate::model::capture::PORTS;
 use crate::model::replay::replay;
 
 /// Document 01's sample as a person writes it.
@@ -62,7 +63,7 @@ fn every_kind_has_its_octets() {
 
 #[test]
 fn a_header_alone_is_an_empty_text() {
-    exact(&header([0; 4]), "");
+    exact(&header([0; PORTS]), "");
 }
 
 #[test]
@@ -156,14 +157,11 @@ fn captures_with_few_octets_changed_come_back() {
 fn any_capture(random: &mut Random) -> Vec<Record> {
     let events = [Call::Tick, Call::Arrive { stream: 5, charge: 84, tag: 7 }, Call::Open { link: 2_142, delay: 1 }, Call::Transmit];
     let count = random.between(1..=9) as u16;
-    let mut records = vec![header([0; 4])];
+    let mut records = vec![header([0; PORTS].map(|_| random.below(usize::from(count) + 3) as u16))];
     for index in 1..=count {
         let mut octets = record(&random.pick(&events), 0);
         put_next_index(&mut octets, random.pick(&[0, index + 1, index + 1, index + 1, index + 2, count]));
         records.push(octets);
-    }
-    for port in 0..4 {
-        put_first_index(&mut records[0], port, random.below(usize::from(count) + 3) as u16);
     }
     records
 }

@@ -4,6 +4,7 @@
 use std::io::{Read, Write};
 
 use crate::capture::{reading, writing};
+use crate::command_line::WRONG_WORDS;
 
 /// How the tool is called.
 const USAGE: &str = "usage: capture write < TEXT > CAPTURE, or capture read < CAPTURE > TEXT";
@@ -11,8 +12,6 @@ const USAGE: &str = "usage: capture write < TEXT > CAPTURE, or capture read < CA
 const TURNED: u8 = 0;
 /// The status after a bad text, or input or output that failed.
 const FAILED: u8 = 1;
-/// The status after a wrong word on the command line.
-const WRONG_WORDS: u8 = 2;
 
 /// What text or octets become, or what is wrong.
 type Turn = fn(&[u8]) -> Result<Vec<u8>, String>;

@@ -4,14 +4,12 @@ use std::fmt;
 use std::str;
 
 use crate::call::Call;
-use crate::capture::file::{self, Record};
+use crate::capture::file::{self, Record, LAST_INDEX};
 use crate::capture::words::{number, Words, CHAIN, FIRST, HEADER, NEXT, OCTETS, PORT};
 use crate::model::capture::{PORTS, RECORD_OCTETS};
 
 /// The greatest port number.
 const LAST_PORT: u32 = PORTS as u32 - 1;
-/// The greatest index that a record can hold.
-const LAST_INDEX: u32 = u16::MAX as u32;
 
 /// What is wrong with a text, and in which line, from 1.
 #[derive(Clone, Debug, PartialEq, Eq)]

@@ -16,3 +16,4 @@ pub mod shapes;
 pub mod sides;
 pub mod test;
 pub mod tests;
+pub mod valgrind;

@@ -8,6 +8,7 @@ use std::sync::Mutex;
 use std::thread;
 use std::time::Instant;
 
+use crate::command_line::{REPLAY, WRONG_WORDS};
 use crate::comparing::replayed;
 use crate::comparing::sides::Sides;
 use crate::comparing::test::{Run, Test, KINDS};
@@ -24,8 +25,6 @@ const DEFAULT_PERCENT: usize = 100;
 const THREADS: usize = 2;
 /// The least size: below it a test does not see enough of what it is for.
 const LEAST_PERCENT: usize = 10;
-/// The exit status after a wrong word on the command line.
-const WRONG_WORDS: u8 = 2;
 
 /// What the command line asks for.
 struct Wanted {
@@ -70,7 +69,7 @@ fn wanted(words: &[String], sides: Sides) -> Option<Wanted> {
             "--seed" => wanted.seed = words.next()?.parse().ok()?,
             "--size" => wanted.percent = words.next()?.parse().ok().filter(|&percent| percent >= LEAST_PERCENT)?,
             "--first-failure" => wanted.first_failure = true,
-            replayed::OPTION => wanted.replay = words.next()?.into(),
+            REPLAY => wanted.replay = words.next()?.into(),
             kind_or_test => wanted.tests.extend(named(kind_or_test)?),
         }
     }

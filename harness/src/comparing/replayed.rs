@@ -11,8 +11,6 @@ use crate::capture::reading;
 use crate::comparing::coverage::Seen;
 use crate::comparing::test::Run;
 
-/// The word of a command line before the path of the proved program.
-pub const OPTION: &str = "--replay";
 /// How many lines of a capture's text a report tells at most.
 const TOLD_LINES: usize = 40;
 /// How long the writer waits between two pieces, so that the program meets a stream that has no octet ready.

@@ -2,6 +2,7 @@
 
 use std::ops::RangeInclusive;
 
+use crate::capture::file::MOST_RECORDS;
 use crate::capture::stored::{self, Stored};
 use crate::comparing::calls::{Charges, Permitted, Profile, Weights, ORDINARY};
 use crate::comparing::chains::{capture, SHAPES};
@@ -9,7 +10,7 @@ use crate::comparing::coverage::Seen;
 use crate::comparing::random::Random;
 use crate::comparing::test::{Kind, Run, Test};
 use crate::comparing::tests::lists::{any_profile, at_each_place, never_met_from_opening, FULL_LINK, FULL_SHARE, OF_PLANNER, OF_SENDER};
-use crate::model::capture::{MOST_OCTETS, RECORD_OCTETS};
+use crate::model::capture::RECORD_OCTETS;
 use crate::model::port::STREAMS;
 use crate::model::refusal::*;
 
@@ -36,9 +37,6 @@ pub const TESTS: [Test; 15] = [
 pub const fn test(name: &'static str, body: fn(&mut Run) -> Result<(), String>) -> Test {
     Test { kind: Kind::Captures, name, body }
 }
-
-/// How many records a capture can have after record 0.
-const MOST_RECORDS: usize = MOST_OCTETS / RECORD_OCTETS - 1;
 
 /// Every stored capture, from a pipe and from its file: both programs print the stored output.
 fn stored_captures(run: &mut Run) -> Result<(), String> {
