@@ -1,5 +1,6 @@
-//! Evidence about the port from outside its proof: the outside program (an independent model of the calls, and the quick calls in plain Rust), the
-//! exported calls as a host declares them, the tests that compare them, and demand 3 read off lists of calls.
+//! Evidence about the port and the program `replay` from outside their proof: the outside program (an independent model of the calls and of the
+//! replay of captures, and the quick calls in plain Rust), the exported calls as a host declares them, the tests that compare them, demand 3 read off
+//! lists of calls, and captures as a person writes and reads them.
 
 pub mod call;
 pub mod capture;
