@@ -1,5 +1,6 @@
 //! From a capture to its text form: every file of octets whatever has one.
 
+use std::array;
 use std::fmt::Write;
 
 use crate::capture::file;
@@ -12,23 +13,13 @@ pub fn text(octets: &[u8]) -> String {
     let records: Vec<&[u8]> = rest.chunks_exact(RECORD_OCTETS).collect();
     let begins: Vec<bool> = (0..records.len()).map(|place| place == 0 || next_index(records[place - 1]) != place + 1).collect();
     let mut text = String::new();
-    let first = match first_indices(header) {
-        Some(first) => first,
-        None => {
-            line(&mut text, HEADER, &digits(header));
-            [0; PORTS]
-        }
-    };
-    for (port, &index) in first.iter().enumerate().filter(|(_, &index)| index > 0 && begins.get(index - 1) != Some(&true)) {
-        line(&mut text, FIRST, &format!(" {port} {index}"));
+    let first = first_indices(header);
+    if first.is_none() {
+        line(&mut text, HEADER, &digits(header));
     }
-    for (place, record) in records.iter().enumerate() {
-        if begins[place] {
-            run_line(&mut text, &first, place + 1);
-        }
-        let next = if begins.get(place + 1) == Some(&false) { place + 2 } else { 0 };
-        record_line(&mut text, record, next);
-    }
+    let first = first.unwrap_or_default();
+    first_lines(&mut text, &first, &begins);
+    record_lines(&mut text, &first, &records, &begins);
     let beyond = &rest[records.len() * RECORD_OCTETS..];
     if !beyond.is_empty() {
         line(&mut text, OCTETS, &digits(beyond));
@@ -36,12 +27,30 @@ pub fn text(octets: &[u8]) -> String {
     text
 }
 
+/// A line for each first index at which no run begins.
+fn first_lines(text: &mut String, first: &[usize; PORTS], begins: &[bool]) {
+    for (port, &index) in first.iter().enumerate().filter(|(_, &index)| index > 0 && begins.get(index - 1) != Some(&true)) {
+        line(text, FIRST, &format!(" {port} {index}"));
+    }
+}
+
+/// The line of each record, and that of each run before its front.
+fn record_lines(text: &mut String, first: &[usize; PORTS], records: &[&[u8]], begins: &[bool]) {
+    for (place, record) in records.iter().enumerate() {
+        if begins[place] {
+            run_line(text, first, place + 1);
+        }
+        let next = if begins.get(place + 1) == Some(&false) { place + 2 } else { 0 };
+        record_line(text, record, next);
+    }
+}
+
 /// The first indices of a header without fault, of any other nothing: it is written out in digits.
 fn first_indices(header: &[u8]) -> Option<[usize; PORTS]> {
     if header.len() < RECORD_OCTETS {
         return None;
     }
-    let first = [0, 1, 2, 3].map(|port| first_index(header, port));
+    let first = array::from_fn(|port| first_index(header, port));
     Some(first).filter(|first| file::header(first.map(|index| index as u16)) == header)
 }
 

@@ -14,7 +14,7 @@ use crate::model::port::{CHARGES, DELAYS, LARGEST_CHARGE, LEAST_CHARGE, LEAST_PE
 /// Where a number of 16 bits starts over.
 const OVER_TWO_OCTETS: u32 = 1 << 16;
 /// Where a number of 8 bits starts over.
-const OVER_AN_OCTET: u32 = 1 << 8;
+pub const OVER_AN_OCTET: u32 = 1 << 8;
 
 /// L at the ends of its range and outside it, also where fewer bits would hide that.
 const EDGE_LINKS: [u32; 8] = [0, 1_541, 1_625, 1_626, 23_046, 23_047, OVER_TWO_OCTETS + 2_142, u32::MAX];

@@ -20,7 +20,7 @@ pub struct Links {
 pub type Shape = fn(&mut Random, usize) -> Links;
 
 /// The shapes that the tests try, each with its name.
-pub const SHAPES: [(&str, Shape); 6] = [
+const SHAPES: [(&str, Shape); 6] = [
     ("one chain", one_chain),
     ("four ports on one chain", four_ports_on_one_chain),
     ("runs", runs),
@@ -28,6 +28,16 @@ pub const SHAPES: [(&str, Shape); 6] = [
     ("shared tails", shared_tails),
     ("scattered records", scattered),
 ];
+
+/// The shapes in turn: the one of a capture's number, with its name.
+pub fn shape_in_turn(number: usize) -> (&'static str, Shape) {
+    SHAPES[number % SHAPES.len()]
+}
+
+/// Any of the shapes.
+pub fn any_shape(random: &mut Random) -> Shape {
+    random.pick(&SHAPES).1
+}
 
 /// One chain of all records, on one port.
 fn one_chain(random: &mut Random, records: usize) -> Links {
@@ -40,7 +50,16 @@ fn one_chain(random: &mut Random, records: usize) -> Links {
 
 /// One chain of all records, on all four ports.
 fn four_ports_on_one_chain(_: &mut Random, records: usize) -> Links {
-    Links { first: [1; PORTS], next: (0..=records).map(|index| if index < records { index + 1 } else { 0 }).collect() }
+    Links { first: [1; PORTS], next: (0..=records).map(|index| following(index, records)).collect() }
+}
+
+/// The index of the record that follows in the file, or 0 after the last.
+fn following(index: usize, records: usize) -> usize {
+    if index < records {
+        index + 1
+    } else {
+        0
+    }
 }
 
 /// The records of each port one after another, the ports in any order.
@@ -59,7 +78,7 @@ fn interleaved(random: &mut Random, records: usize) -> Links {
 fn shared_tails(random: &mut Random, records: usize) -> Links {
     let own = random.below(records);
     let mut links = linked(own, [own + 1; PORTS], |_| random.below(PORTS));
-    links.next.extend((own + 1..=records).map(|index| if index < records { index + 1 } else { 0 }));
+    links.next.extend((own + 1..=records).map(|index| following(index, records)));
     for port in 0..PORTS {
         if random.chance(25) {
             links.first[port] = own + 1 + random.below(records - own);
@@ -71,17 +90,24 @@ fn shared_tails(random: &mut Random, records: usize) -> Links {
 /// Records of which each goes on to any of the next few, so that some are on no chain and some on several; some ports do not start.
 fn scattered(random: &mut Random, records: usize) -> Links {
     let ahead = random.pick(&[2, 2, 5, 40]);
-    let mut next = vec![0; records + 1];
-    for (index, next) in next.iter_mut().enumerate().skip(1) {
-        let chosen = index + 1 + random.below(ahead);
-        *next = if chosen <= records && !random.chance(1) { chosen } else { 0 };
+    let next = (0..=records).map(|index| scattered_next(random, records, index, ahead)).collect();
+    Links { first: [(); PORTS].map(|()| scattered_first(random, records, ahead)), next }
+}
+
+/// The next index of a record that goes on to any of the next few, and now and then to none.
+fn scattered_next(random: &mut Random, records: usize, index: usize, ahead: usize) -> usize {
+    let chosen = index + 1 + random.below(ahead);
+    if chosen <= records && !random.chance(1) {
+        chosen
+    } else {
+        0
     }
-    let mut first = [0; PORTS];
-    for first in &mut first {
-        let (early, any) = (1 + random.below(ahead.min(records)), 1 + random.below(records));
-        *first = random.pick(&[0, early, early, early, any]);
-    }
-    Links { first, next }
+}
+
+/// A first index, most often one of the first few.
+fn scattered_first(random: &mut Random, records: usize, ahead: usize) -> usize {
+    let (early, any) = (1 + random.below(ahead.min(records)), 1 + random.below(records));
+    random.pick(&[0, early, early, early, any])
 }
 
 /// Chains of records of which each is on the port that is given for it; each chain ends by going on to an index, or 0.
@@ -98,10 +124,7 @@ fn linked(records: usize, ends: [usize; PORTS], mut port_of: impl FnMut(usize) -
 /// A good capture of a shape with so many records after record 0 and events of a profile; counts what the events do on each port.
 pub fn capture(coverage: &mut Coverage, random: &mut Random, shape: Shape, records: usize, profile: &Profile) -> Vec<u8> {
     let links = shape(random, records);
-    let mut events = vec![None; links.next.len()];
-    for first in links.first {
-        walk(coverage, random, &links, first, profile, &mut events);
-    }
+    let events = events(coverage, random, &links, profile);
     let mut octets = file::header(links.first.map(|index| index as u16)).to_vec();
     for (event, &next) in events.iter().zip(&links.next).skip(1) {
         octets.extend(match event {
@@ -110,6 +133,15 @@ pub fn capture(coverage: &mut Coverage, random: &mut Random, shape: Shape, recor
         });
     }
     octets
+}
+
+/// The event of each record that is on a chain; record 0 has none.
+fn events(coverage: &mut Coverage, random: &mut Random, links: &Links, profile: &Profile) -> Vec<Option<Call>> {
+    let mut events = vec![None; links.next.len()];
+    for first in links.first {
+        walk(coverage, random, links, first, profile, &mut events);
+    }
+    events
 }
 
 /// Plays one port's chain, and gives an event to each record that has none yet.

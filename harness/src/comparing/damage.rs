@@ -2,13 +2,14 @@
 
 use std::fmt;
 
+use crate::capture::file::LAST_INDEX;
+use crate::comparing::calls::OVER_AN_OCTET;
 use crate::model::capture::{
-    ARRIVE, BEST_EFFORT, FIRST_INDICES_AT, KIND_AT, LETTERS, NEXT_INDEX_AT, NUMBER_A_AT, NUMBER_B_AT, OPEN, RECORD_OCTETS, RESERVE,
-    STREAM_AT, ZEROS_AT,
+    ARRIVE, BEST_EFFORT, FIRST_INDICES_AT, KIND_AT, LETTERS, MOST_OCTETS, NEXT_INDEX_AT, NUMBER_A_AT, NUMBER_B_AT, OPEN, RECORD_OCTETS,
+    RESERVE, STREAM_AT, ZEROS_AT,
 };
-
-/// Where a number of one octet starts over.
-const OVER_AN_OCTET: u16 = 1 << 8;
+use crate::model::octets::TWO;
+use crate::model::refusal::{CAPTURE_HEADER, CAPTURE_INDEX, CAPTURE_LENGTH, CAPTURE_RECORD};
 
 /// What an octet of a capture is part of.
 #[derive(Clone, Copy, Debug, PartialEq, Eq, PartialOrd, Ord)]
@@ -111,11 +112,11 @@ impl FileCheck {
     /// What `replay` prints where this check is the first that fails.
     pub fn refused(self) -> String {
         let (refusal, index) = match self {
-            FileCheck::Length => (21, 0),
-            FileCheck::Header => (22, 0),
-            FileCheck::First(_) => (23, 0),
-            FileCheck::Next(index) => (23, index),
-            FileCheck::Record(index) => (24, index),
+            FileCheck::Length => (CAPTURE_LENGTH, 0),
+            FileCheck::Header => (CAPTURE_HEADER, 0),
+            FileCheck::First(_) => (CAPTURE_INDEX, 0),
+            FileCheck::Next(index) => (CAPTURE_INDEX, index),
+            FileCheck::Record(index) => (CAPTURE_RECORD, index),
         };
         format!("refused {refusal} {index}\n")
     }
@@ -123,30 +124,27 @@ impl FileCheck {
     /// Every damage that is tried for this check in a good capture of fewer than 256 records; some indices would be good ones if one octet of them
     /// were read.
     pub fn damages(self, capture: &[u8]) -> Vec<Damage> {
-        let count = (capture.len() / RECORD_OCTETS) as u16;
+        let count = (capture.len() / RECORD_OCTETS) as u32;
         match self {
-            FileCheck::Length => {
-                vec![
-                    Damage::Cut(0),
-                    Damage::Cut(1),
-                    Damage::Cut(15),
-                    Damage::Cut(capture.len() - 1),
-                    Damage::Added(1),
-                    Damage::Added(65_536),
-                ]
-            }
+            FileCheck::Length => length_damages(capture),
             FileCheck::Header => header_damages(capture),
             FileCheck::First(port) => {
-                index_damages(FIRST_INDICES_AT + 2 * port, &[count, count + 1, OVER_AN_OCTET, OVER_AN_OCTET + 1, u16::MAX])
+                index_damages(FIRST_INDICES_AT + TWO * port, &[count, count + 1, OVER_AN_OCTET, OVER_AN_OCTET + 1, LAST_INDEX])
             }
             FileCheck::Next(index) => {
-                let own = index as u16;
-                let wrong: Vec<u16> = (1..=own).chain([count, count + 1, OVER_AN_OCTET, OVER_AN_OCTET + own + 1, u16::MAX]).collect();
-                index_damages(index * RECORD_OCTETS + NEXT_INDEX_AT, &wrong)
+                let own = index as u32;
+                let above = [count, count + 1, OVER_AN_OCTET, OVER_AN_OCTET + own + 1, LAST_INDEX];
+                index_damages(index * RECORD_OCTETS + NEXT_INDEX_AT, &(1..=own).chain(above).collect::<Vec<_>>())
             }
             FileCheck::Record(index) => record_damages(capture, index * RECORD_OCTETS),
         }
     }
+}
+
+/// A file that is cut or extended to a length that no capture has.
+fn length_damages(capture: &[u8]) -> Vec<Damage> {
+    let cut = [0, 1, RECORD_OCTETS - 1, capture.len() - 1].map(Damage::Cut);
+    cut.into_iter().chain([1, MOST_OCTETS].map(Damage::Added)).collect()
 }
 
 /// Another octet in each of the header's letters and zero octets.
@@ -156,8 +154,8 @@ fn header_damages(capture: &[u8]) -> Vec<Damage> {
 }
 
 /// Each of the indices, written at a place.
-fn index_damages(at: usize, indices: &[u16]) -> Vec<Damage> {
-    indices.iter().map(|index| Damage::Written { at, octets: index.to_be_bytes().to_vec() }).collect()
+fn index_damages(at: usize, indices: &[u32]) -> Vec<Damage> {
+    indices.iter().map(|&index| Damage::Written { at, octets: (index as u16).to_be_bytes().to_vec() }).collect()
 }
 
 /// "24 kind, stream octet, unused number or zero octets" of the record at a place of the file.

@@ -9,6 +9,7 @@ pub mod damage;
 pub mod fenced;
 pub mod fit;
 pub mod lent;
+pub mod profiles;
 pub mod program;
 pub mod random;
 pub mod replayed;

@@ -100,6 +100,11 @@ pub fn judged(output: &Output, text: &str) -> Result<(), String> {
     Ok(())
 }
 
+/// The number with which a text that `replay` prints refuses the file, if it does.
+pub fn refusal_of(text: &str) -> Option<u8> {
+    text.strip_prefix("refused ")?.split(' ').next()?.parse().ok()
+}
+
 /// The first line in which what was printed differs from a text.
 fn differing(printed: &[u8], text: &str) -> String {
     let (printed, text) = (printed.split_inclusive(|&octet| octet == b'\n'), text.as_bytes().split_inclusive(|&octet| octet == b'\n'));
@@ -136,7 +141,7 @@ impl Run<'_> {
         let text = (self.sides.replay)(&capture);
         let output = printed(&mut Command::new(self.replay), pieces, LIMIT).map_err(|why| self.not_run(&why))?;
         judged(&output, &text).map_err(|why| self.differs(&capture, &why))?;
-        match text.strip_prefix("refused ").and_then(|rest| rest.split(' ').next()?.parse().ok()) {
+        match refusal_of(&text) {
             Some(refusal) => self.coverage.count(Seen::Refused(refusal)),
             None => self.calls += text.lines().count() as u64,
         }

@@ -28,11 +28,15 @@ pub fn replay(octets: &[u8]) -> String {
 fn played(ports: &[Vec<Call>]) -> String {
     let mut lines = String::new();
     for (number, events) in ports.iter().enumerate() {
-        let mut port = Port::closed();
-        for (before, event) in events.iter().enumerate() {
-            let reply = rule::step(event, &mut port);
-            writeln!(lines, "{number} {} {} {reply}", before + 1, capture::kind(event)).expect("a string takes every line");
-        }
+        play(&mut lines, number, events, &mut Port::closed());
     }
     lines
+}
+
+/// Plays the events of the port of a number, and adds their lines.
+fn play(lines: &mut String, number: usize, events: &[Call], port: &mut Port) {
+    for (before, event) in events.iter().enumerate() {
+        let reply = rule::step(event, port);
+        writeln!(lines, "{number} {} {} {reply}", before + 1, capture::kind(event)).expect("a string takes every line");
+    }
 }

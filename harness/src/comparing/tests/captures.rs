@@ -4,14 +4,15 @@ use std::ops::RangeInclusive;
 
 use crate::capture::file::MOST_RECORDS;
 use crate::capture::stored::{self, Stored};
-use crate::comparing::calls::{Charges, Permitted, Profile, Weights, ORDINARY};
-use crate::comparing::chains::{capture, SHAPES};
+use crate::comparing::calls::{Charges, Profile, Weights, ORDINARY};
+use crate::comparing::chains::{any_shape, capture, shape_in_turn};
 use crate::comparing::coverage::Seen;
+use crate::comparing::profiles::{any_profile, full_queues, FEW_STREAMS, FULL_LINK, HARDLY_ANY_TRANSMITS, MANY_STREAMS, WRONG_ARGUMENTS};
 use crate::comparing::random::Random;
+use crate::comparing::replayed::refusal_of;
 use crate::comparing::test::{Kind, Run, Test};
-use crate::comparing::tests::lists::{any_profile, at_each_place, never_met_from_opening, FULL_LINK, FULL_SHARE, OF_PLANNER, OF_SENDER};
+use crate::comparing::tests::lists::{at_each_place, never_met_from_opening, OF_PLANNER, OF_SENDER};
 use crate::model::capture::RECORD_OCTETS;
-use crate::model::port::STREAMS;
 use crate::model::refusal::*;
 
 /// The tests of this file.
@@ -57,23 +58,24 @@ fn replay_stored(run: &mut Run, stored: &Stored) -> Result<(), String> {
 
 /// Captures that come in pieces of several sizes, whole records and parts of one.
 fn captures_in_pieces(run: &mut Run) -> Result<(), String> {
-    for piece in [1, 5, 15, 16, 17, 100, 4_096, 65_535] {
-        let records = (4 * piece / RECORD_OCTETS + 8).min(MOST_RECORDS);
-        for _ in 0..run.scaled(10) {
-            let mut random = run.next_capture(&format!("pieces of {piece}"));
-            let (shape, profile) = (random.pick(&SHAPES).1, any_profile(&mut random));
-            let octets = capture(&mut run.coverage, &mut random, shape, records, &profile);
-            run.replay_in_pieces(&octets.chunks(piece).collect::<Vec<_>>())?;
-        }
+    [1, 5, 15, 16, 17, 100, 4_096, 65_535].into_iter().try_for_each(|piece| pieces_of(run, piece))
+}
+
+/// Captures that come in pieces of one size, most of them in several.
+fn pieces_of(run: &mut Run, piece: usize) -> Result<(), String> {
+    let records = (4 * piece / RECORD_OCTETS + 8).min(MOST_RECORDS);
+    for _ in 0..run.scaled(10) {
+        let mut random = run.next_capture(&format!("pieces of {piece}"));
+        let (shape, profile) = (any_shape(&mut random), any_profile(&mut random));
+        let octets = capture(&mut run.coverage, &mut random, shape, records, &profile);
+        run.replay_in_pieces(&octets.chunks(piece).collect::<Vec<_>>())?;
     }
     Ok(())
 }
 
 /// Few streams, which arrivals press at every place.
 fn captures_of_few_streams(run: &mut Run) -> Result<(), String> {
-    let weights = Weights { open: 0, reserve: 4, arrive: 70, tick: 15, transmit: 20, best_effort: 5, close: 0 };
-    let profile = Profile { weights, streams: 4, links: 10_000..=FULL_LINK, permitted: Permitted::UpTo(2_000), ..ORDINARY };
-    play(run, 500, 50..=600, |_| profile.clone())?;
+    play(run, 500, 50..=600, |_| FEW_STREAMS)?;
     run.demand(&at_each_place(Seen::JoinedAt, 5_000))?;
     run.demand(&at_each_place(Seen::ExactFitAt, 1_000))?;
     run.demand(&[(Seen::Refused(DISCARD), 5_000)])
@@ -81,28 +83,19 @@ fn captures_of_few_streams(run: &mut Run) -> Result<(), String> {
 
 /// All 64 streams, with reservations up to the share and past it.
 fn captures_of_many_streams(run: &mut Run) -> Result<(), String> {
-    let weights = Weights { open: 1, reserve: 150, arrive: 200, tick: 40, transmit: 60, best_effort: 20, close: 0 };
-    let profile = Profile { weights, links: 7_000..=FULL_LINK, permitted: Permitted::Parts, ..ORDINARY };
-    play(run, 400, 100..=800, |_| profile.clone())?;
+    play(run, 400, 100..=800, |_| MANY_STREAMS)?;
     run.demand(&[(Seen::Refused(SHARE_EXCEEDED), 2_000), (Seen::ShareFilled, 40), (Seen::AllReserved, 30), (Seen::Reserved, 5_000)])
 }
 
 /// Queues of 256 frames, each of the least charge.
 fn captures_of_full_queues(run: &mut Run) -> Result<(), String> {
-    let weights = Weights { open: 0, reserve: 100, arrive: 1_000, tick: 2, transmit: 3, best_effort: 50, close: 0 };
-    let profile = |random: &mut Random| {
-        let permitted = Permitted::Exactly(random.pick(&[FULL_SHARE, FULL_SHARE / STREAMS as u32]));
-        Profile { weights, links: FULL_LINK..=FULL_LINK, permitted, charges: Charges::Least, ..ORDINARY }
-    };
-    play(run, 150, 800..=3_000, profile)?;
+    play(run, 150, 800..=3_000, full_queues)?;
     run.demand(&[(Seen::QueueFilled, 50), (Seen::Refused(DISCARD), 500), (Seen::PurgedFrame, 2_000)])
 }
 
 /// Hardly any transmits, so that ticks purge.
 fn captures_with_purges(run: &mut Run) -> Result<(), String> {
-    let weights = Weights { open: 0, reserve: 4, arrive: 60, tick: 30, transmit: 4, best_effort: 4, close: 0 };
-    let profile = Profile { weights, streams: 16, links: 5_000..=FULL_LINK, permitted: Permitted::UpTo(3_000), ..ORDINARY };
-    play(run, 400, 50..=600, |_| profile.clone())?;
+    play(run, 400, 50..=600, |_| HARDLY_ANY_TRANSMITS)?;
     run.demand(&[(Seen::PurgedFrame, 20_000), (Seen::SentFromPrior, 500), (Seen::Ticked, 10_000)])
 }
 
@@ -120,9 +113,7 @@ fn captures_of_best_effort(run: &mut Run) -> Result<(), String> {
 
 /// Every argument outside its range, at its ends and where fewer bits would hide it.
 fn captures_of_wrong_arguments(run: &mut Run) -> Result<(), String> {
-    let weights = Weights { open: 15, reserve: 30, arrive: 40, tick: 3, transmit: 7, best_effort: 15, close: 0 };
-    let profile = Profile { weights, edges: 60, ..ORDINARY };
-    play(run, 500, 10..=400, |_| profile.clone())?;
+    play(run, 500, 10..=400, |_| WRONG_ARGUMENTS)?;
     run.demand(&OF_PLANNER.map(|refusal| (Seen::Refused(refusal), 80)))?;
     run.demand(&OF_SENDER.map(|refusal| (Seen::Refused(refusal), 500)))
 }
@@ -145,12 +136,12 @@ fn captures_of_greatest_length(run: &mut Run) -> Result<(), String> {
 /// Replays so many captures at full size, the shapes in turn, each with any number of records of a range after record 0.
 fn play(run: &mut Run, captures: usize, records: RangeInclusive<u32>, profile: impl Fn(&mut Random) -> Profile) -> Result<(), String> {
     for number in 0..run.scaled(captures) {
-        let (what, shape) = SHAPES[number % SHAPES.len()];
+        let (what, shape) = shape_in_turn(number);
         let mut random = run.next_capture(what);
         let (profile, records) = (profile(&mut random), random.between(records.clone()) as usize);
         let octets = capture(&mut run.coverage, &mut random, shape, records, &profile);
         let text = run.replay(&octets)?;
-        if text.starts_with("refused") {
+        if refusal_of(&text).is_some() {
             return Err(format!("{}: a good capture is {text}", run.place));
         }
     }

@@ -2,12 +2,14 @@
 
 use crate::capture::writing;
 use crate::comparing::calls::ORDINARY;
-use crate::comparing::chains::{capture, Shape, SHAPES};
+use crate::comparing::chains::{capture, shape_in_turn};
 use crate::comparing::coverage::{Coverage, Seen};
 use crate::comparing::damage::{Damage, Field, FileCheck, FIELDS};
+use crate::comparing::profiles::any_profile;
+use crate::comparing::random::Random;
+use crate::comparing::replayed::refusal_of;
 use crate::comparing::test::{Run, Test};
 use crate::comparing::tests::captures::test;
-use crate::comparing::tests::lists::any_profile;
 use crate::model::capture::{MOST_OCTETS, RECORD_OCTETS};
 use crate::model::refusal::{CAPTURE_HEADER, CAPTURE_INDEX, CAPTURE_LENGTH, CAPTURE_RECORD};
 
@@ -94,69 +96,75 @@ fn replay_with_each(run: &mut Run, check: FileCheck, what: &str, text: &str) -> 
 fn refusals_at_every_place(run: &mut Run) -> Result<(), String> {
     run.next_capture("no damage");
     replay_with(run, &[], OUTPUT)?;
-    for check in checks() {
-        replay_with_each(run, check, "to be refused", &check.refused())?;
-    }
-    for check in UNUSED.into_iter().flat_map(|index| [FileCheck::Record(index), FileCheck::Next(index)]) {
-        replay_with_each(run, check, "on no chain", OUTPUT)?;
-    }
-    Ok(())
+    checks().into_iter().try_for_each(|check| replay_with_each(run, check, "to be refused", &check.refused()))?;
+    let mut unused = UNUSED.into_iter().flat_map(|index| [FileCheck::Record(index), FileCheck::Next(index)]);
+    unused.try_for_each(|check| replay_with_each(run, check, "on no chain", OUTPUT))
 }
 
-/// Each two checks that fail in one file, with several damages of each: the check that comes first is told.
+/// Each two checks that fail in one file: the check that comes first is told.
 fn order_of_checks(run: &mut Run) -> Result<(), String> {
-    let (capture, checks) = (good_capture(), checks());
-    for (place, first) in checks.iter().enumerate() {
-        for later in &checks[place + 1..] {
-            let [damages, others] = [first, later].map(|check| check.damages(&capture));
-            for number in 0..DAMAGES_OF_A_PAIR {
-                let mut random = run.next_capture(&format!("{first:?}, then {later:?}"));
-                let other = &others[random.below(others.len())];
-                replay_with(run, &[other, &damages[number % damages.len()]], &first.refused())?;
-            }
-        }
+    let checks = checks();
+    let pairs_of = |(place, &first): (usize, &FileCheck)| checks[place + 1..].iter().map(move |&later| (first, later));
+    checks.iter().enumerate().flat_map(pairs_of).try_for_each(|(first, later)| replay_with_both(run, first, later))
+}
+
+/// The capture with two checks failing, several damages of each.
+fn replay_with_both(run: &mut Run, first: FileCheck, later: FileCheck) -> Result<(), String> {
+    let capture = good_capture();
+    let [damages, others] = [first, later].map(|check| check.damages(&capture));
+    for number in 0..DAMAGES_OF_A_PAIR {
+        let mut random = run.next_capture(&format!("{first:?}, then {later:?}"));
+        let other = &others[random.below(others.len())];
+        replay_with(run, &[other, &damages[number % damages.len()]], &first.refused())?;
     }
     Ok(())
 }
 
-/// Every octet of a small capture, each changed in several ways.
+/// Every octet of small captures, each changed in one of several ways.
 fn each_octet_changed(run: &mut Run) -> Result<(), String> {
     for number in 0..run.scaled(20) {
         let capture = small_capture(run, number)?;
-        for at in 0..capture.len() {
-            let mut random = run.next_capture(&format!("octet {at} changed"));
-            let (octet, other) = (capture[at], random.other_octet(capture[at]));
-            let mut changed = capture.clone();
-            changed[at] = random.pick(&[octet.wrapping_add(1), octet.wrapping_sub(1), octet ^ 0x80, other]);
-            run.coverage.count(Seen::Changed(Field::at(at)));
-            run.replay(&changed)?;
-        }
+        (0..capture.len()).try_for_each(|at| replay_changed(run, &capture, at))?;
     }
     run.demand(&FIELDS.map(|field| (Seen::Changed(field), 80)))?;
     run.demand(&[CAPTURE_HEADER, CAPTURE_INDEX, CAPTURE_RECORD].map(|refusal| (Seen::Refused(refusal), 100)))
 }
 
-/// A small capture, cut at every length, and with octets added.
+/// A capture with the octet at one place changed.
+fn replay_changed(run: &mut Run, capture: &[u8], at: usize) -> Result<(), String> {
+    let mut random = run.next_capture(&format!("octet {at} changed"));
+    let (octet, other) = (capture[at], random.other_octet(capture[at]));
+    let mut changed = capture.to_vec();
+    changed[at] = random.pick(&[octet.wrapping_add(1), octet.wrapping_sub(1), octet ^ 0x80, other]);
+    run.coverage.count(Seen::Changed(Field::at(at)));
+    run.replay(&changed).map(|_| ())
+}
+
+/// Small captures, cut at every length, and with octets added.
 fn cut_at_every_length(run: &mut Run) -> Result<(), String> {
     for number in 0..run.scaled(4) {
         let capture = small_capture(run, number)?;
-        for length in 0..capture.len() + 2 * RECORD_OCTETS {
-            let mut random = run.next_capture(&format!("length {length}"));
-            let mut cut = capture[..length.min(capture.len())].to_vec();
-            cut.resize_with(length, || random.octet());
-            let text = run.replay(&cut)?;
-            let whole = length >= RECORD_OCTETS && length % RECORD_OCTETS == 0;
-            if !whole && text != FileCheck::Length.refused() {
-                return Err(format!("{}: both print {text}", run.place));
-            }
-        }
+        (0..capture.len() + 2 * RECORD_OCTETS).try_for_each(|length| replay_cut(run, &capture, length))?;
     }
     run.demand(&[(Seen::Refused(CAPTURE_LENGTH), 200)])
 }
 
+/// A capture, cut to a length or filled up to it; where that is no whole number of records, it is refused for it.
+fn replay_cut(run: &mut Run, capture: &[u8], length: usize) -> Result<(), String> {
+    let mut random = run.next_capture(&format!("length {length}"));
+    let mut cut = capture[..length.min(capture.len())].to_vec();
+    cut.resize_with(length, || random.octet());
+    let text = run.replay(&cut)?;
+    let whole = length >= RECORD_OCTETS && length % RECORD_OCTETS == 0;
+    match whole || text == FileCheck::Length.refused() {
+        true => Ok(()),
+        false => Err(format!("{}: both print {text}", run.place)),
+    }
+}
+
 /// A good capture of few records, of each shape in turn, replayed as it is.
 fn small_capture(run: &mut Run, number: usize) -> Result<Vec<u8>, String> {
-    let (what, shape): (&str, Shape) = SHAPES[number % SHAPES.len()];
+    let (what, shape) = shape_in_turn(number);
     let mut random = run.next_capture(what);
     let records = random.between(4..=9) as usize;
     let octets = capture(&mut Coverage::default(), &mut random, shape, records, &ORDINARY);
@@ -171,12 +179,12 @@ fn lengths_about_the_greatest(run: &mut Run) -> Result<(), String> {
     for (number, length) in around.into_iter().chain(longer).enumerate() {
         let mut random = run.next_capture(&format!("length {length}"));
         let profile = any_profile(&mut random);
-        let (records, shape) = (length / RECORD_OCTETS - 1, SHAPES[number % 2].1);
+        let (records, (_, shape)) = (length / RECORD_OCTETS - 1, shape_in_turn(number));
         let mut octets = capture(&mut Coverage::default(), &mut random, shape, records, &profile);
         octets.resize(length, 0);
         let text = run.replay(&octets)?;
         let good = length % RECORD_OCTETS == 0 && length <= MOST_OCTETS;
-        if good == text.starts_with("refused") || (!good && text != FileCheck::Length.refused()) {
+        if good == refusal_of(&text).is_some() || (!good && text != FileCheck::Length.refused()) {
             return Err(format!("{}: both print {}", run.place, text.lines().next().unwrap_or_default()));
         }
     }
@@ -186,18 +194,21 @@ fn lengths_about_the_greatest(run: &mut Run) -> Result<(), String> {
 /// Captures of any shape and length with up to four octets changed.
 fn damaged_anywhere(run: &mut Run) -> Result<(), String> {
     for number in 0..run.scaled(1_200) {
-        let (what, shape): (&str, Shape) = SHAPES[number % SHAPES.len()];
+        let (what, shape) = shape_in_turn(number);
         let mut random = run.next_capture(what);
         let (profile, records) = (any_profile(&mut random), random.between(1..=100) as usize);
         let mut octets = capture(&mut Coverage::default(), &mut random, shape, records, &profile);
-        for _ in 0..random.between(1..=4) {
-            let (header, any) = (random.below(RECORD_OCTETS), random.below(octets.len()));
-            let at = random.pick(&[header, any, any, any]);
-            octets[at] = random.other_octet(octets[at]);
-            run.coverage.count(Seen::Changed(Field::at(at)));
-        }
+        (0..random.between(1..=4)).for_each(|_| change_any(&mut run.coverage, &mut random, &mut octets));
         run.replay(&octets)?;
     }
     run.demand(&FIELDS.map(|field| (Seen::Changed(field), 30)))?;
     run.demand(&[CAPTURE_HEADER, CAPTURE_INDEX, CAPTURE_RECORD].map(|refusal| (Seen::Refused(refusal), 100)))
+}
+
+/// Changes an octet of a capture, those of the header more often.
+fn change_any(coverage: &mut Coverage, random: &mut Random, octets: &mut [u8]) {
+    let (header, any) = (random.below(RECORD_OCTETS), random.below(octets.len()));
+    let at = random.pick(&[header, any, any, any]);
+    octets[at] = random.other_octet(octets[at]);
+    coverage.count(Seen::Changed(Field::at(at)));
 }

@@ -5,10 +5,13 @@ use crate::comparing::calls::{Charges, Permitted, Profile, Weights, ORDINARY};
 use crate::comparing::compared::{Compared, Step};
 use crate::comparing::coverage::Seen;
 use crate::comparing::fit::Octets;
+use crate::comparing::profiles::{
+    self, any_profile, few_ticks, FEW_STREAMS, FULL_LINK, HARDLY_ANY_TRANSMITS, MANY_STREAMS, WRONG_ARGUMENTS,
+};
 use crate::comparing::random::Random;
 use crate::comparing::sides::Side;
 use crate::comparing::test::{Kind, Run, Test};
-use crate::model::port::{CURRENT, LARGEST_CHARGE, LAST, LEAST_CHARGE, LEAST_PERMITTED, LINKS, NEXT, STREAMS};
+use crate::model::port::{CURRENT, LARGEST_CHARGE, LAST, LEAST_CHARGE, LEAST_PERMITTED, LINKS, NEXT};
 use crate::model::refusal::*;
 
 /// The tests of this kind.
@@ -42,10 +45,6 @@ pub struct Plan {
     pub begin: fn(&mut Random) -> Octets,
 }
 
-/// L at which the share holds 256 frames of the least charge, and that share.
-pub const FULL_LINK: u32 = *LINKS.end();
-pub const FULL_SHARE: u32 = FULL_LINK - LARGEST_CHARGE;
-
 /// The refusals of a planner's call, and those of an arrival's arguments.
 pub const OF_PLANNER: [u8; 8] =
     [PORT_CLOSED, OPEN_ALREADY, LINK_OUTSIDE, DELAY_OUTSIDE, STREAM_ABOVE, RESERVED_ALREADY, PERMITTED_BELOW, SHARE_EXCEEDED];
@@ -53,9 +52,7 @@ pub const OF_SENDER: [u8; 2] = [NOT_RESERVED, CHARGE_OUTSIDE];
 
 /// Few streams, which arrivals press at every place: exact fits and discards.
 fn few_streams_pressed(run: &mut Run) -> Result<(), String> {
-    let weights = Weights { open: 0, reserve: 4, arrive: 70, tick: 15, transmit: 20, best_effort: 5, close: 0 };
-    let profile = Profile { weights, streams: 4, links: 10_000..=FULL_LINK, permitted: Permitted::UpTo(2_000), ..ORDINARY };
-    play(run, SIDES, &Plan { lists: 200, calls: 1_000, begin: a_closed_port }, |_| profile.clone())?;
+    play(run, SIDES, &Plan { lists: 200, calls: 1_000, begin: a_closed_port }, |_| FEW_STREAMS)?;
     never_met_from_opening(run)?;
     run.demand(&at_each_place(Seen::JoinedAt, 5_000))?;
     run.demand(&at_each_place(Seen::ExactFitAt, 1_000))?;
@@ -64,37 +61,28 @@ fn few_streams_pressed(run: &mut Run) -> Result<(), String> {
 
 /// All 64 streams, with reservations up to the share and past it.
 fn many_streams_pressed_to_the_share(run: &mut Run) -> Result<(), String> {
-    let weights = Weights { open: 1, reserve: 150, arrive: 200, tick: 40, transmit: 60, best_effort: 20, close: 1 };
-    let profile = Profile { weights, links: 7_000..=FULL_LINK, permitted: Permitted::Parts, ..ORDINARY };
-    play(run, SIDES, &Plan { lists: 150, calls: 800, begin: a_closed_port }, |_| profile.clone())?;
+    play(run, SIDES, &Plan { lists: 150, calls: 800, begin: a_closed_port }, |_| MANY_STREAMS)?;
     never_met_from_opening(run)?;
     run.demand(&[(Seen::Refused(SHARE_EXCEEDED), 2_000), (Seen::ShareFilled, 40), (Seen::AllReserved, 30), (Seen::Reserved, 5_000)])
 }
 
 /// Queues of 256 frames, each of the least charge: one stream with all of the share, or 64 with an equal part.
 fn full_queues(run: &mut Run) -> Result<(), String> {
-    let weights = Weights { open: 0, reserve: 100, arrive: 1_000, tick: 2, transmit: 3, best_effort: 50, close: 0 };
-    let profile = |random: &mut Random| {
-        let permitted = Permitted::Exactly(random.pick(&[FULL_SHARE, FULL_SHARE / STREAMS as u32]));
-        Profile { weights, links: FULL_LINK..=FULL_LINK, permitted, charges: Charges::Least, ..ORDINARY }
-    };
-    play(run, SIDES, &Plan { lists: 20, calls: 3_000, begin: a_closed_port }, profile)?;
+    play(run, SIDES, &Plan { lists: 20, calls: 3_000, begin: a_closed_port }, profiles::full_queues)?;
     never_met_from_opening(run)?;
     run.demand(&[(Seen::QueueFilled, 20), (Seen::Refused(DISCARD), 500), (Seen::PurgedFrame, 2_000)])
 }
 
 /// Hardly any transmits, so that ticks purge.
 fn withheld_transmits(run: &mut Run) -> Result<(), String> {
-    let weights = Weights { open: 0, reserve: 4, arrive: 60, tick: 30, transmit: 4, best_effort: 4, close: 0 };
-    let profile = Profile { weights, streams: 16, links: 5_000..=FULL_LINK, permitted: Permitted::UpTo(3_000), ..ORDINARY };
-    play(run, SIDES, &Plan { lists: 120, calls: 1_000, begin: a_closed_port }, |_| profile.clone())?;
+    play(run, SIDES, &Plan { lists: 120, calls: 1_000, begin: a_closed_port }, |_| HARDLY_ANY_TRANSMITS)?;
     never_met_from_opening(run)?;
     run.demand(&[(Seen::PurgedFrame, 20_000), (Seen::SentFromPrior, 500), (Seen::Ticked, 10_000)])
 }
 
 /// Lists that begin on an open port of any content: queues that wrap, full ones that refuse, best effort that drains and fills.
 fn ring_starts_anywhere(run: &mut Run) -> Result<(), String> {
-    play(run, SIDES, &Plan { lists: 500, calls: 300, begin: an_open_port }, ring_profile)?;
+    play(run, SIDES, &Plan { lists: 500, calls: 300, begin: an_open_port }, few_ticks)?;
     run.demand(&[(Seen::Refused(QUEUE_FULL), 1_500), (Seen::JoinedWrapped, 800), (Seen::SentFromBestEffort, 800)])?;
     run.demand(&[(Seen::SentFromPrior, 3_000), (Seen::SentFromCurrent, 3_000), (Seen::SentNothing, 500)])?;
     run.demand(&[(Seen::BestEffortWrapped, 100), (Seen::BestEffortFullAndAbove, 50)])
@@ -180,9 +168,7 @@ fn opened_again(run: &mut Run) -> Result<(), String> {
 
 /// Every argument outside its range, at its ends and where fewer bits would hide it.
 fn arguments_out_of_range(run: &mut Run) -> Result<(), String> {
-    let weights = Weights { open: 15, reserve: 30, arrive: 40, tick: 3, transmit: 7, best_effort: 15, close: 5 };
-    let profile = Profile { weights, edges: 60, ..ORDINARY };
-    play(run, SIDES, &Plan { lists: 200, calls: 600, begin: a_closed_port }, |_| profile.clone())?;
+    play(run, SIDES, &Plan { lists: 200, calls: 600, begin: a_closed_port }, |_| WRONG_ARGUMENTS)?;
     never_met_from_opening(run)?;
     run.demand(&OF_PLANNER.map(|refusal| (Seen::Refused(refusal), 500)))?;
     run.demand(&OF_SENDER.map(|refusal| (Seen::Refused(refusal), 500)))
@@ -225,28 +211,6 @@ pub fn an_open_port(random: &mut Random) -> Octets {
 pub fn any_port(random: &mut Random) -> Octets {
     let open = random.chance(50);
     Octets::fit(random, open)
-}
-
-/// A profile with few ticks, so that queues keep the starts that they have, and fill or drain.
-pub fn ring_profile(random: &mut Random) -> Profile {
-    let (tick, transmit) = (random.pick(&[0, 1, 4]), random.pick(&[5, 60]));
-    let weights = Weights { open: 1, reserve: 10, arrive: 60, tick, transmit, best_effort: 10, close: 0 };
-    Profile { weights, charges: random.pick(&[Charges::NearLeft, Charges::Least]), edges: 2, ..ORDINARY }
-}
-
-/// A profile of which everything is any.
-pub fn any_profile(random: &mut Random) -> Profile {
-    let mut any = |least: u32, most: u32| random.between(least..=most) as usize;
-    let (open, reserve, arrive) = (any(0, 4), any(1, 30), any(10, 100));
-    let (tick, transmit, best_effort, close) = (any(0, 30), any(0, 60), any(0, 30), any(0, 2));
-    Profile {
-        weights: Weights { open, reserve, arrive, tick, transmit, best_effort, close },
-        streams: any(1, STREAMS as u32),
-        edges: any(0, 20),
-        permitted: random.pick(&[Permitted::NearFree, Permitted::UpTo(1_000), Permitted::UpTo(6_000)]),
-        charges: random.pick(&[Charges::NearLeft, Charges::Least]),
-        ..ORDINARY
-    }
 }
 
 /// Plays the lists of a plan; one that begins on a closed port is opened first, and none leaves a record unfit.

@@ -3,11 +3,12 @@
 use crate::comparing::broken;
 use crate::comparing::compared::Compared;
 use crate::comparing::coverage::Seen;
+use crate::comparing::profiles::{any_profile, few_ticks};
 use crate::comparing::shapes::{any_fit, any_open, extreme, SHAPES};
 use crate::comparing::sides::Side;
 use crate::comparing::test::{Kind, Run, Test};
 use crate::comparing::tests::each_call::{try_each_call, try_lengths, try_shape};
-use crate::comparing::tests::lists::{an_open_port, any_port, any_profile, play, ring_profile, Plan};
+use crate::comparing::tests::lists::{an_open_port, any_port, play, Plan};
 use crate::model::refusal::*;
 
 /// The tests of this kind, but for those between fences.
@@ -42,7 +43,7 @@ fn as_the_call_on_fit_records(run: &mut Run) -> Result<(), String> {
 /// In lists from fit records the quick calls are the calls.
 fn as_the_call_in_lists(run: &mut Run) -> Result<(), String> {
     play(run, WITH_CALLS, &Plan { lists: 1_000, calls: 500, begin: any_port }, any_profile)?;
-    play(run, WITH_CALLS, &Plan { lists: 500, calls: 300, begin: an_open_port }, ring_profile)?;
+    play(run, WITH_CALLS, &Plan { lists: 500, calls: 300, begin: an_open_port }, few_ticks)?;
     run.demand(&[(Seen::PurgedFrame, 10_000), (Seen::SentFromBestEffort, 500)])?;
     run.demand(&[(Seen::JoinedWrapped, 800), (Seen::Refused(QUEUE_FULL), 1_500)])?;
     run.demand(&[(Seen::BestEffort, 10_000), (Seen::BestEffortWrapped, 500), (Seen::Refused(BEST_EFFORT_EXCEEDED), 5_000)])

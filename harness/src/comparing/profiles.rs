@@ -1,0 +1,72 @@
+//! The profiles that several tests use, of steps that press one part of a port, and of any steps. A capture has no step that closes a port.
+
+use crate::comparing::calls::{Charges, Permitted, Profile, Weights, ORDINARY};
+use crate::comparing::random::Random;
+use crate::model::port::{LARGEST_CHARGE, LINKS, STREAMS};
+
+/// L at which the share holds 256 frames of the least charge.
+pub const FULL_LINK: u32 = *LINKS.end();
+/// That share.
+const FULL_SHARE: u32 = FULL_LINK - LARGEST_CHARGE;
+
+/// Few streams, which arrivals press at every place: exact fits and discards.
+pub const FEW_STREAMS: Profile = Profile {
+    weights: Weights { open: 0, reserve: 4, arrive: 70, tick: 15, transmit: 20, best_effort: 5, close: 0 },
+    streams: 4,
+    links: 10_000..=FULL_LINK,
+    permitted: Permitted::UpTo(2_000),
+    ..ORDINARY
+};
+
+/// All 64 streams, with reservations up to the share and past it.
+pub const MANY_STREAMS: Profile = Profile {
+    weights: Weights { open: 1, reserve: 150, arrive: 200, tick: 40, transmit: 60, best_effort: 20, close: 1 },
+    links: 7_000..=FULL_LINK,
+    permitted: Permitted::Parts,
+    ..ORDINARY
+};
+
+/// Hardly any transmits, so that ticks purge.
+pub const HARDLY_ANY_TRANSMITS: Profile = Profile {
+    weights: Weights { open: 0, reserve: 4, arrive: 60, tick: 30, transmit: 4, best_effort: 4, close: 0 },
+    streams: 16,
+    links: 5_000..=FULL_LINK,
+    permitted: Permitted::UpTo(3_000),
+    ..ORDINARY
+};
+
+/// Every argument outside its range, at its ends and where fewer bits would hide it.
+pub const WRONG_ARGUMENTS: Profile = Profile {
+    weights: Weights { open: 15, reserve: 30, arrive: 40, tick: 3, transmit: 7, best_effort: 15, close: 5 },
+    edges: 60,
+    ..ORDINARY
+};
+
+/// Queues of 256 frames, each of the least charge: one stream with all of the share, or 64 with an equal part.
+pub fn full_queues(random: &mut Random) -> Profile {
+    let weights = Weights { open: 0, reserve: 100, arrive: 1_000, tick: 2, transmit: 3, best_effort: 50, close: 0 };
+    let permitted = Permitted::Exactly(random.pick(&[FULL_SHARE, FULL_SHARE / STREAMS as u32]));
+    Profile { weights, links: FULL_LINK..=FULL_LINK, permitted, charges: Charges::Least, ..ORDINARY }
+}
+
+/// Few ticks, so that queues keep the starts that they have, and fill or drain.
+pub fn few_ticks(random: &mut Random) -> Profile {
+    let (tick, transmit) = (random.pick(&[0, 1, 4]), random.pick(&[5, 60]));
+    let weights = Weights { open: 1, reserve: 10, arrive: 60, tick, transmit, best_effort: 10, close: 0 };
+    Profile { weights, charges: random.pick(&[Charges::NearLeft, Charges::Least]), edges: 2, ..ORDINARY }
+}
+
+/// A profile of which everything is any.
+pub fn any_profile(random: &mut Random) -> Profile {
+    let mut any = |least: u32, most: u32| random.between(least..=most) as usize;
+    let (open, reserve, arrive) = (any(0, 4), any(1, 30), any(10, 100));
+    let (tick, transmit, best_effort, close) = (any(0, 30), any(0, 60), any(0, 30), any(0, 2));
+    Profile {
+        weights: Weights { open, reserve, arrive, tick, transmit, best_effort, close },
+        streams: any(1, STREAMS as u32),
+        edges: any(0, 20),
+        permitted: random.pick(&[Permitted::NearFree, Permitted::UpTo(1_000), Permitted::UpTo(6_000)]),
+        charges: random.pick(&[Charges::NearLeft, Charges::Least]),
+        ..ORDINARY
+    }
+}
