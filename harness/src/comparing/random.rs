@@ -15,7 +15,7 @@ pub struct Random {
 }
 
 impl Random {
-    /// The generator of one list or record: it depends on the seed, the name of the test and the number of the list or record in it.
+    /// The generator of one list, record or capture: it depends on the seed, the name of the test and the number of that in it.
     pub fn of(seed: u64, test: &str, number: u64) -> Random {
         let hash = |hash: u64, octet: u8| (hash ^ u64::from(octet)).wrapping_mul(NAME_HASH_FACTOR);
         let name = test.bytes().fold(NAME_HASH_START, hash);

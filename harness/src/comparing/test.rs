@@ -62,7 +62,7 @@ impl<'a> Run<'a> {
         Run { seed, percent, test, sides, replay, lists: 0, records: 0, captures: 0, calls: 0, coverage, place }
     }
 
-    /// A number of lists or records at the size of this run, at least one.
+    /// A number of lists, records or captures at the size of this run, at least one.
     pub fn scaled(&self, at_full_size: usize) -> usize {
         (at_full_size * self.percent / 100).max(1)
     }
