@@ -5,7 +5,7 @@ use mathlib.Core.List.{List, [], _∷_, _++_}
 use lib.Dec.{eqb}
 use Rattle.stream.specs.declared.Reply.{Reply}
 use Rattle.steps.specs.Outcome.{Outcome}
-use Rattle.port_laws.specs.Lists.{Call, opening, reserving, arriving, ticking, transmitting, joiningBestEffort, called, freshRecord, freshMemory}
+use Rattle.port_laws.specs.Lists.{Call, opening, reserving, arriving, ticking, transmitting, joiningBestEffort, called, quicklyCalled, freshRecord, freshMemory}
 use Rattle.text.specs.Lines.{lineOf}
 use Rattle.capture_file.specs.File.{kindOf, streamOf, numberA, numberB, firstOf, chainWithin, mostEvents}
 
@@ -22,6 +22,10 @@ callOf kind stream a b =
 -- the call of record i
 unfoldable pub callAt : List ℕ → ℕ → Call
 callAt f i = callOf (kindOf f i) (streamOf f i) (numberA f i) (numberB f i)
+
+-- what the quick call of record i leaves of a record and a memory
+abbrev pub quickEvent : List ℕ → ℕ → List ℕ → List ℕ → Outcome
+quickEvent f i p m = quicklyCalled (callAt f i) p m
 
 -- "one line per event: port, event number from 1, kind, refusal or 0, two reply numbers"
 unfoldable pub eventLine : ℕ → ℕ → ℕ → Reply → List ℕ

@@ -34,9 +34,13 @@ output f = cond (eqb (refusalOf f .number) 0) (portsText f portCount) (refusalTe
 abbrev pub mostLine : ℕ
 mostLine = 35
 
--- the octets that the memory for the text must have: a line for each event of each port, where every record after the header is on every chain
+-- the most octets of a port's lines, where every record after the header of the longest file is on its chain
+abbrev pub mostLines : ℕ
+mostLines = (mostOctets / recordOctets - 1) * mostLine
+
+-- the octets that the memory for the text must have
 abbrev pub textLength : ℕ
-textLength = portCount * ((mostOctets / recordOctets - 1) * mostLine)
+textLength = portCount * mostLines
 
 -- the reply and the memory for the text
 pub record Replayed : Type 0 where

@@ -10,7 +10,7 @@ ghost use Rattle.port_laws.specs.Lists.{quicklyCalled};
 ghost use Rattle.text.specs.Lines.{Wrote};
 ghost use Rattle.capture_file.specs.File.{HasRecord, kindOf, mostEvents, chainWithin};
 ghost use Rattle.capture_file.specs.Checks.{mostOctets, chainRefusal};
-ghost use Rattle.capture.specs.Events.{callOf, callAt, eventLine, linesOf};
+ghost use Rattle.capture.specs.Events.{callOf, eventLine, quickEvent, linesOf};
 ghost use Rattle.capture.specs.Output.{mostLine};
 
 // Makes the call of a kind.
@@ -38,7 +38,7 @@ fn call(kind: u8, stream: u8, a: u32, b: u32, port: &mut [u8], memory: &mut [u8]
 // Makes the call of a record.
 fn play(file: &[u8], index: u16, port: &mut [u8], memory: &mut [u8]) -> Reply
     requires { ⌜ HasRecord (now file) index ⌝ }
-    ensures { λ r. ⌜ outcome r (now (port .exit)) (now (memory .exit)) ≡ quicklyCalled (callAt (now (file .entry)) index) (now (port .entry)) (now (memory .entry)) ⌝ }
+    ensures { λ r. ⌜ outcome r (now (port .exit)) (now (memory .exit)) ≡ quickEvent (now (file .entry)) index (now (port .entry)) (now (memory .entry)) ⌝ }
 {
     call(
         capture_file::field::kind(file, index),
@@ -50,35 +50,35 @@ fn play(file: &[u8], index: u16, port: &mut [u8], memory: &mut [u8]) -> Reply
     )
 }
 
-// Plays a record as an event of a port, writes its line from `at` on, and returns the index after it.
+// Plays a record as this event of the port of this number, writes its line from `at` on, and returns the index after it.
 fn put_event(
     file: &[u8],
     index: u16,
-    number: u32,
-    place: u8,
+    event: u32,
+    number: u8,
     port: &mut [u8],
     memory: &mut [u8],
     text: &mut [u8],
     at: usize,
 ) -> usize
     requires { ⌜ HasRecord (now file) index ⌝ }
-    requires { ⌜ (place < 10) × ((number < 10000) × (kindOf (now file) index < 10)) ⌝ }
+    requires { ⌜ (number < 10) × ((event < 10000) × (kindOf (now file) index < 10)) ⌝ }
     requires { ⌜ at + mostLine ≤ length (now text) ⌝ }
-    ensures { λ r. ⌜ Wrote (now (text .entry)) at (eventLine place number (kindOf (now (file .entry)) index) (quicklyCalled (callAt (now (file .entry)) index) (now (port .entry)) (now (memory .entry)) .reply)) (now (text .exit)) r ⌝ }
-    ensures { λ r. ⌜ now (port .exit) ≡ quicklyCalled (callAt (now (file .entry)) index) (now (port .entry)) (now (memory .entry)) .port ⌝ }
-    ensures { λ r. ⌜ now (memory .exit) ≡ quicklyCalled (callAt (now (file .entry)) index) (now (port .entry)) (now (memory .entry)) .memory ⌝ }
+    ensures { λ r. ⌜ Wrote (now (text .entry)) at (eventLine number event (kindOf (now (file .entry)) index) (quickEvent (now (file .entry)) index (now (port .entry)) (now (memory .entry)) .reply)) (now (text .exit)) r ⌝ }
+    ensures { λ r. ⌜ now (port .exit) ≡ quickEvent (now (file .entry)) index (now (port .entry)) (now (memory .entry)) .port ⌝ }
+    ensures { λ r. ⌜ now (memory .exit) ≡ quickEvent (now (file .entry)) index (now (port .entry)) (now (memory .entry)) .memory ⌝ }
     ensures { λ r. ⌜ r ≤ at + mostLine ⌝ }
 {
     let reply = play(file, index, port, memory);
     let kind = capture_file::field::kind(file, index);
-    crate::lines::put_event(text, at, place, number, kind, reply)
+    crate::lines::put_event(text, at, number, event, kind, reply)
 }
 
-// Plays the records of a chain in turn, writes their lines from `at` on, and returns the index after them.
+// Plays the records of a chain in turn as the events of the port of this number, writes their lines from `at` on, and returns the index after them.
 pub(crate) fn put_chain(
     file: &[u8],
     first: u16,
-    place: u8,
+    number: u8,
     port: &mut [u8],
     memory: &mut [u8],
     text: &mut [u8],
@@ -86,19 +86,19 @@ pub(crate) fn put_chain(
 ) -> usize
     requires { ⌜ HasRecord (now file) first ⌝ }
     requires { ⌜ chainRefusal (now file) (mostEvents (now file)) first .number ≡ 0 ⌝ }
-    requires { ⌜ (place < 10) × (length (now file) ≤ mostOctets) ⌝ }
+    requires { ⌜ (number < 10) × (length (now file) ≤ mostOctets) ⌝ }
     requires { ⌜ recordFits (now port) (now memory) ≡ true ⌝ }
     requires { ⌜ at + mostEvents (now file) * mostLine ≤ length (now text) ⌝ }
-    ensures { λ r. ⌜ Wrote (now (text .entry)) at (linesOf (now (file .entry)) place 1 (chainWithin (now (file .entry)) (mostEvents (now (file .entry))) first) (now (port .entry)) (now (memory .entry))) (now (text .exit)) r ⌝ }
+    ensures { λ r. ⌜ Wrote (now (text .entry)) at (linesOf (now (file .entry)) number 1 (chainWithin (now (file .entry)) (mostEvents (now (file .entry))) first) (now (port .entry)) (now (memory .entry))) (now (text .exit)) r ⌝ }
     ensures { λ r. ⌜ r ≤ at + mostEvents (now (file .entry)) * mostLine ⌝ }
 {
     let mut to = at;
     let mut index = first;
-    let mut number: u32 = 1;
+    let mut event: u32 = 1;
     while index != 0 {
-        to = put_event(file, index, number, place, port, memory, text, to);
+        to = put_event(file, index, event, number, port, memory, text, to);
         index = capture_file::field::next(file, index);
-        number += 1;
+        event += 1;
     }
     to
 }

@@ -14,9 +14,12 @@ ghost use Rattle.text.specs.Lines.{Wrote};
 ghost use Rattle.capture.specs.Events.{portText};
 ghost use Rattle.capture.specs.Output.{portsText, output, mostLine, textLength, replayed, replayOf};
 
-// The octets that the memory for the text must have: a line for each event of each port.
-pub const TEXT_LENGTH: usize = capture_file::PORTS as usize
-    * ((capture_file::MOST_OCTETS / capture_file::field::RECORD_OCTETS - 1) * lines::MOST_LINE);
+// The most octets of a port's lines.
+const MOST_LINES: usize = (capture_file::MOST_OCTETS / capture_file::field::RECORD_OCTETS - 1)
+    * lines::MOST_LINE;
+
+// The octets that the memory for the text must have.
+pub const TEXT_LENGTH: usize = capture_file::PORTS as usize * MOST_LINES;
 
 // Plays the events of a port on a record and a memory of its own, writes their lines from `at` on, and returns the index after them.
 fn put_port(file: &[u8], port: u8, text: &mut [u8], at: usize) -> usize

@@ -10,22 +10,22 @@ ghost use Rattle.capture.specs.Output.{refusalText, mostLine};
 // The most octets of a line.
 pub const MOST_LINE: usize = 35;
 
-// Writes the line of an event from `at` on, and returns the index after it.
+// Writes the line of a port's event from `at` on, and returns the index after it.
 pub(crate) fn put_event(
     text: &mut [u8],
     at: usize,
     port: u8,
-    number: u32,
+    event: u32,
     kind: u8,
     reply: Reply,
 ) -> usize
     requires { ⌜ at + mostLine ≤ length (now text) ⌝ }
-    requires { ⌜ (port < 10) × ((number < 10000) × (kind < 10)) ⌝ }
-    ensures { λ r. ⌜ Wrote (now (text .entry)) at (eventLine port number kind reply) (now (text .exit)) r ⌝ }
+    requires { ⌜ (port < 10) × ((event < 10000) × (kind < 10)) ⌝ }
+    ensures { λ r. ⌜ Wrote (now (text .entry)) at (eventLine port event kind reply) (now (text .exit)) r ⌝ }
     ensures { λ r. ⌜ r ≤ at + mostLine ⌝ }
 {
-    let number_at = text::put_number(text, at, port as u32, text::SPACE);
-    let kind_at = text::put_number(text, number_at, number, text::SPACE);
+    let event_at = text::put_number(text, at, port as u32, text::SPACE);
+    let kind_at = text::put_number(text, event_at, event, text::SPACE);
     let refusal_at = text::put_number(text, kind_at, kind as u32, text::SPACE);
     let first_at = text::put_number(text, refusal_at, reply.refusal as u32, text::SPACE);
     let second_at = text::put_number(text, first_at, reply.first, text::SPACE);

@@ -3,8 +3,10 @@
 use libc::STDIN_FILENO;
 use libc::STDOUT_FILENO;
 ghost use mathlib.Core.Path.{_≡_};
-ghost use Prim.Native.Nat.{_≤_};
+ghost use Prim.Native.Nat.{_+_};
 ghost use lib.ListN.{length};
+ghost use Rattle.capture_file.specs.Checks.{mostOctets};
+ghost use Rattle.capture.specs.Output.{textLength};
 ghost use Rattle.replay.specs.Input.{Within};
 
 // Room for the longest capture and one octet more, by which a longer file shows.
@@ -18,14 +20,14 @@ enum Input {
 
 // Room for a file.
 fn file_room() -> [u8; FILE_LENGTH]
-    ensures { λ r. ⌜ 65537 ≡ length r ⌝ }
+    ensures { λ r. ⌜ mostOctets + 1 ≡ length r ⌝ }
 {
     [0; FILE_LENGTH]
 }
 
 // Room for the text of any file.
 fn text_room() -> [u8; capture::TEXT_LENGTH]
-    ensures { λ r. ⌜ 573300 ≡ length r ⌝ }
+    ensures { λ r. ⌜ textLength ≡ length r ⌝ }
 {
     [0; capture::TEXT_LENGTH]
 }

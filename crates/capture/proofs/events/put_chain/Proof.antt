@@ -8,31 +8,31 @@ use Rattle.capture.proofs.events.put_chain.Statement.{statement}
 use Rattle.capture.proofs.events.put_chain.Tie as tie
 
 abbrev Inv-loop : tie.InvT-loop
-Inv-loop file first place port₀ memory₀ text₀ at to₀ index₀ number₀ port memory text to index number =
-    Came file place first at port₀ memory₀ text₀ port memory text to index number
+Inv-loop file first number port₀ memory₀ text₀ at to₀ index₀ event₀ port memory text to index event =
+    Came file number first at port₀ memory₀ text₀ port memory text to index event
 
 abbrev μ-loop : tie.MeasureT-loop
-μ-loop file first place port₀ memory₀ text₀ at to₀ index₀ number₀ port memory text to index number = recordCount file - number
+μ-loop file first number port₀ memory₀ text₀ at to₀ index₀ event₀ port memory text to index event = recordCount file - event
 
 loop-holds : tie.Need-loop-holds Inv-loop μ-loop
 loop-holds c =
     let a = c .before .before .before .before .args in
     let pre = c .before .before .before .before .pre in
-    begins (a .file .now) (a .place) (a .first) (a .at) (a .port .now) (a .memory .now) (a .text .now) (pre .0) (pre .1 .0) (pre .1 .1 .1 .0)
+    begins (a .file .now) (a .number) (a .first) (a .at) (a .port .now) (a .memory .now) (a .text .now) (pre .0) (pre .1 .0) (pre .1 .1 .1 .0)
 
 put-event-requires : tie.Need-put-event-requires Inv-loop μ-loop
 put-event-requires c κs =
     let l = c .before .before .before .before .loop in
     let a = c .before .before .before .before .before .before .before .before .before .args in
     let f = a .file .now in
-    let turn = in-turn f (a .place) (a .first) (a .at) (a .port .now) (a .memory .now) (a .text .now) (l .port) (l .memory) (l .text) (l .to) (l .index) (l .number) (c .before .before .before .loop-test .taken) (l .inv) (c .before .before .before .before .before .before .before .before .before .pre .1 .1 .0 .1) (c .before .before .before .before .before .before .before .before .before .pre .1 .1 .1 .1) in
+    let turn = in-turn f (a .number) (a .first) (a .at) (a .port .now) (a .memory .now) (a .text .now) (l .port) (l .memory) (l .text) (l .to) (l .index) (l .event) (c .before .before .before .loop-test .taken) (l .inv) (c .before .before .before .before .before .before .before .before .before .pre .1 .1 .0 .1) (c .before .before .before .before .before .before .before .before .before .pre .1 .1 .1 .1) in
     (l .inv .has, ((c .before .before .before .before .before .before .before .before .before .pre .1 .1 .0 .0, (turn .0, turn .1 .0)), turn .1 .1))
 
 next-requires : tie.Need-next-requires Inv-loop μ-loop
 next-requires c κs = c .before .before .before .before .before .before .before .before .before .before .before .loop .inv .has
 
-add-number : tie.Need-add-number Inv-loop μ-loop
-add-number c = record { fits = omega (arith, c .before .before .before .before .before .before .before .before .before .before .before .before .loop .inv .counted .1, c .before .before .before .before .before .before .before .before .before .before .before .before .before .before .before .before .before .pre .1 .1 .0 .1) }
+add-event : tie.Need-add-event Inv-loop μ-loop
+add-event c = record { fits = omega (arith, c .before .before .before .before .before .before .before .before .before .before .before .before .loop .inv .counted .1, c .before .before .before .before .before .before .before .before .before .before .before .before .before .before .before .before .before .pre .1 .1 .0 .1) }
 
 loop-less : tie.Need-loop-less Inv-loop μ-loop
 loop-less c = omega (arith, c .before .before .before .before .before .before .before .before .before .before .before .before .loop .inv .has, c .before .before .before .before .before .before .before .before .before .before .before .before .loop .inv .beyond (c .before .before .before .before .before .before .before .before .before .before .before .loop-test .taken))
@@ -44,7 +44,7 @@ loop-again c =
     let f = a .file .now in
     let w = c .before .before .before .before .before .before .before .put-event in
     rw (c .next .ensures)
-    (goes-on f (a .place) (a .first) (a .at) (a .port .now) (a .memory .now) (a .text .now) (l .port) (l .memory) (l .text) (l .to) (l .index) (l .number) (c .before .before .before .before .before .before .before .before .before .before .before .loop-test .taken) (l .inv) _ _ _ (w .result) (w .ensures .0) (w .ensures .1 .0) (w .ensures .1 .1 .0) (w .ensures .1 .1 .1) (w .kept .1 .1 .1 .1 .0, (w .kept .1 .1 .1 .1 .1 .0, w .kept .1 .1 .1 .1 .1 .1 .0)))
+    (goes-on f (a .number) (a .first) (a .at) (a .port .now) (a .memory .now) (a .text .now) (l .port) (l .memory) (l .text) (l .to) (l .index) (l .event) (c .before .before .before .before .before .before .before .before .before .before .before .loop-test .taken) (l .inv) _ _ _ (w .result) (w .ensures .0) (w .ensures .1 .0) (w .ensures .1 .1 .0) (w .ensures .1 .1 .1) (w .kept .1 .1 .1 .1 .0, (w .kept .1 .1 .1 .1 .1 .0, w .kept .1 .1 .1 .1 .1 .1 .0)))
 
 same-length : tie.Need-same-length Inv-loop μ-loop
 same-length c = c .before .loop .inv .kept .0
@@ -60,8 +60,8 @@ returns c =
     let l = c .before .loop in
     let a = c .before .before .before .before .before .before .args in
     let f = a .file .now in
-    let done = subst (λ (i : ℕ). Came f (a .place) (a .first) (a .at) (a .port .now) (a .memory .now) (a .text .now) (l .port) (l .memory) (l .text) (l .to) i (l .number)) (c .loop-test .left) (l .inv) in
-    (finishes f (a .place) (a .first) (a .at) (a .port .now) (a .memory .now) (a .text .now) (l .port) (l .memory) (l .text) (l .to) (l .number) done, omega (arith, l .inv .room))
+    let done = subst (λ (i : ℕ). Came f (a .number) (a .first) (a .at) (a .port .now) (a .memory .now) (a .text .now) (l .port) (l .memory) (l .text) (l .to) i (l .event)) (c .loop-test .left) (l .inv) in
+    (finishes f (a .number) (a .first) (a .at) (a .port .now) (a .memory .now) (a .text .now) (l .port) (l .memory) (l .text) (l .to) (l .event) done, omega (arith, l .inv .room))
 
 pub put-chain-spec : {M : Type 1} → statement M
 put-chain-spec =
@@ -72,7 +72,7 @@ put-chain-spec =
     loop-holds
     put-event-requires
     next-requires
-    add-number
+    add-event
     loop-less
     loop-again
     same-length

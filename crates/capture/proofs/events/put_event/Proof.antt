@@ -33,7 +33,7 @@ returns c =
     let a = c .before .before .before .before .before .before .before .before .before .before .before .before .before .before .before .before .args in
     let w = c .before .before .put-event in
     let o = c .before .before .before .before .before .before .before .before .before .play .ensures in
-    let line = ap₂ (eventLine (a .place) (a .number)) (c .before .before .before .before .kind .ensures) (ap (λ (x : Outcome). x .reply) o) in (
+    let line = ap₂ (eventLine (a .number) (a .event)) (c .before .before .before .before .kind .ensures) (ap (λ (x : Outcome). x .reply) o) in (
       (w .ensures .0 .0 ∙ ap (λ (t : List ℕ). a .at + length t) line, w .ensures .0 .1 ∙ ap (put (a .text .now) (a .at)) line),
       (ap (λ (x : Outcome). x .port) o, (ap (λ (x : Outcome). x .memory) o, w .ensures .1)),
     )
