@@ -4,28 +4,22 @@ use mathlib.Core.Bool.{cond}
 use mathlib.Core.List.{List, [], _∷_, _++_}
 use lib.Dec.{eqb}
 use Rattle.stream.specs.declared.Reply.{Reply}
-use Rattle.steps.specs.Outcome.{Outcome}
-use Rattle.port_laws.specs.Lists.{Call, opening, reserving, arriving, ticking, transmitting, joiningBestEffort, called, quicklyCalled, freshRecord, freshMemory}
+use Rattle.port_laws.specs.Lists.{Call, opening, reserving, arriving, ticking, transmitting, joiningBestEffort, called, freshRecord, freshMemory}
 use Rattle.text.specs.Lines.{lineOf}
-use Rattle.capture_file.specs.File.{kindOf, streamOf, numberA, numberB, firstOf, chainWithin, mostEvents}
+use Rattle.capture_file.specs.File.{kindOf, streamOf, numberA, numberB, openKind, reserveKind, arriveKind, bestEffortKind, tickKind, firstOf, chainWithin, mostEvents}
 
--- "1 open (A = L, B = K); 2 reserve (A = P); 3 arrive (A charge, B tag); 4 best effort (A charge, B tag); 5 tick; 6 transmit", and no other kind
--- passes the checks
+-- "open (A = L, B = K); reserve (A = P); arrive (A charge, B tag); best effort (A charge, B tag); tick; transmit", and no other kind passes the checks
 abbrev pub callOf : ℕ → ℕ → ℕ → ℕ → Call
 callOf kind stream a b =
-    cond (eqb kind 1) (opening a b)
-    (cond (eqb kind 2) (reserving stream a)
-    (cond (eqb kind 3) (arriving stream a b)
-    (cond (eqb kind 4) (joiningBestEffort a b)
-    (cond (eqb kind 5) ticking transmitting))))
+    cond (eqb kind openKind) (opening a b)
+    (cond (eqb kind reserveKind) (reserving stream a)
+    (cond (eqb kind arriveKind) (arriving stream a b)
+    (cond (eqb kind bestEffortKind) (joiningBestEffort a b)
+    (cond (eqb kind tickKind) ticking transmitting))))
 
 -- the call of record i
 unfoldable pub callAt : List ℕ → ℕ → Call
 callAt f i = callOf (kindOf f i) (streamOf f i) (numberA f i) (numberB f i)
-
--- what the quick call of record i leaves of a record and a memory
-abbrev pub quickEvent : List ℕ → ℕ → List ℕ → List ℕ → Outcome
-quickEvent f i p m = quicklyCalled (callAt f i) p m
 
 -- "one line per event: port, event number from 1, kind, refusal or 0, two reply numbers"
 unfoldable pub eventLine : ℕ → ℕ → ℕ → Reply → List ℕ

@@ -7,7 +7,7 @@ use lib.Dec.{eqb, ltb}
 use Rattle.lists.specs.Window.{put}
 use Rattle.stream.specs.declared.Reply.{Reply}
 use Rattle.stream.specs.Replies.{granted, refusedBy}
-use Rattle.text.specs.Lines.{lineOf}
+use Rattle.text.specs.Lines.{space, lineOf}
 use Rattle.capture_file.specs.declared.FileRefusal.{FileRefusal}
 use Rattle.capture_file.specs.File.{portCount, recordOctets}
 use Rattle.capture_file.specs.Checks.{mostOctets, refusalOf}
@@ -20,7 +20,7 @@ portsText f (suc n) = portsText f n ++ portText f n
 
 -- "a bad file prints only `refused N I`", in ASCII, the word with the space after it
 abbrev pub refusedWord : List ℕ
-refusedWord = 114 ∷ 101 ∷ 102 ∷ 117 ∷ 115 ∷ 101 ∷ 100 ∷ 32 ∷ []
+refusedWord = 114 ∷ 101 ∷ 102 ∷ 117 ∷ 115 ∷ 101 ∷ 100 ∷ space ∷ []
 
 abbrev pub refusalText : FileRefusal → List ℕ
 refusalText r = refusedWord ++ lineOf (r .number ∷ r .index ∷ [])
@@ -29,18 +29,18 @@ refusalText r = refusedWord ++ lineOf (r .number ∷ r .index ∷ [])
 unfoldable pub output : List ℕ → List ℕ
 output f = cond (eqb (refusalOf f .number) 0) (portsText f portCount) (refusalText (refusalOf f))
 
--- the most octets of a line: a port and a kind of one digit, an event's number of four, a refusal of three, two numbers of ten, and six octets
+-- the octets of the longest line: a port and a kind of one digit, an event's number of four, a refusal of three, two numbers of ten, and six octets
 -- between and after them
-abbrev pub mostLine : ℕ
-mostLine = 35
+abbrev pub longestLine : ℕ
+longestLine = 35
 
--- the most octets of a port's lines, where every record after the header of the longest file is on its chain
-abbrev pub mostLines : ℕ
-mostLines = (mostOctets / recordOctets - 1) * mostLine
+-- the octets of the longest text of a port, where every record after the header of the longest file is on its chain
+abbrev pub longestPortText : ℕ
+longestPortText = (mostOctets / recordOctets - 1) * longestLine
 
 -- the octets that the memory for the text must have
 abbrev pub textLength : ℕ
-textLength = portCount * mostLines
+textLength = portCount * longestPortText
 
 -- the reply and the memory for the text
 pub record Replayed : Type 0 where

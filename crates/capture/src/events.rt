@@ -5,13 +5,14 @@ ghost use mathlib.Core.Bool.{true};
 ghost use Prim.Native.Nat.{_+_, _*_, _≤_, _<_};
 ghost use lib.ListN.{length};
 ghost use Rattle.fitness.specs.Fit.{recordFits};
-ghost use Rattle.steps.specs.Outcome.{Outcome, outcome};
+ghost use Rattle.steps.specs.Outcome.{outcome};
 ghost use Rattle.port_laws.specs.Lists.{quicklyCalled};
 ghost use Rattle.text.specs.Lines.{Wrote};
 ghost use Rattle.capture_file.specs.File.{HasRecord, kindOf, mostEvents, chainWithin};
 ghost use Rattle.capture_file.specs.Checks.{mostOctets, chainRefusal};
-ghost use Rattle.capture.specs.Events.{callOf, eventLine, quickEvent, linesOf};
-ghost use Rattle.capture.specs.Output.{mostLine};
+ghost use Rattle.capture.specs.Events.{callOf, eventLine, linesOf};
+ghost use Rattle.capture.specs.Output.{longestLine};
+ghost use Rattle.capture.specs.Quick.{quickEvent};
 
 // Makes the call of a kind.
 fn call(kind: u8, stream: u8, a: u32, b: u32, port: &mut [u8], memory: &mut [u8]) -> Reply
@@ -63,15 +64,15 @@ fn put_event(
 ) -> usize
     requires { ⌜ HasRecord (now file) index ⌝ }
     requires { ⌜ (number < 10) × ((event < 10000) × (kindOf (now file) index < 10)) ⌝ }
-    requires { ⌜ at + mostLine ≤ length (now text) ⌝ }
+    requires { ⌜ at + longestLine ≤ length (now text) ⌝ }
     ensures { λ r. ⌜ Wrote (now (text .entry)) at (eventLine number event (kindOf (now (file .entry)) index) (quickEvent (now (file .entry)) index (now (port .entry)) (now (memory .entry)) .reply)) (now (text .exit)) r ⌝ }
     ensures { λ r. ⌜ now (port .exit) ≡ quickEvent (now (file .entry)) index (now (port .entry)) (now (memory .entry)) .port ⌝ }
     ensures { λ r. ⌜ now (memory .exit) ≡ quickEvent (now (file .entry)) index (now (port .entry)) (now (memory .entry)) .memory ⌝ }
-    ensures { λ r. ⌜ r ≤ at + mostLine ⌝ }
+    ensures { λ r. ⌜ r ≤ at + longestLine ⌝ }
 {
     let reply = play(file, index, port, memory);
     let kind = capture_file::field::kind(file, index);
-    crate::lines::put_event(text, at, number, event, kind, reply)
+    crate::lines::put_line(text, at, number, event, kind, reply)
 }
 
 // Plays the records of a chain in turn as the events of the port of this number, writes their lines from `at` on, and returns the index after them.
@@ -88,9 +89,9 @@ pub(crate) fn put_chain(
     requires { ⌜ chainRefusal (now file) (mostEvents (now file)) first .number ≡ 0 ⌝ }
     requires { ⌜ (number < 10) × (length (now file) ≤ mostOctets) ⌝ }
     requires { ⌜ recordFits (now port) (now memory) ≡ true ⌝ }
-    requires { ⌜ at + mostEvents (now file) * mostLine ≤ length (now text) ⌝ }
+    requires { ⌜ at + mostEvents (now file) * longestLine ≤ length (now text) ⌝ }
     ensures { λ r. ⌜ Wrote (now (text .entry)) at (linesOf (now (file .entry)) number 1 (chainWithin (now (file .entry)) (mostEvents (now (file .entry))) first) (now (port .entry)) (now (memory .entry))) (now (text .exit)) r ⌝ }
-    ensures { λ r. ⌜ r ≤ at + mostEvents (now (file .entry)) * mostLine ⌝ }
+    ensures { λ r. ⌜ r ≤ at + mostEvents (now (file .entry)) * longestLine ⌝ }
 {
     let mut to = at;
     let mut index = first;

@@ -4,29 +4,43 @@ mod lines;
 
 use stream::Reply;
 ghost use mathlib.Core.Path.{_≡_};
-ghost use Prim.Native.Nat.{_+_, _-_, _*_, _≤_, _<_};
+ghost use Prim.Native.Nat.{_+_, _*_, _≤_, _<_};
 ghost use lib.ListN.{length};
-ghost use Rattle.capture_file.specs.declared.FileRefusal.{FileRefusal};
 ghost use Rattle.capture_file.specs.File.{portCount, mostEvents};
-ghost use Rattle.capture_file.specs.Checks.{allGood, refusalOf};
+ghost use Rattle.capture_file.specs.Checks.{refusalOf};
 ghost use Rattle.port_laws.specs.Lists.{freshRecord, freshMemory};
 ghost use Rattle.text.specs.Lines.{Wrote};
 ghost use Rattle.capture.specs.Events.{portText};
-ghost use Rattle.capture.specs.Output.{portsText, output, mostLine, textLength, replayed, replayOf};
+ghost use Rattle.capture.specs.Output.{portsText, output, longestLine, textLength, replayed, replayOf};
 
-// The most octets of a port's lines.
-const MOST_LINES: usize = (capture_file::MOST_OCTETS / capture_file::field::RECORD_OCTETS - 1)
-    * lines::MOST_LINE;
+// The octets of the longest text of a port.
+const LONGEST_PORT_TEXT: usize = (capture_file::MOST_OCTETS / capture_file::field::RECORD_OCTETS
+    - 1)
+    * lines::LONGEST_LINE;
 
 // The octets that the memory for the text must have.
-pub const TEXT_LENGTH: usize = capture_file::PORTS as usize * MOST_LINES;
+pub const TEXT_LENGTH: usize = capture_file::PORTS as usize * LONGEST_PORT_TEXT;
+
+// A record of a port that was never opened.
+fn fresh_record() -> [u8; record::RECORD_LENGTH]
+    ensures { λ r. ⌜ r ≡ freshRecord ⌝ }
+{
+    [0; record::RECORD_LENGTH]
+}
+
+// The memory that such a port is lent.
+fn fresh_memory() -> [u8; record::MEMORY_LENGTH]
+    ensures { λ r. ⌜ r ≡ freshMemory ⌝ }
+{
+    [0; record::MEMORY_LENGTH]
+}
 
 // Plays the events of a port on a record and a memory of its own, writes their lines from `at` on, and returns the index after them.
 fn put_port(file: &[u8], port: u8, text: &mut [u8], at: usize) -> usize
     requires { ⌜ refusalOf (now file) .number ≡ 0 ⌝ }
-    requires { ⌜ (port < portCount) × (at + mostEvents (now file) * mostLine ≤ length (now text)) ⌝ }
+    requires { ⌜ (port < portCount) × (at + mostEvents (now file) * longestLine ≤ length (now text)) ⌝ }
     ensures { λ r. ⌜ Wrote (now (text .entry)) at (portText (now (file .entry)) port) (now (text .exit)) r ⌝ }
-    ensures { λ r. ⌜ r ≤ at + mostEvents (now (file .entry)) * mostLine ⌝ }
+    ensures { λ r. ⌜ r ≤ at + mostEvents (now (file .entry)) * longestLine ⌝ }
 {
     let mut record = fresh_record();
     let mut memory = fresh_memory();
@@ -73,18 +87,4 @@ pub fn replay(file: &[u8], text: &mut [u8]) -> Reply
     }
     let length = put_output(file, text);
     steps::granted(length as u32, 0)
-}
-
-// A record of a port that was never opened.
-fn fresh_record() -> [u8; record::RECORD_LENGTH]
-    ensures { λ r. ⌜ r ≡ freshRecord ⌝ }
-{
-    [0; record::RECORD_LENGTH]
-}
-
-// The memory that such a port is lent.
-fn fresh_memory() -> [u8; record::MEMORY_LENGTH]
-    ensures { λ r. ⌜ r ≡ freshMemory ⌝ }
-{
-    [0; record::MEMORY_LENGTH]
 }

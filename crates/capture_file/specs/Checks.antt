@@ -6,7 +6,7 @@ use lib.ListN.{length}
 use lib.Dec.{leb, ltb, eqb}
 use Rattle.lists.specs.Equal.{octetsEqual}
 use Rattle.capture_file.specs.declared.FileRefusal.{FileRefusal}
-use Rattle.capture_file.specs.File.{recordOctets, recordCount, portCount, letters, lettersOf, firstOf, kindOf, streamOf, nextOf, numberA, numberB, endOf, mostEvents}
+use Rattle.capture_file.specs.File.{recordOctets, recordCount, portCount, letters, lettersOf, firstOf, kindOf, streamOf, nextOf, numberA, numberB, openKind, reserveKind, arriveKind, bestEffortKind, tickKind, transmitKind, bestEffortOctet, endOf, mostEvents}
 
 -- a refusal names "the record index (0 for the whole file or the header)"
 abbrev pub refusedAt : ℕ → ℕ → FileRefusal
@@ -43,16 +43,15 @@ nextGood f i = eqb (nextOf f i) 0 || (ltb i (nextOf f i) && ltb (nextOf f i) (re
 abbrev pub allZero : ℕ → ℕ → ℕ → Bool
 allZero stream a b = eqb stream 0 && (eqb a 0 && eqb b 0)
 
--- "Kinds: 1 open (A = L, B = K); 2 reserve (A = P); 3 arrive (A charge, B tag); 4 best effort (A charge, B tag); 5 tick; 6 transmit. The stream
--- octet is any value in 2 and 3, 255 in 4, else 0. Unused A and B are 0"
+-- "The stream octet is any value in 2 and 3, 255 in 4, else 0. Unused A and B are 0"; there is no other kind
 abbrev pub fieldsGood : ℕ → ℕ → ℕ → ℕ → Bool
 fieldsGood kind stream a b =
-    cond (eqb kind 1) (eqb stream 0)
-    (cond (eqb kind 2) (eqb b 0)
-    (cond (eqb kind 3) true
-    (cond (eqb kind 4) (eqb stream 255)
-    (cond (eqb kind 5) (allZero stream a b)
-    (cond (eqb kind 6) (allZero stream a b) false)))))
+    cond (eqb kind openKind) (eqb stream 0)
+    (cond (eqb kind reserveKind) (eqb b 0)
+    (cond (eqb kind arriveKind) true
+    (cond (eqb kind bestEffortKind) (eqb stream bestEffortOctet)
+    (cond (eqb kind tickKind) (allZero stream a b)
+    (cond (eqb kind transmitKind) (allZero stream a b) false)))))
 
 -- 24 "kind, stream octet, unused number or zero octets"
 unfoldable pub recordGood : List ℕ → ℕ → Bool

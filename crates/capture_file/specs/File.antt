@@ -51,6 +51,29 @@ numberA f i = fourOf (get f (recordStart i + 4) 4)
 unfoldable pub numberB : List ℕ → ℕ → ℕ
 numberB f i = fourOf (get f (recordStart i + 8) 4)
 
+-- "Kinds: 1 open (A = L, B = K); 2 reserve (A = P); 3 arrive (A charge, B tag); 4 best effort (A charge, B tag); 5 tick; 6 transmit"
+abbrev pub openKind : ℕ
+openKind = 1
+
+abbrev pub reserveKind : ℕ
+reserveKind = 2
+
+abbrev pub arriveKind : ℕ
+arriveKind = 3
+
+abbrev pub bestEffortKind : ℕ
+bestEffortKind = 4
+
+abbrev pub tickKind : ℕ
+tickKind = 5
+
+abbrev pub transmitKind : ℕ
+transmitKind = 6
+
+-- the stream octet of best effort
+abbrev pub bestEffortOctet : ℕ
+bestEffortOctet = 255
+
 -- the four octets that end every record, as a number: 0 where all are zero
 unfoldable pub endOf : List ℕ → ℕ → ℕ
 endOf f i = fourOf (get f (recordStart i + 12) 4)

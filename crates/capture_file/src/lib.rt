@@ -4,7 +4,7 @@ pub mod field;
 ghost use mathlib.Core.Path.{_≡_};
 ghost use Prim.Native.Nat.{_<_, _≤_};
 ghost use lib.ListN.{length};
-ghost use Rattle.capture_file.specs.File.{recordCount, HasRecord, recordOctets, portCount, mostEvents, firstOf};
+ghost use Rattle.capture_file.specs.File.{HasRecord, recordOctets, portCount, mostEvents};
 ghost use Rattle.capture_file.specs.Checks.{refusedAt, lengthGood, headerGood, firstGood, nextGood, allZero, fieldsGood, recordGood, recordRefusal, chainRefusal, portRefusal, portsRefusal, refusalOf};
 
 // A refusal of a file: its number, or 0 where nothing is refused, and the index of the record.

@@ -59,6 +59,10 @@ mid-get l i (suc n) h =
     ap (take (suc n)) (drop-cons l i 0 (omega arith))
     ∙ ap (λ (r : List ℕ). getD l i 0 ∷ r) (ap (λ (k : ℕ). midOf k n l) further ∙ mid-get l (i + 1) n (omega arith))
 
+-- what was written at the front is the front
+pub take-put : (l vs : List ℕ) → length vs ≤ length l → take (length vs) (put l 0 vs) ≡ vs
+take-put l vs h = mid-get (put l 0 vs) 0 (length vs) (simp length-put (omega arith)) ∙ get-put l 0 vs (omega arith)
+
 -- one octet written before or after others that lie apart
 set-put : (l : List ℕ) (i : ℕ) (vs : List ℕ) (k a : ℕ) → Apart k 1 i (length vs) → set (put l i vs) k a ≡ put (set l k a) i vs
 set-put l i [] k a h = refl

@@ -3,10 +3,10 @@
 use libc::STDIN_FILENO;
 use libc::STDOUT_FILENO;
 ghost use mathlib.Core.Path.{_≡_};
-ghost use Prim.Native.Nat.{_+_};
-ghost use lib.ListN.{length};
+ghost use Prim.Native.Nat.{_+_, _≤_};
+ghost use lib.ListN.{length, take};
 ghost use Rattle.capture_file.specs.Checks.{mostOctets};
-ghost use Rattle.capture.specs.Output.{textLength};
+ghost use Rattle.capture.specs.Output.{textLength, output};
 ghost use Rattle.replay.specs.Input.{Within};
 
 // Room for the longest capture and one octet more, by which a longer file shows.
@@ -51,11 +51,19 @@ fn read_input(file: &mut [u8]) -> Input
     Input::Octets(done)
 }
 
-// Writes the replay of the file.
-fn write_replay(file: &[u8]) {
+// Puts the output of the file at the front of the room, and returns its length. The room is long enough, so nothing of it is refused with 18.
+fn put_output(file: &[u8], text: &mut [u8]) -> usize
+    requires { ⌜ textLength ≤ length (now text) ⌝ }
+    ensures { λ r. ⌜ (r ≤ length (now (text .exit))) × (take r (now (text .exit)) ≡ output (now (file .entry))) ⌝ }
+{
+    let reply = capture::replay(file, text);
+    reply.first as usize
+}
+
+// Writes the output of the file.
+fn write_output(file: &[u8]) {
     let mut text = text_room();
-    let reply = capture::replay(file, &mut text);
-    let end = reply.first as usize;
+    let end = put_output(file, &mut text);
     if !io::write_all(STDOUT_FILENO, &text[..end]) {
         os::fail(b"replay: standard output");
     }
@@ -64,7 +72,7 @@ fn write_replay(file: &[u8]) {
 fn main() {
     let mut file = file_room();
     match read_input(&mut file) {
-        Input::Octets(length) => write_replay(&file[..length]),
+        Input::Octets(length) => write_output(&file[..length]),
         Input::Failed => os::fail(b"replay: standard input"),
     }
 }

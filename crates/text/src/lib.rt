@@ -39,7 +39,7 @@ fn put_digits(text: &mut [u8], at: usize, number: u32) -> usize
     let end = at + places(number);
     let mut to = end;
     let mut rest = number;
-    while 10 <= rest {
+    while rest >= 10 {
         to -= 1;
         text[to] = octet(rest % 10);
         rest /= 10;

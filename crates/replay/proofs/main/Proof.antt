@@ -22,13 +22,13 @@ array-share-prefix-file c =
     let within = rw (c .before .length .given .1) at (c .before .before .before .before .read-input .ensures) in
     omega (arith, within, c .before .before .before .before .read-input .kept .0, c .before .before .before .before .before .before .file-room .ensures)
 
-slice-aggregate-write-replay : tie.Need-slice-aggregate-write-replay
-slice-aggregate-write-replay c =
+slice-aggregate-write-output : tie.Need-slice-aggregate-write-output
+slice-aggregate-write-output c =
     let within = rw (c .before .before .length .given .1) at (c .before .before .before .before .before .read-input .ensures) in
     simp length-take (omega (arith, within, c .before .before .before .before .before .read-input .kept .0, c .before .before .before .before .before .before .before .file-room .ensures))
 
-write-replay-requires : tie.Need-write-replay-requires
-write-replay-requires c κs = search needs
+write-output-requires : tie.Need-write-output-requires
+write-output-requires c κs = search needs
 
 enum-told : tie.Need-enum-told
 enum-told c = search needs
@@ -54,8 +54,8 @@ main-spec =
     read-input-requires
     enum-known-length
     array-share-prefix-file
-    slice-aggregate-write-replay
-    write-replay-requires
+    slice-aggregate-write-output
+    write-output-requires
     enum-told
     slice-aggregate-fail
     fail-requires

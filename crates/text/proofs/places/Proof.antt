@@ -5,7 +5,6 @@ use Prim.Native.Nat.{_≤_, _+_}
 use mathlib.Core.Path.{_≡_}
 use Rattle.text.specs.Digits.{digits}
 use Rattle.text.proofs.DigitLaws.{length-one, length-more}
-use lib.ListN.{length}
 use Rattle.text.proofs.places.Statement.{statement}
 use Rattle.text.proofs.places.Tie as tie
 

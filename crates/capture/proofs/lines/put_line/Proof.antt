@@ -1,12 +1,12 @@
--- `capture::lines::put_event` meets its contract. Six numbers, each written where the one before it ends. Assumes nothing.
+-- `capture::lines::put_line` meets its contract. Six numbers, each written where the one before it ends. Assumes nothing.
 use borrow.Author.Needs.{needs}
 use native.Mathlib.Omega.{arith}
 use Rattle.capture.proofs.LineLaws.{wrote-six}
 use Rattle.capture.specs.Events.{eventLine}
 use Rattle.text.proofs.LineLaws.{length-number}
 use Rattle.text.specs.Lines.{lineFeed, space}
-use Rattle.capture.proofs.lines.put_event.Statement.{statement}
-use Rattle.capture.proofs.lines.put_event.Tie as tie
+use Rattle.capture.proofs.lines.put_line.Statement.{statement}
+use Rattle.capture.proofs.lines.put_line.Tie as tie
 
 put-number-requires : tie.Need-put-number-requires
 put-number-requires c κs =
@@ -51,8 +51,8 @@ returns c =
     let w = wrote-six (a .text .now) (a .at) (a .port) (a .event) (a .kind) (a .reply .refusal) (a .reply .first) (a .reply .second) (c .before .before .before .before .before .before .before .before .before .before .before .before .before .before .before .before .before .before .before .before .before .before .before .put-number .ensures) (c .before .before .before .before .before .before .before .before .before .before .before .before .before .before .before .before .before .before .before .put-number2 .ensures) (c .before .before .before .before .before .before .before .before .before .before .before .before .before .before .before .put-number3 .ensures) (c .before .before .before .before .before .before .before .before .before .before .put-number4 .ensures) (c .before .before .before .before .before .before .put-number5 .ensures) (c .before .before .put-number6 .ensures) in
     (w, omega (arith, length-number 0 (a .port) space (omega (arith, c .before .before .before .before .before .before .before .before .before .before .before .before .before .before .before .before .before .before .before .before .before .before .before .before .before .before .pre .1 .0)), length-number 3 (a .event) space (omega (arith, c .before .before .before .before .before .before .before .before .before .before .before .before .before .before .before .before .before .before .before .before .before .before .before .before .before .before .pre .1 .1 .0)), length-number 0 (a .kind) space (omega (arith, c .before .before .before .before .before .before .before .before .before .before .before .before .before .before .before .before .before .before .before .before .before .before .before .before .before .before .pre .1 .1 .1)), length-number 2 (a .reply .refusal) space (omega arith), length-number 9 (a .reply .first) space (omega arith), length-number 9 (a .reply .second) lineFeed (omega arith), c .before .before .before .before .before .before .before .before .before .before .before .before .before .before .before .before .before .before .before .before .before .before .before .put-number .ensures .0, c .before .before .before .before .before .before .before .before .before .before .before .before .before .before .before .before .before .before .before .put-number2 .ensures .0, c .before .before .before .before .before .before .before .before .before .before .before .before .before .before .before .put-number3 .ensures .0, c .before .before .before .before .before .before .before .before .before .before .put-number4 .ensures .0, c .before .before .before .before .before .before .put-number5 .ensures .0, c .before .before .put-number6 .ensures .0))
 
-pub put-event-spec : {M : Type 1} → statement M
-put-event-spec =
+pub put-line-spec : {M : Type 1} → statement M
+put-line-spec =
     tie.close
     (tie.spec
     put-number-requires

@@ -1,21 +1,18 @@
--- `replay::write_replay` meets its contract. The text lies within the room. Assumes nothing.
-use lib.ListN.{length-take}
+-- `replay::write_output` meets its contract. The text lies within the room. Assumes nothing.
 use borrow.Author.Needs.{needs}
 use native.Mathlib.Omega.{arith}
-use Rattle.replay.proofs.write_replay.Statement.{statement}
-use Rattle.replay.proofs.write_replay.Tie as tie
+use lib.ListN.{length-take}
+use Rattle.replay.proofs.write_output.Statement.{statement}
+use Rattle.replay.proofs.write_output.Tie as tie
 
 text-room-requires : tie.Need-text-room-requires
 text-room-requires c κs = search needs
 
-slice-aggregate-replay : tie.Need-slice-aggregate-replay
-slice-aggregate-replay c = search needs
+slice-aggregate-put-output : tie.Need-slice-aggregate-put-output
+slice-aggregate-put-output c = search needs
 
-replay-requires : tie.Need-replay-requires
-replay-requires c κs = search needs
-
-cast-end : tie.Need-cast-end
-cast-end c = search needs
+put-output-requires : tie.Need-put-output-requires
+put-output-requires c κs = search needs
 
 array-share-prefix-text : tie.Need-array-share-prefix-text
 array-share-prefix-text c = search needs
@@ -38,14 +35,13 @@ returns c = search needs
 returns-2 : tie.Need-returns-2
 returns-2 c = search needs
 
-pub write-replay-spec : {M : Type 1} → statement M
-write-replay-spec =
+pub write-output-spec : {M : Type 1} → statement M
+write-output-spec =
     tie.close
     (tie.spec
     text-room-requires
-    slice-aggregate-replay
-    replay-requires
-    cast-end
+    slice-aggregate-put-output
+    put-output-requires
     array-share-prefix-text
     slice-aggregate-write-all
     write-all-requires

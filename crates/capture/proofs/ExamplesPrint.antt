@@ -1,0 +1,47 @@
+-- What small files print, by the definitions: two ports on one chain, and two refused files. Assumes nothing.
+use Prim.Native.Nat.{ℕ}
+use mathlib.Core.Path.{_≡_, refl}
+use mathlib.Core.List.{List, [], _∷_, _++_}
+use Rattle.text.specs.Lines.{numberThen, lineOf}
+use Rattle.text.specs.Digits.{digits, digitsWithin}
+use Rattle.lists.specs.Equal.{octetsEqual}
+use Rattle.lists.specs.Turns.{allTo, sumTo, listTo, iterate}
+use Rattle.octets.specs.Numbers.{twoOf, fourOf, eightOf}
+use Rattle.queue.specs.Waiting.{waiting}
+use Rattle.record.specs.Head.{openAt, withOpen, priorAt, withPrior, delayAt, withDelay, linkAt, withLink, waitsAt, withWaits, queueAt, withQueue}
+use Rattle.record.specs.Entry.{streamAt, withStream, boundAt, vidAt, pairAt, dropped}
+use Rattle.fitness.specs.Fit.{recordFits, lentRefusal}
+use Rattle.opening.specs.Opening.{openedRecord}
+use Rattle.gates.specs.Refusals.{openRefusal, reserveRefusal}
+use Rattle.capture_file.specs.File.{letters, lettersOf, firstOf, kindOf, streamOf, nextOf, numberA, numberB, endOf, chainWithin}
+use Rattle.capture_file.specs.Checks.{headerGood, firstGood, nextGood, recordGood, recordRefusal, chainRefusal, portRefusal, portsRefusal, refusalOf}
+use Rattle.capture.specs.Events.{callAt, eventLine, linesOf}
+use Rattle.capture.specs.Output.{portsText, refusedWord, output}
+
+-- a header with these first indices for ports 0 and 1
+abbrev header : ℕ → ℕ → List ℕ
+header first second = letters ++ (0 ∷ first ∷ 0 ∷ second ∷ 0 ∷ 0 ∷ 0 ∷ 0 ∷ 0 ∷ 0 ∷ 0 ∷ 0 ∷ [])
+
+-- the records of open 2142 1, and then of reserve 5 200 with this next index
+abbrev events : ℕ → List ℕ
+events next =
+    1 ∷ 0 ∷ 0 ∷ 2 ∷ 0 ∷ 0 ∷ 8 ∷ 94 ∷ 0 ∷ 0 ∷ 0 ∷ 1 ∷ 0 ∷ 0 ∷ 0 ∷ 0
+    ∷ 2 ∷ 5 ∷ 0 ∷ next ∷ 0 ∷ 0 ∷ 0 ∷ 200 ∷ 0 ∷ 0 ∷ 0 ∷ 0 ∷ 0 ∷ 0 ∷ 0 ∷ 0 ∷ []
+
+-- two ports that share both records print the same lines, each from event 1 on a port of its own
+pub two-ports : output (header 1 1 ++ events 0)
+    ≡ lineOf (0 ∷ 1 ∷ 1 ∷ 0 ∷ 600 ∷ 0 ∷ [])
+    ++ lineOf (0 ∷ 2 ∷ 2 ∷ 0 ∷ 400 ∷ 0 ∷ [])
+    ++ lineOf (1 ∷ 1 ∷ 1 ∷ 0 ∷ 600 ∷ 0 ∷ [])
+    ++ lineOf (1 ∷ 2 ∷ 2 ∷ 0 ∷ 400 ∷ 0 ∷ [])
+unfolding numberThen digits digitsWithin octetsEqual allTo sumTo listTo iterate twoOf fourOf eightOf waiting openAt withOpen priorAt withPrior delayAt withDelay linkAt withLink waitsAt withWaits queueAt withQueue streamAt withStream boundAt vidAt pairAt dropped recordFits lentRefusal openedRecord openRefusal reserveRefusal lettersOf firstOf kindOf streamOf nextOf numberA numberB endOf chainWithin headerGood firstGood nextGood recordGood recordRefusal chainRefusal portRefusal portsRefusal refusalOf callAt eventLine linesOf portsText output
+two-ports = refl
+
+-- a next index that is its record's own, and a first index that is the record count
+pub refused-record : output (header 0 1 ++ events 2) ≡ refusedWord ++ lineOf (23 ∷ 2 ∷ [])
+unfolding numberThen digits digitsWithin octetsEqual allTo sumTo listTo iterate twoOf fourOf eightOf waiting openAt withOpen priorAt withPrior delayAt withDelay linkAt withLink waitsAt withWaits queueAt withQueue streamAt withStream boundAt vidAt pairAt dropped recordFits lentRefusal openedRecord openRefusal reserveRefusal lettersOf firstOf kindOf streamOf nextOf numberA numberB endOf chainWithin headerGood firstGood nextGood recordGood recordRefusal chainRefusal portRefusal portsRefusal refusalOf callAt eventLine linesOf portsText output
+refused-record = refl
+
+pub refused-first : output (header 0 3 ++ events 0) ≡ refusedWord ++ lineOf (23 ∷ 0 ∷ [])
+unfolding numberThen digits digitsWithin octetsEqual allTo sumTo listTo iterate twoOf fourOf eightOf waiting openAt withOpen priorAt withPrior delayAt withDelay linkAt withLink waitsAt withWaits queueAt withQueue streamAt withStream boundAt vidAt pairAt dropped recordFits lentRefusal openedRecord openRefusal reserveRefusal lettersOf firstOf kindOf streamOf nextOf numberA numberB endOf chainWithin headerGood firstGood nextGood recordGood recordRefusal chainRefusal portRefusal portsRefusal refusalOf callAt eventLine linesOf portsText output
+refused-first = refl
