@@ -24,10 +24,10 @@ loop-less : tie.Need-loop-less Inv-loop μ-loop
 loop-less c = omega arith
 
 loop-again : tie.Need-loop-again Inv-loop μ-loop
-loop-again c = (omega (arith, c .before .loop .inv .0), omega (arith, c .before .loop .inv .1, length-more (c .before .loop .rest) (c .loop-test .taken)))
+loop-again c = (omega (arith, c .before .loop .inv .0), omega (arith, c .before .loop .inv .1, length-more (c .before .loop .rest) (omega (arith, c .loop-test .taken))))
 
 returns : tie.Need-returns Inv-loop μ-loop
-returns c = omega (arith, c .before .loop .inv .1, length-one (c .before .loop .rest) (c .loop-test .left))
+returns c = omega (arith, c .before .loop .inv .1, length-one (c .before .loop .rest) (omega (arith, c .loop-test .left)))
 
 pub places-spec : {M : Type 1} → statement M
 places-spec =

@@ -41,7 +41,7 @@ loop-holds : tie.Need-loop-holds Inv-loop μ-loop
 loop-holds c = ((omega (arith, c .places .ensures), omega (arith, c .places .ensures)), (refl, refl))
 
 sub-to : tie.Need-sub-to Inv-loop μ-loop
-sub-to c = omega (arith, c .before .loop .inv .0 .0, length-more (c .before .loop .rest) (c .loop-test .taken))
+sub-to c = omega (arith, c .before .loop .inv .0 .0, length-more (c .before .loop .rest) (omega (arith, c .loop-test .taken)))
 
 octet-requires : tie.Need-octet-requires Inv-loop μ-loop
 octet-requires c κs = search needs
