@@ -1,30 +1,49 @@
--- Laws of the lines: numbers written one after the other are the line, and how long a line is at most. Assumes nothing.
-use Prim.Native.Nat.{ℕ}
-use mathlib.Core.List.{List, [], _++_, _∷_}
-use Rattle.text.proofs.LineLaws.{wrote-then}
-use Rattle.text.specs.Lines.{Wrote, lineFeed, lineOf, numberThen, space}
+-- How long the lines are at most. Assumes nothing.
+use Prim.Native.Nat.{_+_, _<_, _≤_, ℕ}
+use mathlib.Core.Path.{_≡_}
+use mathlib.Core.List.{List, [], _∷_}
+use native.Mathlib.Omega.{arith}
+use lib.ListN.{length, length-append}
+use Rattle.capture.specs.Output.{longestLine}
+use Rattle.text.proofs.LineLaws.{length-number}
+use Rattle.text.specs.Lines.{endBefore, lineFeed, lineOf, numberThen, space}
 
--- the numbers of an event, each written where the one before it ends
-pub wrote-six : (l : List ℕ) (at a b c d e f : ℕ) {l₁ l₂ l₃ l₄ l₅ l₆ : List ℕ} {i₁ i₂ i₃ i₄ i₅ i₆ : ℕ}
-    → Wrote l at (numberThen a space) l₁ i₁
-    → Wrote l₁ i₁ (numberThen b space) l₂ i₂
-    → Wrote l₂ i₂ (numberThen c space) l₃ i₃
-    → Wrote l₃ i₃ (numberThen d space) l₄ i₄
-    → Wrote l₄ i₄ (numberThen e space) l₅ i₅
-    → Wrote l₅ i₅ (numberThen f lineFeed) l₆ i₆
-    → Wrote l at (lineOf (a ∷ b ∷ c ∷ d ∷ e ∷ f ∷ [])) l₆ i₆
-wrote-six l at a b c d e f {l₁ = l₁} {l₂ = l₂} {l₃ = l₃} {l₄ = l₄} {l₅ = l₅} {l₆ = l₆} {i₁ = i₁} {i₂ = i₂} {i₃ = i₃} {i₄ = i₄} {i₅ = i₅} {i₆ = i₆} w₁ w₂ w₃ w₄ w₅ w₆ =
-    wrote-then l at (numberThen a space) _ l₁ l₆ i₁ i₆ w₁
-    (wrote-then l₁ i₁ (numberThen b space) _ l₂ l₆ i₂ i₆ w₂
-    (wrote-then l₂ i₂ (numberThen c space) _ l₃ l₆ i₃ i₆ w₃
-    (wrote-then l₃ i₃ (numberThen d space) _ l₄ l₆ i₄ i₆ w₄
-    (wrote-then l₄ i₄ (numberThen e space) (numberThen f lineFeed) l₅ l₆ i₅ i₆ w₅ w₆))))
+length-line : (n : ℕ) (ns : List ℕ) → length (lineOf (n ∷ ns)) ≡ length (numberThen n (endBefore (length ns))) + length (lineOf ns)
+length-line n ns = length-append (numberThen n (endBefore (length ns))) (lineOf ns)
 
--- the word and the numbers of a refusal
-pub wrote-refusal : (l word : List ℕ) (number index : ℕ) {l₁ l₂ l₃ : List ℕ} {i₁ i₂ i₃ : ℕ}
-    → Wrote l 0 word l₁ i₁
-    → Wrote l₁ i₁ (numberThen number space) l₂ i₂
-    → Wrote l₂ i₂ (numberThen index lineFeed) l₃ i₃
-    → Wrote l 0 (word ++ lineOf (number ∷ index ∷ [])) l₃ i₃
-wrote-refusal l word number index {l₁ = l₁} {l₂ = l₂} {l₃ = l₃} {i₁ = i₁} {i₂ = i₂} {i₃ = i₃} w₁ w₂ w₃ =
-    wrote-then l 0 word _ l₁ l₃ i₁ i₃ w₁ (wrote-then l₁ i₁ (numberThen number space) (numberThen index lineFeed) l₂ l₃ i₂ i₃ w₂ w₃)
+-- the line of an event
+pub length-event : (port event kind refusal first second : ℕ)
+    → port < 10
+    → event < 10000
+    → kind < 10
+    → refusal < 256
+    → first < 4294967296
+    → second < 4294967296
+    → length (lineOf (port ∷ event ∷ kind ∷ refusal ∷ first ∷ second ∷ [])) ≤ longestLine
+length-event port event kind refusal first second p e k r f s =
+    omega (
+      arith,
+      length-line port (event ∷ kind ∷ refusal ∷ first ∷ second ∷ []),
+      length-line event (kind ∷ refusal ∷ first ∷ second ∷ []),
+      length-line kind (refusal ∷ first ∷ second ∷ []),
+      length-line refusal (first ∷ second ∷ []),
+      length-line first (second ∷ []),
+      length-line second [],
+      length-number 0 port space (omega arith),
+      length-number 3 event space (omega arith),
+      length-number 0 kind space (omega arith),
+      length-number 2 refusal space (omega arith),
+      length-number 9 first space (omega arith),
+      length-number 9 second lineFeed (omega arith),
+    )
+
+-- the numbers of a refused file
+pub length-refusal : (number index : ℕ) → number < 256 → index < 65536 → length (lineOf (number ∷ index ∷ [])) ≤ 10
+length-refusal number index n i =
+    omega (
+      arith,
+      length-line number (index ∷ []),
+      length-line index [],
+      length-number 2 number space (omega arith),
+      length-number 4 index lineFeed (omega arith),
+    )

@@ -72,7 +72,7 @@ fn put_event(
 {
     let reply = play(file, index, port, memory);
     let kind = capture_file::field::kind(file, index);
-    crate::lines::put_line(text, at, number, event, kind, reply)
+    crate::lines::put_reply(text, at, number, event, kind, reply)
 }
 
 // Plays the records of a chain in turn as the events of the port of this number, writes their lines from `at` on, and returns the index after them.

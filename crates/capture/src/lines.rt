@@ -11,7 +11,7 @@ ghost use Rattle.capture.specs.Output.{refusalText, longestLine};
 pub const LONGEST_LINE: usize = 35;
 
 // Writes the line of a port's event from `at` on, and returns the index after it.
-pub(crate) fn put_line(
+pub(crate) fn put_reply(
     text: &mut [u8],
     at: usize,
     port: u8,
@@ -24,12 +24,15 @@ pub(crate) fn put_line(
     ensures { λ r. ⌜ Wrote (now (text .entry)) at (eventLine port event kind reply) (now (text .exit)) r ⌝ }
     ensures { λ r. ⌜ r ≤ at + longestLine ⌝ }
 {
-    let event_at = text::put_number(text, at, port as u32, text::SPACE);
-    let kind_at = text::put_number(text, event_at, event, text::SPACE);
-    let refusal_at = text::put_number(text, kind_at, kind as u32, text::SPACE);
-    let first_at = text::put_number(text, refusal_at, reply.refusal as u32, text::SPACE);
-    let second_at = text::put_number(text, first_at, reply.first, text::SPACE);
-    text::put_number(text, second_at, reply.second, text::LINE_FEED)
+    let numbers = [
+        port as u32,
+        event,
+        kind as u32,
+        reply.refusal as u32,
+        reply.first,
+        reply.second,
+    ];
+    text::put_line(text, at, &numbers)
 }
 
 // Writes the line of a refused file from the front of the text, and returns its length.
@@ -38,7 +41,7 @@ pub(crate) fn put_refusal(text: &mut [u8], refusal: FileRefusal) -> usize
     ensures { λ r. ⌜ Wrote (now (text .entry)) 0 (refusalText refusal) (now (text .exit)) r ⌝ }
     ensures { λ r. ⌜ r ≤ longestLine ⌝ }
 {
-    let number_at = text::put_octets(text, 0, b"refused ");
-    let index_at = text::put_number(text, number_at, refusal.number as u32, text::SPACE);
-    text::put_number(text, index_at, refusal.index as u32, text::LINE_FEED)
+    let numbers_at = text::put_octets(text, 0, b"refused ");
+    let numbers = [refusal.number as u32, refusal.index as u32];
+    text::put_line(text, numbers_at, &numbers)
 }

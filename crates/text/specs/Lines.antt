@@ -1,8 +1,10 @@
 -- A line of text: numbers with single spaces between them, and a line feed after the last.
 use Prim.Native.Nat.{ℕ, _+_}
 use mathlib.Core.Path.{_≡_}
+use mathlib.Core.Bool.{cond}
 use mathlib.Core.List.{List, [], _∷_, _++_}
 use lib.ListN.{length}
+use lib.Dec.{eqb}
 use Rattle.lists.specs.Window.{put}
 use Rattle.text.specs.Digits.{digits}
 
@@ -17,11 +19,14 @@ lineFeed = 10
 unfoldable pub numberThen : ℕ → ℕ → List ℕ
 numberThen n end = digits n ++ (end ∷ [])
 
--- the line of some numbers
+-- the octet after a number of a line, of which so many come after it
+abbrev pub endBefore : ℕ → ℕ
+endBefore more = cond (eqb more 0) lineFeed space
+
+-- the line of some numbers; no numbers are no line
 abbrev pub lineOf : List ℕ → List ℕ
-lineOf [] = lineFeed ∷ []
-lineOf (n ∷ []) = numberThen n lineFeed
-lineOf (n ∷ m ∷ ns) = numberThen n space ++ lineOf (m ∷ ns)
+lineOf [] = []
+lineOf (n ∷ ns) = numberThen n (endBefore (length ns)) ++ lineOf ns
 
 -- a text t written into the slice l from index at on: what the slice becomes, and the index after the text
 abbrev pub Wrote : List ℕ → ℕ → List ℕ → List ℕ → ℕ → Type 0

@@ -1,14 +1,14 @@
-// Numbers as text, in ASCII, written into a lent slice from an index on: what the lines of `replay` are made of.
+// Lines of numbers as text, in ASCII, written into a lent slice from an index on: what `replay` prints.
 ghost use mathlib.Core.Path.{_≡_};
 ghost use Prim.Native.Nat.{_+_, _≤_, _<_};
 ghost use lib.ListN.{length};
 ghost use Rattle.text.specs.Digits.{digit, digits};
-ghost use Rattle.text.specs.Lines.{numberThen, Wrote};
+ghost use Rattle.text.specs.Lines.{numberThen, endBefore, lineOf, Wrote};
 
 // The octets between the numbers of a line, and at its end.
-pub const SPACE: u8 = b' ';
+const SPACE: u8 = b' ';
 
-pub const LINE_FEED: u8 = b'\n';
+const LINE_FEED: u8 = b'\n';
 
 // The octet of a digit.
 fn octet(number: u32) -> u8
@@ -49,13 +49,37 @@ fn put_digits(text: &mut [u8], at: usize, number: u32) -> usize
 }
 
 // Writes the number and the octet that ends it from `at` on, and returns the index after them.
-pub fn put_number(text: &mut [u8], at: usize, number: u32, end: u8) -> usize
+fn put_number(text: &mut [u8], at: usize, number: u32, end: u8) -> usize
     requires { ⌜ at + length (numberThen number end) ≤ length (now text) ⌝ }
     ensures { λ r. ⌜ Wrote (now (text .entry)) at (numberThen number end) (now (text .exit)) r ⌝ }
 {
     let after = put_digits(text, at, number);
     text[after] = end;
     after + 1
+}
+
+// The octet after a number of a line, of which so many come after it.
+fn end_before(more: usize) -> u8
+    ensures { λ r. ⌜ r ≡ endBefore more ⌝ }
+{
+    if more == 0 {
+        return LINE_FEED;
+    }
+    SPACE
+}
+
+// Writes the line of the numbers from `at` on, and returns the index after it.
+pub fn put_line(text: &mut [u8], at: usize, numbers: &[u32]) -> usize
+    requires { ⌜ at + length (lineOf (now numbers)) ≤ length (now text) ⌝ }
+    ensures { λ r. ⌜ Wrote (now (text .entry)) at (lineOf (now (numbers .entry))) (now (text .exit)) r ⌝ }
+{
+    let mut to = at;
+    let mut i: usize = 0;
+    while i < numbers.len() {
+        to = put_number(text, to, numbers[i], end_before(numbers.len() - i - 1));
+        i += 1;
+    }
+    to
 }
 
 // Writes the octets from `at` on, and returns the index after them.

@@ -16,8 +16,8 @@ play-requires c κs = search needs
 kind-requires : tie.Need-kind-requires
 kind-requires c κs = search needs
 
-put-line-requires : tie.Need-put-line-requires
-put-line-requires c κs = search needs
+put-reply-requires : tie.Need-put-reply-requires
+put-reply-requires c κs = search needs
 
 same-length : tie.Need-same-length
 same-length c = search needs
@@ -31,7 +31,7 @@ same-length-3 c = search needs
 returns : tie.Need-returns
 returns c =
     let a = c .before .before .before .before .before .before .before .before .before .before .before .before .before .before .before .before .args in
-    let w = c .before .before .put-line in
+    let w = c .before .before .put-reply in
     let o = c .before .before .before .before .before .before .before .before .before .play .ensures in
     let line = ap₂ (eventLine (a .number) (a .event)) (c .before .before .before .before .kind .ensures) (ap (λ (x : Outcome). x .reply) o) in (
       (w .ensures .0 .0 ∙ ap (λ (t : List ℕ). a .at + length t) line, w .ensures .0 .1 ∙ ap (put (a .text .now) (a .at)) line),
@@ -44,7 +44,7 @@ put-event-spec =
     (tie.spec
     play-requires
     kind-requires
-    put-line-requires
+    put-reply-requires
     same-length
     same-length-2
     same-length-3
