@@ -51,6 +51,10 @@ numberA f i = fourOf (get f (recordStart i + 4) 4)
 unfoldable pub numberB : List ℕ → ℕ → ℕ
 numberB f i = fourOf (get f (recordStart i + 8) 4)
 
+-- the four octets that end every record, as a number: 0 where all are zero
+unfoldable pub endOf : List ℕ → ℕ → ℕ
+endOf f i = fourOf (get f (recordStart i + 12) 4)
+
 -- "Kinds: 1 open (A = L, B = K); 2 reserve (A = P); 3 arrive (A charge, B tag); 4 best effort (A charge, B tag); 5 tick; 6 transmit"
 abbrev pub openKind : ℕ
 openKind = 1
@@ -73,10 +77,6 @@ transmitKind = 6
 -- the stream octet of best effort
 abbrev pub bestEffortOctet : ℕ
 bestEffortOctet = 255
-
--- the four octets that end every record, as a number: 0 where all are zero
-unfoldable pub endOf : List ℕ → ℕ → ℕ
-endOf f i = fourOf (get f (recordStart i + 12) 4)
 
 -- "Records are chained by next index; zero ends the chain": at most n records of the chain that goes on with record i
 unfoldable pub chainWithin : List ℕ → ℕ → ℕ → List ℕ
