@@ -16,7 +16,7 @@ pub const WRONG_WORDS: u8 = 2;
 pub struct Asked {
     /// The proved program `replay`: the one that is named, or the repository's.
     pub replay: PathBuf,
-    /// The words that the program has of its own.
+    /// Those of the program's own words that stand there.
     pub own: Vec<String>,
 }
 
@@ -25,7 +25,8 @@ pub fn words() -> Vec<String> {
     env::args().skip(1).collect()
 }
 
-/// Reads a command line of words of the program's own and `--replay PROGRAM`; of a wrong word, says so and how the program is called: the status.
+/// Reads a command line of words of the program's own and `--replay PROGRAM`. Where a word is wrong it prints what is wrong and the usage, and returns
+/// the exit status.
 pub fn asked(words: &[String], own: &[&str], usage: &str) -> Result<Asked, ExitCode> {
     read(words, own).map_err(|wrong| {
         eprintln!("{wrong}\n{usage}");

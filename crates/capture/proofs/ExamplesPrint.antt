@@ -37,11 +37,12 @@ pub two-ports : output (header 1 1 ++ events 0)
 unfolding numberThen digits digitsWithin octetsEqual allTo sumTo listTo iterate twoOf fourOf eightOf waiting openAt withOpen priorAt withPrior delayAt withDelay linkAt withLink waitsAt withWaits queueAt withQueue streamAt withStream boundAt vidAt pairAt dropped recordFits lentRefusal openedRecord openRefusal reserveRefusal lettersOf firstOf kindOf streamOf nextOf numberA numberB endOf chainWithin headerGood firstGood nextGood recordGood recordRefusal chainRefusal portRefusal portsRefusal refusalOf callAt eventLine linesOf portsText output
 two-ports = refl
 
--- a next index that is its record's own, and a first index that is the record count
+-- a next index that is its record's own
 pub refused-record : output (header 0 1 ++ events 2) ≡ refusedWord ++ lineOf (23 ∷ 2 ∷ [])
-unfolding numberThen digits digitsWithin octetsEqual allTo sumTo listTo iterate twoOf fourOf eightOf waiting openAt withOpen priorAt withPrior delayAt withDelay linkAt withLink waitsAt withWaits queueAt withQueue streamAt withStream boundAt vidAt pairAt dropped recordFits lentRefusal openedRecord openRefusal reserveRefusal lettersOf firstOf kindOf streamOf nextOf numberA numberB endOf chainWithin headerGood firstGood nextGood recordGood recordRefusal chainRefusal portRefusal portsRefusal refusalOf callAt eventLine linesOf portsText output
+unfolding octetsEqual allTo twoOf fourOf lettersOf firstOf kindOf streamOf nextOf numberA numberB endOf headerGood firstGood nextGood recordGood recordRefusal chainRefusal portRefusal portsRefusal refusalOf output
 refused-record = refl
 
+-- a first index that is the record count
 pub refused-first : output (header 0 3 ++ events 0) ≡ refusedWord ++ lineOf (23 ∷ 0 ∷ [])
-unfolding numberThen digits digitsWithin octetsEqual allTo sumTo listTo iterate twoOf fourOf eightOf waiting openAt withOpen priorAt withPrior delayAt withDelay linkAt withLink waitsAt withWaits queueAt withQueue streamAt withStream boundAt vidAt pairAt dropped recordFits lentRefusal openedRecord openRefusal reserveRefusal lettersOf firstOf kindOf streamOf nextOf numberA numberB endOf chainWithin headerGood firstGood nextGood recordGood recordRefusal chainRefusal portRefusal portsRefusal refusalOf callAt eventLine linesOf portsText output
+unfolding octetsEqual allTo twoOf fourOf lettersOf firstOf kindOf streamOf nextOf numberA numberB endOf headerGood firstGood nextGood recordGood recordRefusal chainRefusal portRefusal portsRefusal refusalOf output
 refused-first = refl

@@ -4,7 +4,7 @@ use mathlib.Core.Path.{_≡_}
 use mathlib.Core.List.{List, [], _∷_}
 use native.Mathlib.Omega.{arith}
 use lib.ListN.{length, length-append}
-use Rattle.capture.specs.Output.{longestLine}
+use Rattle.capture.specs.Output.{lineBound}
 use Rattle.text.proofs.LineLaws.{length-number}
 use Rattle.text.specs.Lines.{endBefore, lineFeed, lineOf, numberThen, space}
 
@@ -19,7 +19,7 @@ pub length-event : (port event kind refusal first second : ℕ)
     → refusal < 256
     → first < 4294967296
     → second < 4294967296
-    → length (lineOf (port ∷ event ∷ kind ∷ refusal ∷ first ∷ second ∷ [])) ≤ longestLine
+    → length (lineOf (port ∷ event ∷ kind ∷ refusal ∷ first ∷ second ∷ [])) ≤ lineBound
 length-event port event kind refusal first second p e k r f s =
     omega (
       arith,

@@ -11,7 +11,7 @@ use Rattle.capture_file.proofs.FileLaws.{kind-known}
 use Rattle.capture_file.specs.Checks.{chainRefusal, mostOctets, recordRefusal}
 use Rattle.capture_file.specs.File.{chainWithin, kindOf, mostEvents, nextOf, recordCount}
 use Rattle.capture.specs.Events.{callAt, eventLine, linesOf}
-use Rattle.capture.specs.Output.{longestLine}
+use Rattle.capture.specs.Output.{lineBound}
 use Rattle.fitness.specs.Fit.{recordFits}
 use Rattle.lists.proofs.WindowLaws.{put-append}
 use Rattle.lists.specs.Window.{put}
@@ -34,7 +34,7 @@ pub record Came (f : List ℕ) (q first at : ℕ) (p₀ m₀ t₀ p m t : List �
   pub good : chainRefusal f (recordCount f - n) i .number ≡ 0
   pub fit : recordFits p m ≡ true
   pub kept : (length p ≡ length p₀) × ((length m ≡ length m₀) × (length t ≡ length t₀))
-  pub room : to + (recordCount f - n) * longestLine ≤ at + mostEvents f * longestLine
+  pub room : to + (recordCount f - n) * lineBound ≤ at + mostEvents f * lineBound
   pub ends : to + length (restOf f q n i p m) ≡ at + length (restOf f q 1 first p₀ m₀)
   pub same : put t to (restOf f q n i p m) ≡ put t₀ at (restOf f q 1 first p₀ m₀)
 
@@ -75,7 +75,7 @@ module _ (f : List ℕ) (q first at : ℕ) (p₀ m₀ t₀ : List ℕ) where
     front = good-front f (recordCount f - (n + 1)) i some (subst (λ (k : ℕ). chainRefusal f k i .number ≡ 0) one-more (came .good))
 
     -- what the play of the record asks
-    pub in-turn : length f ≤ mostOctets → at + mostEvents f * longestLine ≤ length t₀ → (n < 10000) × ((kindOf f i < 10) × (to + longestLine ≤ length t))
+    pub in-turn : length f ≤ mostOctets → at + mostEvents f * lineBound ≤ length t₀ → (n < 10000) × ((kindOf f i < 10) × (to + lineBound ≤ length t))
     in-turn short enough = (
       omega (arith, came .counted .1, short),
       (omega (arith, kind-known f i (record-passed f i (front .0) .0)), omega (arith, came .room, one-more, came .kept .1 .1, enough)),
@@ -95,7 +95,7 @@ module _ (f : List ℕ) (q first at : ℕ) (p₀ m₀ t₀ : List ℕ) where
         → Wrote t to (eventLine q n (kindOf f i) (quicklyCalled (callAt f i) p m .reply)) t' to'
         → p' ≡ quicklyCalled (callAt f i) p m .port
         → m' ≡ quicklyCalled (callAt f i) p m .memory
-        → to' ≤ to + longestLine
+        → to' ≤ to + lineBound
         → (length p' ≡ length p) × ((length m' ≡ length m) × (length t' ≡ length t))
         → Came f q first at p₀ m₀ t₀ p' m' t' to' (nextOf f i) (n + 1)
     goes-on p' m' t' to' wrote port memory most kept =

@@ -29,18 +29,18 @@ refusalText r = refusedWord ++ lineOf (r .number ∷ r .index ∷ [])
 unfoldable pub output : List ℕ → List ℕ
 output f = cond (eqb (refusalOf f .number) 0) (portsText f portCount) (refusalText (refusalOf f))
 
--- the octets of the longest line: a port and a kind of one digit, an event's number of four, a refusal of three, two numbers of ten, and six octets
+-- no line has more octets than this: a port and a kind of one digit, an event's number of four, a refusal of three, two numbers of ten, and six octets
 -- between and after them
-abbrev pub longestLine : ℕ
-longestLine = 35
+abbrev pub lineBound : ℕ
+lineBound = 35
 
--- the octets of the longest text of a port, where every record after the header of the longest file is on its chain
-abbrev pub longestPortText : ℕ
-longestPortText = (mostOctets / recordOctets - 1) * longestLine
+-- no text of a port has more: a line for each record after the header of the longest file
+abbrev pub portTextBound : ℕ
+portTextBound = (mostOctets / recordOctets - 1) * lineBound
 
 -- the octets that the memory for the text must have
 abbrev pub textLength : ℕ
-textLength = portCount * longestPortText
+textLength = portCount * portTextBound
 
 -- the reply and the memory for the text
 pub record Replayed : Type 0 where

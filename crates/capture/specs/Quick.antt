@@ -5,6 +5,6 @@ use Rattle.steps.specs.Outcome.{Outcome}
 use Rattle.port_laws.specs.Lists.{quicklyCalled}
 use Rattle.capture.specs.Events.{callAt}
 
--- what the quick call of record i leaves of a record and a memory
+-- what the quick call of record i replies, and leaves of a record and a memory
 abbrev pub quickEvent : List ℕ → ℕ → List ℕ → List ℕ → Outcome
 quickEvent f i p m = quicklyCalled (callAt f i) p m

@@ -11,7 +11,7 @@ ghost use Rattle.text.specs.Lines.{Wrote};
 ghost use Rattle.capture_file.specs.File.{HasRecord, kindOf, mostEvents, chainWithin};
 ghost use Rattle.capture_file.specs.Checks.{mostOctets, chainRefusal};
 ghost use Rattle.capture.specs.Events.{callOf, eventLine, linesOf};
-ghost use Rattle.capture.specs.Output.{longestLine};
+ghost use Rattle.capture.specs.Output.{lineBound};
 ghost use Rattle.capture.specs.Quick.{quickEvent};
 
 // Makes the call of a kind.
@@ -64,11 +64,11 @@ fn put_event(
 ) -> usize
     requires { ⌜ HasRecord (now file) index ⌝ }
     requires { ⌜ (number < 10) × ((event < 10000) × (kindOf (now file) index < 10)) ⌝ }
-    requires { ⌜ at + longestLine ≤ length (now text) ⌝ }
+    requires { ⌜ at + lineBound ≤ length (now text) ⌝ }
     ensures { λ r. ⌜ Wrote (now (text .entry)) at (eventLine number event (kindOf (now (file .entry)) index) (quickEvent (now (file .entry)) index (now (port .entry)) (now (memory .entry)) .reply)) (now (text .exit)) r ⌝ }
     ensures { λ r. ⌜ now (port .exit) ≡ quickEvent (now (file .entry)) index (now (port .entry)) (now (memory .entry)) .port ⌝ }
     ensures { λ r. ⌜ now (memory .exit) ≡ quickEvent (now (file .entry)) index (now (port .entry)) (now (memory .entry)) .memory ⌝ }
-    ensures { λ r. ⌜ r ≤ at + longestLine ⌝ }
+    ensures { λ r. ⌜ r ≤ at + lineBound ⌝ }
 {
     let reply = play(file, index, port, memory);
     let kind = capture_file::field::kind(file, index);
@@ -89,9 +89,9 @@ pub(crate) fn put_chain(
     requires { ⌜ chainRefusal (now file) (mostEvents (now file)) first .number ≡ 0 ⌝ }
     requires { ⌜ (number < 10) × (length (now file) ≤ mostOctets) ⌝ }
     requires { ⌜ recordFits (now port) (now memory) ≡ true ⌝ }
-    requires { ⌜ at + mostEvents (now file) * longestLine ≤ length (now text) ⌝ }
+    requires { ⌜ at + mostEvents (now file) * lineBound ≤ length (now text) ⌝ }
     ensures { λ r. ⌜ Wrote (now (text .entry)) at (linesOf (now (file .entry)) number 1 (chainWithin (now (file .entry)) (mostEvents (now (file .entry))) first) (now (port .entry)) (now (memory .entry))) (now (text .exit)) r ⌝ }
-    ensures { λ r. ⌜ r ≤ at + mostEvents (now (file .entry)) * longestLine ⌝ }
+    ensures { λ r. ⌜ r ≤ at + mostEvents (now (file .entry)) * lineBound ⌝ }
 {
     let mut to = at;
     let mut index = first;

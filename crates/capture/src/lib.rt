@@ -11,15 +11,14 @@ ghost use Rattle.capture_file.specs.Checks.{refusalOf};
 ghost use Rattle.port_laws.specs.Lists.{freshRecord, freshMemory};
 ghost use Rattle.text.specs.Lines.{Wrote};
 ghost use Rattle.capture.specs.Events.{portText};
-ghost use Rattle.capture.specs.Output.{portsText, output, longestLine, textLength, replayed, replayOf};
+ghost use Rattle.capture.specs.Output.{portsText, output, lineBound, textLength, replayed, replayOf};
 
-// The octets of the longest text of a port.
-const LONGEST_PORT_TEXT: usize = (capture_file::MOST_OCTETS / capture_file::field::RECORD_OCTETS
-    - 1)
-    * lines::LONGEST_LINE;
+// No text of a port has more octets than this.
+const PORT_TEXT_BOUND: usize = (capture_file::MOST_OCTETS / capture_file::field::RECORD_OCTETS - 1)
+    * lines::LINE_BOUND;
 
 // The octets that the memory for the text must have.
-pub const TEXT_LENGTH: usize = capture_file::PORTS as usize * LONGEST_PORT_TEXT;
+pub const TEXT_LENGTH: usize = capture_file::PORTS as usize * PORT_TEXT_BOUND;
 
 // A record of a port that was never opened.
 fn fresh_record() -> [u8; record::RECORD_LENGTH]
@@ -38,9 +37,9 @@ fn fresh_memory() -> [u8; record::MEMORY_LENGTH]
 // Plays the events of a port on a record and a memory of its own, writes their lines from `at` on, and returns the index after them.
 fn put_port(file: &[u8], port: u8, text: &mut [u8], at: usize) -> usize
     requires { ⌜ refusalOf (now file) .number ≡ 0 ⌝ }
-    requires { ⌜ (port < portCount) × (at + mostEvents (now file) * longestLine ≤ length (now text)) ⌝ }
+    requires { ⌜ (port < portCount) × (at + mostEvents (now file) * lineBound ≤ length (now text)) ⌝ }
     ensures { λ r. ⌜ Wrote (now (text .entry)) at (portText (now (file .entry)) port) (now (text .exit)) r ⌝ }
-    ensures { λ r. ⌜ r ≤ at + mostEvents (now (file .entry)) * longestLine ⌝ }
+    ensures { λ r. ⌜ r ≤ at + mostEvents (now (file .entry)) * lineBound ⌝ }
 {
     let mut record = fresh_record();
     let mut memory = fresh_memory();

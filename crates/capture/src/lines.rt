@@ -5,10 +5,10 @@ ghost use Prim.Native.Nat.{_+_, _≤_, _<_};
 ghost use lib.ListN.{length};
 ghost use Rattle.text.specs.Lines.{Wrote};
 ghost use Rattle.capture.specs.Events.{eventLine};
-ghost use Rattle.capture.specs.Output.{refusalText, longestLine};
+ghost use Rattle.capture.specs.Output.{refusalText, lineBound};
 
-// The octets of the longest line.
-pub const LONGEST_LINE: usize = 35;
+// No line has more octets than this.
+pub const LINE_BOUND: usize = 35;
 
 // Writes the line of a port's event from `at` on, and returns the index after it.
 pub(crate) fn put_reply(
@@ -19,10 +19,10 @@ pub(crate) fn put_reply(
     kind: u8,
     reply: Reply,
 ) -> usize
-    requires { ⌜ at + longestLine ≤ length (now text) ⌝ }
+    requires { ⌜ at + lineBound ≤ length (now text) ⌝ }
     requires { ⌜ (port < 10) × ((event < 10000) × (kind < 10)) ⌝ }
     ensures { λ r. ⌜ Wrote (now (text .entry)) at (eventLine port event kind reply) (now (text .exit)) r ⌝ }
-    ensures { λ r. ⌜ r ≤ at + longestLine ⌝ }
+    ensures { λ r. ⌜ r ≤ at + lineBound ⌝ }
 {
     let numbers = [
         port as u32,
@@ -37,9 +37,9 @@ pub(crate) fn put_reply(
 
 // Writes the line of a refused file from the front of the text, and returns its length.
 pub(crate) fn put_refusal(text: &mut [u8], refusal: FileRefusal) -> usize
-    requires { ⌜ longestLine ≤ length (now text) ⌝ }
+    requires { ⌜ lineBound ≤ length (now text) ⌝ }
     ensures { λ r. ⌜ Wrote (now (text .entry)) 0 (refusalText refusal) (now (text .exit)) r ⌝ }
-    ensures { λ r. ⌜ r ≤ longestLine ⌝ }
+    ensures { λ r. ⌜ r ≤ lineBound ⌝ }
 {
     let numbers_at = text::put_octets(text, 0, b"refused ");
     let numbers = [refusal.number as u32, refusal.index as u32];

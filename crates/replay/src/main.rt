@@ -51,7 +51,7 @@ fn read_input(file: &mut [u8]) -> Input
     Input::Octets(done)
 }
 
-// Puts the output of the file at the front of the room, and returns its length. The room is long enough, so nothing of it is refused with 18.
+// Puts the output of the file at the front of the room, and returns its length. The room is long enough, so 18 is not replied.
 fn put_output(file: &[u8], text: &mut [u8]) -> usize
     requires { ⌜ textLength ≤ length (now text) ⌝ }
     ensures { λ r. ⌜ (r ≤ length (now (text .exit))) × (take r (now (text .exit)) ≡ output (now (file .entry))) ⌝ }

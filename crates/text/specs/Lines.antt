@@ -19,11 +19,11 @@ lineFeed = 10
 unfoldable pub numberThen : ℕ → ℕ → List ℕ
 numberThen n end = digits n ++ (end ∷ [])
 
--- the octet after a number of a line, of which so many come after it
+-- the octet that ends a number after which so many numbers of the line come
 abbrev pub endBefore : ℕ → ℕ
 endBefore more = cond (eqb more 0) lineFeed space
 
--- the line of some numbers; no numbers are no line
+-- the line of some numbers; that of none is empty
 abbrev pub lineOf : List ℕ → List ℕ
 lineOf [] = []
 lineOf (n ∷ ns) = numberThen n (endBefore (length ns)) ++ lineOf ns

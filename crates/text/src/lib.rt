@@ -58,7 +58,7 @@ fn put_number(text: &mut [u8], at: usize, number: u32, end: u8) -> usize
     after + 1
 }
 
-// The octet after a number of a line, of which so many come after it.
+// The octet that ends a number after which so many numbers of the line come.
 fn end_before(more: usize) -> u8
     ensures { λ r. ⌜ r ≡ endBefore more ⌝ }
 {

@@ -1,4 +1,5 @@
-//! The profiles that several tests use, of steps that press one part of a port, and of any steps. A capture has no step that closes a port.
+//! The profiles that several tests use, of steps that press one part of a port, and of any steps. The weight of `close` counts in
+//! lists only: a capture has no such event.
 
 use crate::comparing::calls::{Charges, Permitted, Profile, Weights, ORDINARY};
 use crate::comparing::random::Random;

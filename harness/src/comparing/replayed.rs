@@ -235,8 +235,10 @@ mod tests {
     #[test]
     fn a_child_that_keeps_the_pipes_is_not_waited_for() {
         for words in ["sleep 5; true", "exec 3<&0; sleep 5 <&3 &"] {
+            let began = Instant::now();
             let why = why_not(Command::new("sh").args(["-c", words]), &[0; 1_000_000]);
             assert_eq!(why, "does not end and close its pipes within 50ms", "{words}");
+            assert!(began.elapsed() < Duration::from_secs(5), "{words}: waited for the child");
         }
     }
 

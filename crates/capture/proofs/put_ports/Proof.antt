@@ -8,14 +8,14 @@ use native.Mathlib.Numerals.{add-one}
 use Rattle.capture_file.proofs.FileLaws.{file-passed, length-passed}
 use Rattle.capture_file.specs.File.{portCount}
 use Rattle.capture.specs.Events.{portText}
-use Rattle.capture.specs.Output.{longestPortText, portsText}
+use Rattle.capture.specs.Output.{portTextBound, portsText}
 use Rattle.text.proofs.LineLaws.{wrote-then}
 use Rattle.text.specs.Lines.{Wrote}
 use Rattle.capture.proofs.put_ports.Statement.{statement}
 use Rattle.capture.proofs.put_ports.Tie as tie
 
 abbrev Inv-loop : tie.InvT-loop
-Inv-loop file text₀ at₀ port₀ text at port = ((port ≤ portCount) × (length text ≡ length text₀)) × ((at ≤ port * longestPortText) × Wrote text₀ 0 (portsText file port) text at)
+Inv-loop file text₀ at₀ port₀ text at port = ((port ≤ portCount) × (length text ≡ length text₀)) × ((at ≤ port * portTextBound) × Wrote text₀ 0 (portsText file port) text at)
 
 abbrev μ-loop : tie.MeasureT-loop
 μ-loop file text₀ at₀ port₀ text at port = portCount - port

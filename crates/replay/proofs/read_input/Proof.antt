@@ -56,7 +56,7 @@ add-done : tie.Need-add-done Inv-loop μ-loop
 add-done c = search needs
 
 loop-less : tie.Need-loop-less Inv-loop μ-loop
-loop-less c = search needs
+loop-less c = omega arith
 
 loop-again : tie.Need-loop-again Inv-loop μ-loop
 loop-again c = (omega arith, search needs)
