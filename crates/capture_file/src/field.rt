@@ -9,14 +9,14 @@ ghost use Rattle.capture_file.specs.File.{recordOctets, recordCount, Has
 pub const RECORD_OCTETS: usize = 16;
 
 // How many whole records the file has.
-pub fn count(file: &[u8]) -> usize
+pub(crate) fn count(file: &[u8]) -> usize
     ensures { λ r. ⌜ r ≡ recordCount (now (file .entry)) ⌝ }
 {
     file.len() / RECORD_OCTETS
 }
 
 // Whether the file begins with the capture's letters.
-pub fn has_letters(file: &[u8]) -> bool
+pub(crate) fn has_letters(file: &[u8]) -> bool
     requires { ⌜ recordOctets ≤ length (now file) ⌝ }
     ensures { λ r. ⌜ r ≡ octetsEqual (lettersOf (now (file .entry))) letters ⌝ }
 {
@@ -81,7 +81,7 @@ pub fn number_b(file: &[u8], index: u16) -> u32
 }
 
 // The four octets that end the record, as a number.
-pub fn end(file: &[u8], index: u16) -> u32
+pub(crate) fn end(file: &[u8], index: u16) -> u32
     requires { ⌜ HasRecord (now file) index ⌝ }
     ensures { λ r. ⌜ r ≡ endOf (now (file .entry)) index ⌝ }
 {
