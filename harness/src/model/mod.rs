@@ -6,6 +6,7 @@
 
 pub mod capture;
 pub mod fitness;
+pub mod frame;
 pub mod octets;
 pub mod port;
 pub mod refusal;

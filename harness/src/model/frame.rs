@@ -1,0 +1,41 @@
+//! A frame by its octets: document 01, "Frames and captures", what Frame reads of a header, and the charge of a frame by its length.
+
+use std::ops::RangeInclusive;
+
+use super::port::ADDRESS_OCTETS;
+
+/// "17 frame outside 60 to 1,518 octets": the length is without check sequence.
+pub const FRAME_LENGTHS: RangeInclusive<usize> = 60..=1_518;
+/// "plus 4 for the check sequence".
+const CHECK_SEQUENCE: u32 = 4;
+/// "plus 20 for preamble and gap".
+const PREAMBLE_AND_GAP: u32 = 20;
+/// "If octets 12 and 13 are 81 00 (hexadecimal)".
+const TAG_AT: usize = 12;
+const TAG: [u8; 2] = [0x81, 0x00];
+/// "the VID is the low 12 bits of octets 14 and 15, high octet first".
+const VID_AT: usize = 14;
+const VID_BITS: u16 = 0x0fff;
+
+/// What Bind gives a stream: "a destination address of six octets and a VLAN id".
+#[derive(Clone, Copy, Debug, PartialEq, Eq, Hash)]
+pub struct Pair {
+    pub address: [u8; ADDRESS_OCTETS],
+    pub vid: u16,
+}
+
+/// "A charge is the octets that a frame costs on the wire: its length without check sequence, plus 4 for the check sequence, plus 20 for preamble
+/// and gap", of a frame whose length is in its range.
+pub fn charge(octets: &[u8]) -> u32 {
+    octets.len() as u32 + CHECK_SEQUENCE + PREAMBLE_AND_GAP
+}
+
+/// "octets 0 to 5 are the destination", and the VID of a tagged frame whose length is in its range; nothing where it is not tagged.
+pub fn pair(octets: &[u8]) -> Option<Pair> {
+    if octets[TAG_AT..TAG_AT + TAG.len()] != TAG {
+        return None;
+    }
+    let address = octets[..ADDRESS_OCTETS].try_into().expect("six octets");
+    let vid = u16::from_be_bytes([octets[VID_AT], octets[VID_AT + 1]]) & VID_BITS;
+    Some(Pair { address, vid })
+}
