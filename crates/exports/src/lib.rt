@@ -4,7 +4,7 @@ pub mod unscanned;
 
 ghost use mathlib.Core.Path.{_≡_};
 ghost use Rattle.steps.specs.Outcome.{outcome};
-ghost use Rattle.port.specs.Calls.{openCall, reserveCall, arriveCall, tickCall, transmitCall, bestEffortCall};
+ghost use Rattle.port.specs.Calls.{openCall, reserveCall, arriveCall, tickCall, transmitCall, bestEffortCall, bindCall, frameCall};
 ghost use Rattle.exports.specs.Handed.{handed};
 
 // Open(L, K).
@@ -107,6 +107,43 @@ pub extern "C" fn bunnysolder_best_effort(
     ensures { λ r. ⌜ outcome (handed r (now (first .exit)) (now (second .exit))) (now (port .exit)) (now (memory .exit)) ≡ bestEffortCall (now (port .entry)) (now (memory .entry)) charge tag ⌝ }
 {
     let reply = port::best_effort(port, memory, charge, tag);
+    *first = reply.first;
+    *second = reply.second;
+    reply.refusal
+}
+
+// Bind(s, address, VID).
+#[no_mangle]
+pub extern "C" fn bunnysolder_bind(
+    port: &mut [u8],
+    memory: &[u8],
+    stream: u8,
+    address: &[u8; record::ADDRESS_LENGTH],
+    vid: u32,
+    first: &mut u32,
+    second: &mut u32,
+) -> u8
+    ensures { λ r. ⌜ outcome (handed r (now (first .exit)) (now (second .exit))) (now (port .exit)) (now (memory .entry)) ≡ bindCall (now (port .entry)) (now (memory .entry)) stream (now (address .entry)) vid ⌝ }
+{
+    let reply = port::bind(port, memory, stream, address, vid);
+    *first = reply.first;
+    *second = reply.second;
+    reply.refusal
+}
+
+// Frame(octets, tag).
+#[no_mangle]
+pub extern "C" fn bunnysolder_frame(
+    port: &mut [u8],
+    memory: &mut [u8],
+    octets: &[u8],
+    tag: u32,
+    first: &mut u32,
+    second: &mut u32,
+) -> u8
+    ensures { λ r. ⌜ outcome (handed r (now (first .exit)) (now (second .exit))) (now (port .exit)) (now (memory .exit)) ≡ frameCall (now (port .entry)) (now (memory .entry)) (now (octets .entry)) tag ⌝ }
+{
+    let reply = port::frame(port, memory, octets, tag);
     *first = reply.first;
     *second = reply.second;
     reply.refusal

@@ -2,7 +2,7 @@
 // name.
 ghost use mathlib.Core.Path.{_≡_};
 ghost use Rattle.steps.specs.Outcome.{outcome};
-ghost use Rattle.port.specs.Quick.{quickOpen, quickReserve, quickArrive, quickTick, quickTransmit, quickBestEffort};
+ghost use Rattle.port.specs.Quick.{quickOpen, quickReserve, quickArrive, quickTick, quickTransmit, quickBestEffort, quickBind, quickFrame};
 ghost use Rattle.exports.specs.Handed.{handed};
 
 // Open(L, K); nothing is scanned.
@@ -105,6 +105,43 @@ pub extern "C" fn bunnysolder_best_effort_unscanned(
     ensures { λ r. ⌜ outcome (handed r (now (first .exit)) (now (second .exit))) (now (port .exit)) (now (memory .exit)) ≡ quickBestEffort (now (port .entry)) (now (memory .entry)) charge tag ⌝ }
 {
     let reply = port::quick::best_effort(port, memory, charge, tag);
+    *first = reply.first;
+    *second = reply.second;
+    reply.refusal
+}
+
+// Bind(s, address, VID); nothing is scanned.
+#[no_mangle]
+pub extern "C" fn bunnysolder_bind_unscanned(
+    port: &mut [u8],
+    memory: &[u8],
+    stream: u8,
+    address: &[u8; record::ADDRESS_LENGTH],
+    vid: u32,
+    first: &mut u32,
+    second: &mut u32,
+) -> u8
+    ensures { λ r. ⌜ outcome (handed r (now (first .exit)) (now (second .exit))) (now (port .exit)) (now (memory .entry)) ≡ quickBind (now (port .entry)) (now (memory .entry)) stream (now (address .entry)) vid ⌝ }
+{
+    let reply = port::quick::bind(port, memory, stream, address, vid);
+    *first = reply.first;
+    *second = reply.second;
+    reply.refusal
+}
+
+// Frame(octets, tag); nothing is scanned.
+#[no_mangle]
+pub extern "C" fn bunnysolder_frame_unscanned(
+    port: &mut [u8],
+    memory: &mut [u8],
+    octets: &[u8],
+    tag: u32,
+    first: &mut u32,
+    second: &mut u32,
+) -> u8
+    ensures { λ r. ⌜ outcome (handed r (now (first .exit)) (now (second .exit))) (now (port .exit)) (now (memory .exit)) ≡ quickFrame (now (port .entry)) (now (memory .entry)) (now (octets .entry)) tag ⌝ }
+{
+    let reply = port::quick::frame(port, memory, octets, tag);
     *first = reply.first;
     *second = reply.second;
     reply.refusal

@@ -35,7 +35,7 @@ fn binding_fits(port: &[u8], stream: u8, pairs: &[u64], count: usize) -> bool
     if !record::entry::stream_at(port, stream).reserved {
         return false;
     }
-    if !ranges::vid_fits(record::entry::vid(port, stream)) {
+    if !ranges::vid_fits(record::entry::vid(port, stream) as u32) {
         return false;
     }
     unlike(pairs, count, record::entry::pair(port, stream))

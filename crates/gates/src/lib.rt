@@ -1,13 +1,14 @@
 // What each call does where record and memory are long enough: its own refusals, in document 01's order, then its step. The definitions are in specs/.
 mod refusals;
 
+use binding::Lookup;
 use stream::Reply;
 ghost use mathlib.Core.Path.{_≡_};
 ghost use Prim.Native.Nat.{_≤_};
 ghost use lib.ListN.{length};
-ghost use Rattle.record.specs.Layout.{Whole, memoryLength};
+ghost use Rattle.record.specs.Layout.{Whole, memoryLength, addressLength};
 ghost use Rattle.steps.specs.Outcome.{outcome};
-ghost use Rattle.gates.specs.Gated.{opens, reserves, arrives, ticks, transmits, joinsBestEffort};
+ghost use Rattle.gates.specs.Gated.{opens, reserves, arrives, ticks, transmits, joinsBestEffort, binds, frames};
 
 // Open.
 pub fn open_port(port: &mut [u8], memory: &[u8], link: u32, delay: u32) -> Reply
@@ -79,4 +80,33 @@ pub fn best_effort(port: &mut [u8], memory: &mut [u8], charge: u32, tag: u32) ->
         return steps::refused(refusal);
     }
     best_effort::join(port, memory, charge as u16, tag)
+}
+
+// Bind; the address is the first six of the octets.
+pub fn bind(port: &mut [u8], memory: &[u8], stream: u8, address: &[u8], vid: u32) -> Reply
+    requires { ⌜ Whole (now port) × (addressLength ≤ length (now address)) ⌝ }
+    ensures { λ r. ⌜ outcome r (now (port .exit)) (now (memory .entry)) ≡ binds (now (port .entry)) (now (memory .entry)) stream (now (address .entry)) vid ⌝ }
+{
+    let refusal = refusals::bind(port, stream, address, vid);
+    if refusal != 0 {
+        return steps::refused(refusal);
+    }
+    binding::bind(port, stream, address, vid as u16)
+}
+
+// Frame.
+pub fn frame(port: &mut [u8], memory: &mut [u8], octets: &[u8], tag: u32) -> Reply
+    requires { ⌜ Whole (now port) × (memoryLength ≤ length (now memory)) ⌝ }
+    ensures { λ r. ⌜ outcome r (now (port .exit)) (now (memory .exit)) ≡ frames (now (port .entry)) (now (memory .entry)) (now (octets .entry)) tag ⌝ }
+{
+    let refusal = refusals::frame(port, octets);
+    if refusal != 0 {
+        return steps::refused(refusal);
+    }
+    let charge = header::charge(octets);
+    let found = binding::finding::of_frame(port, octets);
+    match found {
+        Lookup::Bound(stream) => arrive(port, memory, stream, charge, tag),
+        Lookup::Unbound => best_effort(port, memory, charge, tag),
+    }
 }

@@ -1,9 +1,10 @@
 // What each call refuses of a record and memory that are long enough: the number of the first refusal that applies, or 0.
 ghost use mathlib.Core.Path.{_≡_};
-ghost use Prim.Native.Nat.{_<_};
-ghost use Rattle.record.specs.Layout.{Whole};
+ghost use Prim.Native.Nat.{_≤_, _<_};
+ghost use lib.ListN.{length};
+ghost use Rattle.record.specs.Layout.{Whole, addressLength};
 ghost use Rattle.best_effort.specs.BestEffort.{WaitsKept};
-ghost use Rattle.gates.specs.Refusals.{openRefusal, reserveRefusal, arriveRefusal, closedRefusal, bestEffortLimit, bestEffortRefusal};
+ghost use Rattle.gates.specs.Refusals.{openRefusal, reserveRefusal, arriveRefusal, closedRefusal, bestEffortLimit, bestEffortRefusal, bindRefusal, frameRefusal};
 
 // Document 01's numbers.
 const CLOSED: u8 = 1;
@@ -22,6 +23,12 @@ const PERMITTED_RANGE: u8 = 7;
 
 const SHARE_EXCEEDED: u8 = 8;
 
+const VID_RANGE: u8 = 9;
+
+const BOUND_ALREADY: u8 = 10;
+
+const PAIR_BOUND_ALREADY: u8 = 11;
+
 const NOT_RESERVED: u8 = 12;
 
 const CHARGE_RANGE: u8 = 13;
@@ -29,6 +36,8 @@ const CHARGE_RANGE: u8 = 13;
 const BEST_EFFORT_FULL: u8 = 15;
 
 const LIMIT_EXCEEDED: u8 = 16;
+
+const FRAME_LENGTH: u8 = 17;
 
 // The refusal of Open.
 pub(crate) fn open_port(port: &[u8], link: u32, delay: u32) -> u8
@@ -132,6 +141,46 @@ pub(crate) fn best_effort(port: &[u8], charge: u32) -> u8
     let sum = record::head::waits(port) as u64 + charge as u64;
     if (best_effort_limit(port) as u64) < sum {
         return LIMIT_EXCEEDED;
+    }
+    0
+}
+
+// The refusal of Bind; the address is the first six of the octets.
+pub(crate) fn bind(port: &[u8], stream: u8, address: &[u8], vid: u32) -> u8
+    requires { ⌜ Whole (now port) × (addressLength ≤ length (now address)) ⌝ }
+    ensures { λ r. ⌜ r ≡ bindRefusal (now (port .entry)) stream (now (address .entry)) vid ⌝ }
+{
+    if !record::head::is_open(port) {
+        return CLOSED;
+    }
+    if record::STREAMS <= stream {
+        return STREAM_RANGE;
+    }
+    if !record::entry::stream_at(port, stream).reserved {
+        return NOT_RESERVED;
+    }
+    if !ranges::vid_fits(vid) {
+        return VID_RANGE;
+    }
+    if record::entry::is_bound(port, stream) {
+        return BOUND_ALREADY;
+    }
+    if binding::finding::of_pair(port, address, vid as u16).is_bound() {
+        return PAIR_BOUND_ALREADY;
+    }
+    0
+}
+
+// The refusal of Frame.
+pub(crate) fn frame(port: &[u8], octets: &[u8]) -> u8
+    requires { ⌜ Whole (now port) ⌝ }
+    ensures { λ r. ⌜ r ≡ frameRefusal (now (port .entry)) (now (octets .entry)) ⌝ }
+{
+    if !record::head::is_open(port) {
+        return CLOSED;
+    }
+    if !header::length_fits(octets) {
+        return FRAME_LENGTH;
     }
     0
 }

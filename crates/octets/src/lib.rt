@@ -33,7 +33,7 @@ pub fn put_two(octets: &mut [u8], at: usize, number: u16)
 }
 
 // The number of four octets, of which each argument has two.
-fn four(high: u16, low: u16) -> u32
+pub fn four(high: u16, low: u16) -> u32
     ensures { λ r. ⌜ r ≡ high * 65536 + low ⌝ }
 {
     high as u32 * 65536 + low as u32
@@ -59,7 +59,7 @@ pub fn put_four(octets: &mut [u8], at: usize, number: u32)
 }
 
 // The number of eight octets, of which each argument has four.
-fn eight(high: u32, low: u32) -> u64
+pub fn eight(high: u32, low: u32) -> u64
     ensures { λ r. ⌜ r ≡ high * 4294967296 + low ⌝ }
 {
     high as u64 * 4294967296 + low as u64

@@ -3,7 +3,7 @@ use Prim.Native.Nat.{ℕ}
 use mathlib.Core.List.{List}
 use Rattle.fitness.specs.Fit.{lentRefusal}
 use Rattle.steps.specs.Outcome.{Outcome}
-use Rattle.gates.specs.Gated.{gated, opens, reserves, arrives, ticks, transmits, joinsBestEffort}
+use Rattle.gates.specs.Gated.{gated, opens, reserves, arrives, ticks, transmits, joinsBestEffort, binds, frames}
 
 -- Open(L, K)
 abbrev pub openCall : List ℕ → List ℕ → ℕ → ℕ → Outcome
@@ -28,3 +28,11 @@ transmitCall p m = gated (lentRefusal p m) p m (transmits p m)
 -- Best effort(a, tag)
 abbrev pub bestEffortCall : List ℕ → List ℕ → ℕ → ℕ → Outcome
 bestEffortCall p m charge tag = gated (lentRefusal p m) p m (joinsBestEffort p m charge tag)
+
+-- Bind(s, address, VID)
+abbrev pub bindCall : List ℕ → List ℕ → ℕ → List ℕ → ℕ → Outcome
+bindCall p m s address vid = gated (lentRefusal p m) p m (binds p m s address vid)
+
+-- Frame(octets, tag)
+abbrev pub frameCall : List ℕ → List ℕ → List ℕ → ℕ → Outcome
+frameCall p m octets tag = gated (lentRefusal p m) p m (frames p m octets tag)

@@ -7,7 +7,7 @@ use lib.ListN.{length}
 use lib.Dec.{ltb}
 use Rattle.record.specs.Layout.{recordLength, memoryLength}
 use Rattle.steps.specs.Outcome.{Outcome}
-use Rattle.gates.specs.Gated.{gated, opens, reserves, arrives, ticks, transmits, joinsBestEffort}
+use Rattle.gates.specs.Gated.{gated, opens, reserves, arrives, ticks, transmits, joinsBestEffort, binds, frames}
 
 -- 18 where the memory is too short, 19 where the record is
 unfoldable pub lengthRefusal : List ℕ → List ℕ → ℕ
@@ -36,3 +36,11 @@ quickTransmit p m = gated (lengthRefusal p m) p m (transmits p m)
 -- Best effort(a, tag)
 abbrev pub quickBestEffort : List ℕ → List ℕ → ℕ → ℕ → Outcome
 quickBestEffort p m charge tag = gated (lengthRefusal p m) p m (joinsBestEffort p m charge tag)
+
+-- Bind(s, address, VID)
+abbrev pub quickBind : List ℕ → List ℕ → ℕ → List ℕ → ℕ → Outcome
+quickBind p m s address vid = gated (lengthRefusal p m) p m (binds p m s address vid)
+
+-- Frame(octets, tag)
+abbrev pub quickFrame : List ℕ → List ℕ → List ℕ → ℕ → Outcome
+quickFrame p m octets tag = gated (lengthRefusal p m) p m (frames p m octets tag)

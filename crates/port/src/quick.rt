@@ -2,7 +2,7 @@
 use stream::Reply;
 ghost use mathlib.Core.Path.{_≡_};
 ghost use Rattle.steps.specs.Outcome.{outcome};
-ghost use Rattle.port.specs.Quick.{lengthRefusal, quickOpen, quickReserve, quickArrive, quickTick, quickTransmit, quickBestEffort};
+ghost use Rattle.port.specs.Quick.{lengthRefusal, quickOpen, quickReserve, quickArrive, quickTick, quickTransmit, quickBestEffort, quickBind, quickFrame};
 
 // The refusal of a memory or record that is too short, or 0.
 fn lengths(port: &[u8], memory: &[u8]) -> u8
@@ -81,4 +81,32 @@ pub fn best_effort(port: &mut [u8], memory: &mut [u8], charge: u32, tag: u32) ->
         return steps::refused(refusal);
     }
     gates::best_effort(port, memory, charge, tag)
+}
+
+// Bind(s, address, VID).
+pub fn bind(
+    port: &mut [u8],
+    memory: &[u8],
+    stream: u8,
+    address: &[u8; record::ADDRESS_LENGTH],
+    vid: u32,
+) -> Reply
+    ensures { λ r. ⌜ outcome r (now (port .exit)) (now (memory .entry)) ≡ quickBind (now (port .entry)) (now (memory .entry)) stream (now (address .entry)) vid ⌝ }
+{
+    let refusal = lengths(port, memory);
+    if refusal != 0 {
+        return steps::refused(refusal);
+    }
+    gates::bind(port, memory, stream, address, vid)
+}
+
+// Frame(octets, tag).
+pub fn frame(port: &mut [u8], memory: &mut [u8], octets: &[u8], tag: u32) -> Reply
+    ensures { λ r. ⌜ outcome r (now (port .exit)) (now (memory .exit)) ≡ quickFrame (now (port .entry)) (now (memory .entry)) (now (octets .entry)) tag ⌝ }
+{
+    let refusal = lengths(port, memory);
+    if refusal != 0 {
+        return steps::refused(refusal);
+    }
+    gates::frame(port, memory, octets, tag)
 }

@@ -3,9 +3,9 @@ ghost use mathlib.Core.Path.{_≡_};
 ghost use Rattle.ranges.specs.Ranges.{within, chargeFits, shareOf, linkFits, delayFits, permittedFits, vidFits};
 
 // The ends of a charge's range; P has the same lower end.
-const LEAST_CHARGE: u32 = 84;
+pub const LEAST_CHARGE: u32 = 84;
 
-const GREATEST_CHARGE: u32 = 1542;
+pub const GREATEST_CHARGE: u32 = 1542;
 
 // The greatest share.
 const GREATEST_SHARE: u32 = 21504;
@@ -64,10 +64,10 @@ pub fn permitted_fits(permitted: u32) -> bool
 }
 
 // Whether the VID is in its range.
-pub fn vid_fits(vid: u16) -> bool
+pub fn vid_fits(vid: u32) -> bool
     ensures { λ r. ⌜ r ≡ vidFits vid ⌝ }
 {
-    within(vid as u32, LEAST_VID, GREATEST_VID)
+    within(vid, LEAST_VID, GREATEST_VID)
 }
 
 // The share of a link.

@@ -1,17 +1,18 @@
--- Laws of an entry's fields: a stream's reservation by its octets. Assumes nothing.
+-- Laws of an entry's fields: a stream's reservation and its binding by their octets. Assumes nothing.
 use Prim.Native.Nat.{ℕ, _+_}
 use mathlib.Core.Bool.{cond}
 use mathlib.Core.Path.{_≡_, sym, ap, ap₂, _∙_}
-use mathlib.Core.List.{List, [], _∷_}
+use mathlib.Core.List.{List, [], _∷_, _++_}
 use native.Mathlib.Omega.{arith}
-use lib.ListN.{getD, set}
+use lib.ListN.{length, getD, set}
 use lib.Dec.{eqb}
 use Rattle.lists.specs.Window.{put, get}
 use Rattle.lists.proofs.WindowLaws.{get-get, put-append}
-use Rattle.octets.specs.Numbers.{twoOf, twoOctets}
+use Rattle.octets.specs.Numbers.{twoOf, twoOctets, fourOf, fourOctets}
+use Rattle.octets.proofs.NumberLaws.{Octets, two-again, four-again}
 use Rattle.stream.specs.declared.Stream.{Stream}
-use Rattle.record.specs.Layout.{entryOffset, placeOffset, leftOffset, permittedOffset, streamLength}
-use Rattle.record.specs.Entry.{placeOctets, streamAt, withStream, withPlace}
+use Rattle.record.specs.Layout.{entryOffset, placeOffset, leftOffset, permittedOffset, streamLength, boundOffset, pairOffset, addressOffset}
+use Rattle.record.specs.Entry.{placeOctets, streamAt, withStream, withPlace, withBinding}
 
 -- the fields read one by one are the reservation read
 pub stream-read : (l : List ℕ) (s : ℕ)
@@ -46,3 +47,33 @@ stream-written l s x =
     ap (λ (i : ℕ). put (put (set l (entryOffset s) (cond (x .reserved) 1 0)) (entryOffset s + placeOffset) (placeOctets (x .place) (x .left))) i (twoOctets (x .permitted)))
     (omega arith)
     ∙ sym (put-append (set l (entryOffset s) (cond (x .reserved) 1 0)) (entryOffset s + placeOffset) (placeOctets (x .place) (x .left)) (twoOctets (x .permitted)))
+
+-- four writes, each where the one before it ends, are one
+four-writes : (l : List ℕ) (i j k n : ℕ) (vs ws xs ys : List ℕ) → i + length vs ≡ j → j + length ws ≡ k → k + length xs ≡ n
+    → put (put (put (put l i vs) j ws) k xs) n ys ≡ put l i (vs ++ (ws ++ (xs ++ ys)))
+four-writes l i j k n vs ws xs ys a b c =
+    ap (λ (at : ℕ). put (put (put (put l i vs) j ws) k xs) at ys) (sym c)
+    ∙ sym (put-append (put (put l i vs) j ws) k xs ys)
+    ∙ ap (λ (at : ℕ). put (put (put l i vs) j ws) at (xs ++ ys)) (sym b)
+    ∙ sym (put-append (put l i vs) j ws (xs ++ ys))
+    ∙ ap (λ (at : ℕ). put (put l i vs) at (ws ++ (xs ++ ys))) (sym a)
+    ∙ sym (put-append l i vs (ws ++ (xs ++ ys)))
+
+-- the mark, the VID, and the address in two parts written are the binding written, where the address is of octets
+pub binding-written : (l : List ℕ) (s : ℕ) (address : List ℕ) (vid : ℕ) → Octets address
+    → put
+    (put
+    (put (put l (entryOffset s + boundOffset) (1 ∷ [])) (entryOffset s + pairOffset) (twoOctets vid))
+    (entryOffset s + addressOffset)
+    (twoOctets (twoOf (get address 0 2))))
+    (entryOffset s + addressOffset + 2)
+    (fourOctets (fourOf (get address 2 4)))
+    ≡ withBinding l s address vid
+unfolding withBinding
+binding-written l s address vid o =
+    let marked = put (put l (entryOffset s + boundOffset) (1 ∷ [])) (entryOffset s + pairOffset) (twoOctets vid) in
+    ap₂ (λ (xs ys : List ℕ). put (put marked (entryOffset s + addressOffset) xs) (entryOffset s + addressOffset + 2) ys)
+    (two-again (getD address 0 0) (getD address 1 0) (o 1))
+    (four-again (getD address 2 0) (getD address 3 0) (getD address 4 0) (getD address 5 0) (o 3) (o 4) (o 5))
+    ∙ four-writes l (entryOffset s + boundOffset) (entryOffset s + pairOffset) (entryOffset s + addressOffset) (entryOffset s + addressOffset + 2)
+    (1 ∷ []) (twoOctets vid) (get address 0 2) (get address 2 4) (omega arith) (omega arith) (omega arith)

@@ -5,3 +5,5 @@ pub mod HeadPairs
 pub mod EntryPairs
 pub mod KeepLaws
 pub mod OpenPairs
+pub mod BindingPairs
+pub mod PairLaws

@@ -6,7 +6,7 @@ use lib.ListN.{getD}
 use Rattle.lists.specs.Window.{put, get}
 use Rattle.octets.specs.Numbers.{twoOf, twoOctets, eightOf}
 use Rattle.stream.specs.declared.Stream.{Stream}
-use Rattle.record.specs.Layout.{entryOffset, placeOffset, leftOffset, permittedOffset, streamLength, boundOffset, pairOffset}
+use Rattle.record.specs.Layout.{entryOffset, placeOffset, leftOffset, permittedOffset, streamLength, boundOffset, pairOffset, addressOffset, addressLength}
 use Rattle.record.specs.Head.{markOf}
 
 -- the reservation of stream s: whether it is reserved, its place, left and P
@@ -29,15 +29,29 @@ withStream l s x = put l (entryOffset s) (streamOctets x)
 unfoldable pub withPlace : List ℕ → ℕ → ℕ → ℕ → List ℕ
 withPlace l s place left = put l (entryOffset s + placeOffset) (placeOctets place left)
 
--- whether stream s is bound, the VID of its binding, and the pair of VID and address as one number of eight octets
+-- whether stream s is bound, the VID and the address of its binding, and the pair of both as one number of eight octets
 unfoldable pub boundAt : List ℕ → ℕ → Bool
 boundAt l s = markOf (get l (entryOffset s + boundOffset) 1)
 
 unfoldable pub vidAt : List ℕ → ℕ → ℕ
 vidAt l s = twoOf (get l (entryOffset s + pairOffset) 2)
 
+unfoldable pub addressAt : List ℕ → ℕ → List ℕ
+addressAt l s = get l (entryOffset s + addressOffset) addressLength
+
 unfoldable pub pairAt : List ℕ → ℕ → ℕ
 pairAt l s = eightOf (get l (entryOffset s + pairOffset) 8)
+
+-- the pair of an address, which is the first six of these octets, and a VID: its octets as an entry has them, and its number
+abbrev pub pairOctets : List ℕ → ℕ → List ℕ
+pairOctets address vid = twoOctets vid ++ get address 0 addressLength
+
+unfoldable pub pairOf : List ℕ → ℕ → ℕ
+pairOf address vid = eightOf (pairOctets address vid)
+
+-- the record with stream s bound to the pair: marked so, with VID and address; nothing else of the stream is written
+unfoldable pub withBinding : List ℕ → ℕ → List ℕ → ℕ → List ℕ
+withBinding l s address vid = put l (entryOffset s + boundOffset) (1 ∷ pairOctets address vid)
 
 -- the record with the reservation and the binding of stream s dropped: it is no longer marked reserved, nor bound
 unfoldable pub dropped : List ℕ → ℕ → List ℕ

@@ -91,6 +91,13 @@ boundOffset = 7
 abbrev pub pairOffset : ℕ
 pairOffset = 8
 
+abbrev pub addressOffset : ℕ
+addressOffset = 10
+
+-- "a destination address of six octets"
+abbrev pub addressLength : ℕ
+addressLength = 6
+
 -- where the entry of stream s begins
 abbrev pub entryOffset : ℕ → ℕ
 entryOffset s = headLength + s * entryLength

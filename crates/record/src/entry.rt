@@ -2,9 +2,10 @@
 use stream::Stream;
 ghost use mathlib.Core.Path.{_≡_};
 ghost use mathlib.Core.Bool.{cond};
-ghost use Prim.Native.Nat.{_<_};
-ghost use Rattle.record.specs.Layout.{Whole, streamCount, entryOffset};
-ghost use Rattle.record.specs.Entry.{streamAt, withStream, withPlace, boundAt, vidAt, pairAt, dropped};
+ghost use Prim.Native.Nat.{_≤_, _<_};
+ghost use lib.ListN.{length};
+ghost use Rattle.record.specs.Layout.{Whole, streamCount, entryOffset, addressLength};
+ghost use Rattle.record.specs.Entry.{streamAt, withStream, withPlace, boundAt, vidAt, pairAt, pairOf, withBinding, dropped};
 
 // Where the entries begin, and the octets of one.
 pub(crate) const START: usize = 64;
@@ -21,6 +22,11 @@ const PERMITTED: usize = 4;
 const BOUND: usize = 7;
 
 const PAIR: usize = 8;
+
+const ADDRESS: usize = 10;
+
+// Where the last four octets of an address begin.
+const LATER: usize = 2;
 
 // Where the stream's entry begins.
 fn start(stream: u8) -> usize
@@ -96,6 +102,26 @@ pub fn pair(port: &[u8], stream: u8) -> u64
     ensures { λ r. ⌜ r ≡ pairAt (now (port .entry)) stream ⌝ }
 {
     octets::eight_at(port, start(stream) + PAIR)
+}
+
+// The pair of an address, the first six of the octets, and a VID, as one number.
+pub fn pair_of(address: &[u8], vid: u16) -> u64
+    requires { ⌜ addressLength ≤ length (now address) ⌝ }
+    ensures { λ r. ⌜ r ≡ pairOf (now (address .entry)) vid ⌝ }
+{
+    octets::eight(octets::four(vid, octets::two_at(address, 0)), octets::four_at(address, LATER))
+}
+
+// Binds the stream to an address, the first six of the octets, and a VID.
+pub fn put_binding(port: &mut [u8], stream: u8, address: &[u8], vid: u16)
+    requires { ⌜ Whole (now port) × ((stream < streamCount) × (addressLength ≤ length (now address))) ⌝ }
+    ensures { λ _. ⌜ now (port .exit) ≡ withBinding (now (port .entry)) stream (now (address .entry)) vid ⌝ }
+{
+    let at = start(stream);
+    crate::put_octet(port, at + BOUND, crate::YES);
+    octets::put_two(port, at + PAIR, vid);
+    octets::put_two(port, at + ADDRESS, octets::two_at(address, 0));
+    octets::put_four(port, at + ADDRESS + LATER, octets::four_at(address, LATER));
 }
 
 // Drops the stream's reservation and its binding.

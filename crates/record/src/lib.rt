@@ -24,6 +24,9 @@ pub const RECORD_LENGTH: usize = entry::START + STREAMS as usize * entry::LENGTH
 
 pub const MEMORY_LENGTH: usize = ALL_QUEUES as usize * queue::PART_LENGTH;
 
+// The octets of an address.
+pub const ADDRESS_LENGTH: usize = 6;
+
 // An octet as a mark: 1 is yes, any other no.
 const YES: u8 = 1;
 

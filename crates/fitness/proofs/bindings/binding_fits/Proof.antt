@@ -37,6 +37,9 @@ returns-2 c =
 vid-requires : tie.Need-vid-requires
 vid-requires c κs = search needs
 
+cast-vid-fits : tie.Need-cast-vid-fits
+cast-vid-fits c = search needs
+
 vid-fits-requires : tie.Need-vid-fits-requires
 vid-fits-requires c κs = search needs
 
@@ -73,6 +76,7 @@ binding-fits-spec =
     stream-at-requires
     returns-2
     vid-requires
+    cast-vid-fits
     vid-fits-requires
     returns-3
     pair-requires

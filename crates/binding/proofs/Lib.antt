@@ -1,0 +1,2 @@
+-- The laws of the lookup, cited by the crates above.
+pub mod FindingLaws

@@ -1,0 +1,3 @@
+-- Bind, and the lookup of a pair among the bindings.
+pub mod Binding
+pub mod Finding

@@ -1,0 +1,2 @@
+-- The laws of a frame's header, cited by the crates above.
+pub mod HeaderLaws

@@ -1,0 +1,2 @@
+-- A frame by its octets: its charge, and what Frame reads of its header.
+pub mod Header
