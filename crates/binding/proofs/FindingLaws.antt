@@ -10,7 +10,7 @@ use Rattle.record.specs.Layout.{streamCount}
 use Rattle.record.specs.Entry.{pairOf}
 use Rattle.binding.specs.declared.Lookup.{Lookup}
 use Rattle.binding.specs.declared.Lookup.the-variants.{Bound, Unbound}
-use Rattle.binding.specs.Finding.{boundTo, lookupFrom, lookup}
+use Rattle.binding.specs.Finding.{boundTo, lookupFrom, lookup, isBound}
 
 beyond : (from t : ℕ) → from ≤ t → (t ≡ from → ⊥) → from + 1 ≤ t
 beyond from t a o = ⊎-elim (λ (e : t ≤ from). absurd (o (omega arith))) (λ (h : from < t). omega arith) (le-or-lt t from)
@@ -62,7 +62,15 @@ pub finds-none : (p address : List ℕ) (vid : ℕ) → lookup p address vid ≡
 unfolding lookup
 finds-none p address vid e t b = subst (Right p (pairOf address vid) 0 streamCount) e (right-from p (pairOf address vid) streamCount 0) t (omega arith) (omega arith)
 
--- so a stream that is bound to it is found, if no other is
+-- so is a pair that the lookup says is free
+pub free-pair : (p address : List ℕ) (vid : ℕ) → isBound (lookup p address vid) ≡ false → (t : ℕ) → t < streamCount → boundTo p (pairOf address vid) t ≡ false
+free-pair p address vid free = told (lookup p address vid) refl free
+  where
+    told : (found : Lookup) → lookup p address vid ≡ found → isBound found ≡ false → (t : ℕ) → t < streamCount → boundTo p (pairOf address vid) t ≡ false
+    told (Bound s) e is = let z : _≡_ {A = ℕ} 0 1 = cc in absurd (omega arith)
+    told Unbound e is = finds-none p address vid e
+
+-- a stream that is bound to it is found, if no other is
 pub finds-only : (p address : List ℕ) (vid s : ℕ) → s < streamCount → boundTo p (pairOf address vid) s ≡ true
     → ((t : ℕ) → t < streamCount → boundTo p (pairOf address vid) t ≡ true → t ≡ s)
     → lookup p address vid ≡ Bound s

@@ -8,10 +8,11 @@ use lib.Dec.{leb, ltb}
 use Rattle.queue.specs.Ring.{placeCount}
 use Rattle.record.specs.Layout.{bestEffort, streamCount}
 use Rattle.record.specs.Head.{openAt, linkAt, waitsAt, queueAt}
-use Rattle.record.specs.Entry.{streamAt}
-use Rattle.ranges.specs.Ranges.{chargeFits, shareOf, permittedFits}
+use Rattle.record.specs.Entry.{streamAt, boundAt}
+use Rattle.ranges.specs.Ranges.{chargeFits, shareOf, permittedFits, vidFits}
 use Rattle.fitness.specs.Clauses.{permittedSum}
-use Rattle.gates.specs.Refusals.{openRefusal, reserveRefusal, arriveRefusal, closedRefusal, bestEffortLimit, bestEffortRefusal}
+use Rattle.binding.specs.Finding.{lookup, isBound}
+use Rattle.gates.specs.Refusals.{openRefusal, reserveRefusal, arriveRefusal, closedRefusal, bestEffortLimit, bestEffortRefusal, bindRefusal}
 
 -- an open port refuses Open with 2, and neither Tick nor Transmit
 pub open-taken : (p : List ℕ) (link delay : ℕ) → openAt p ≡ true → openRefusal p link delay ≡ 2
@@ -51,3 +52,13 @@ best-effort-numbers p charge =
     let fifteen = gate-below (leb placeCount (queueAt p bestEffort .count)) 15 _ (omega arith) sixteen in
     let thirteen = gate-below (not (chargeFits charge)) 13 _ (omega arith) fifteen in
     gate-below (not (openAt p)) 1 _ (omega arith) thirteen
+
+pub bind-numbers : (p : List ℕ) (s : ℕ) (address : List ℕ) (vid : ℕ) → bindRefusal p s address vid < 18
+unfolding bindRefusal
+bind-numbers p s address vid =
+    let eleven = gate-below (isBound (lookup p address vid)) 11 0 (omega arith) (omega arith) in
+    let ten = gate-below (boundAt p s) 10 _ (omega arith) eleven in
+    let nine = gate-below (not (vidFits vid)) 9 _ (omega arith) ten in
+    let twelve = gate-below (not (streamAt p s .reserved)) 12 _ (omega arith) nine in
+    let five = gate-below (leb streamCount s) 5 _ (omega arith) twelve in
+    gate-below (not (openAt p)) 1 _ (omega arith) five

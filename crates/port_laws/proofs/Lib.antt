@@ -7,6 +7,9 @@ pub mod ArriveFit
 pub mod TickFit
 pub mod SendFit
 pub mod BestEffortFit
+pub mod BindFit
+pub mod FrameLaws
+pub mod LookupLaws
 pub mod QuickLaws
 pub mod StayLaws
 pub mod CasesHold

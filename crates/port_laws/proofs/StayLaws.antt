@@ -13,18 +13,24 @@ use Rattle.arriving.specs.Arriving.{arriveStep}
 use Rattle.ticking.specs.Ticking.{tickStep}
 use Rattle.sending.specs.Sending.{transmitStep}
 use Rattle.best_effort.specs.BestEffort.{bestEffortStep}
-use Rattle.gates.specs.Refusals.{openRefusal, reserveRefusal, arriveRefusal, closedRefusal, bestEffortRefusal}
-use Rattle.gates.specs.Gated.{gated, opens, reserves, arrives, ticks, transmits, joinsBestEffort}
-use Rattle.gates.proofs.GateLaws.{grants, refuses, open-allowed, reserve-allowed, arrive-allowed, best-effort-allowed}
+use Rattle.header.specs.Header.{chargeOf}
+use Rattle.binding.specs.declared.Lookup.{Lookup}
+use Rattle.binding.specs.declared.Lookup.the-variants.{Bound, Unbound}
+use Rattle.binding.specs.Binding.{bindStep}
+use Rattle.binding.specs.Finding.{frameLookup}
+use Rattle.gates.specs.Refusals.{openRefusal, reserveRefusal, arriveRefusal, closedRefusal, bestEffortRefusal, bindRefusal, frameRefusal}
+use Rattle.gates.specs.Gated.{gated, opens, reserves, arrives, ticks, transmits, joinsBestEffort, binds, becomes, frames}
+use Rattle.gates.proofs.GateLaws.{grants, refuses, open-allowed, reserve-allowed, arrive-allowed, best-effort-allowed, bind-allowed}
 use Rattle.port.specs.Quick.{lengthRefusal, quickOpen}
 use Rattle.port.proofs.LengthLaws.{long-enough}
-use Rattle.port_laws.specs.Lists.{Call, opening, reserving, arriving, ticking, transmitting, joiningBestEffort, called, quicklyCalled, replies}
+use Rattle.port_laws.specs.Lists.{Call, opening, reserving, arriving, ticking, transmitting, joiningBestEffort, binding, framing, called, quicklyCalled, replies}
 use Rattle.port_laws.proofs.OpenFit.{open-fits}
 use Rattle.port_laws.proofs.ReserveFit.{reserve-fits}
 use Rattle.port_laws.proofs.ArriveFit.{arrive-fits}
 use Rattle.port_laws.proofs.TickFit.{tick-fits}
 use Rattle.port_laws.proofs.SendFit.{transmit-fits}
 use Rattle.port_laws.proofs.BestEffortFit.{best-effort-fits}
+use Rattle.port_laws.proofs.BindFit.{bind-fits}
 use Rattle.port_laws.proofs.QuickLaws.{quick-call}
 
 -- the record that a call leaves is fit for the memory that it leaves
@@ -70,6 +76,21 @@ module _ (p m : List ℕ) (fit : recordFits p m ≡ true) where
       (λ e. let a = best-effort-allowed p charge e in
       best-effort-fits p m charge tag (lent-fit p m lent .0) fit (a .charge-fits) (a .free))
 
+  binds-fit : (s : ℕ) (address : List ℕ) (vid : ℕ) → LeavesFit (binds p m s address vid)
+  binds-fit s address vid =
+      gated-fits (bindRefusal p s address vid) p m (bindStep p m s address vid) fit
+      (λ e. let a = bind-allowed p s address vid e in
+      bind-fits p m s address vid fit (a .stream) (a .reserved) (a .vid-fits) (a .free))
+
+  -- a frame, as the call that it becomes
+  frames-fit : lentRefusal p m ≡ 0 → (octets : List ℕ) (tag : ℕ) → LeavesFit (frames p m octets tag)
+  frames-fit lent octets tag =
+      gated-fits (frameRefusal p octets) p m (becomes p m (chargeOf octets) tag (frameLookup p octets)) fit (λ e. told (frameLookup p octets))
+    where
+      told : (found : Lookup) → LeavesFit (becomes p m (chargeOf octets) tag found)
+      told (Bound s) = arrives-fit lent s (chargeOf octets) tag
+      told Unbound = joins-best-effort-fit lent (chargeOf octets) tag
+
 -- every call
 pub stays-fit : (c : Call) (p m : List ℕ) → recordFits p m ≡ true → LeavesFit (called c p m)
 stays-fit (opening link delay) p m fit = gated-fits (lentRefusal p m) p m (opens p m link delay) fit (λ e. opens-fit p m fit link delay)
@@ -78,6 +99,8 @@ stays-fit (arriving s charge tag) p m fit = gated-fits (lentRefusal p m) p m (ar
 stays-fit ticking p m fit = gated-fits (lentRefusal p m) p m (ticks p m) fit (λ e. ticks-fit p m fit)
 stays-fit transmitting p m fit = gated-fits (lentRefusal p m) p m (transmits p m) fit (λ e. transmits-fit p m fit)
 stays-fit (joiningBestEffort charge tag) p m fit = gated-fits (lentRefusal p m) p m (joinsBestEffort p m charge tag) fit (λ e. joins-best-effort-fit p m fit e charge tag)
+stays-fit (binding s address vid) p m fit = gated-fits (lentRefusal p m) p m (binds p m s address vid) fit (λ e. binds-fit p m fit s address vid)
+stays-fit (framing octets tag) p m fit = gated-fits (lentRefusal p m) p m (frames p m octets tag) fit (λ e. frames-fit p m fit e octets tag)
 
 -- a gated call that is granted was let through
 pub let-through : (g : ℕ) (p m : List ℕ) (done : Outcome) → gated g p m done .reply .refusal ≡ 0 → g ≡ 0

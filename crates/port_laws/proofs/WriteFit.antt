@@ -15,7 +15,7 @@ use Rattle.queue.specs.Ring.{placeCount, joinedMemory, joinedQueue}
 use Rattle.queue.specs.Waiting.{waiting, chargesOf}
 use Rattle.queue.proofs.WaitingLaws.{joins}
 use Rattle.record.specs.Layout.{queueCount, bestEffort, allQueues, streamCount, memoryLength}
-use Rattle.record.specs.Head.{priorAt, withPrior, waitsAt, withWaits, queueAt, withQueue}
+use Rattle.record.specs.Head.{openAt, priorAt, withPrior, delayAt, linkAt, waitsAt, withWaits, queueAt, withQueue}
 use Rattle.record.specs.Entry.{streamAt, withPlace, boundAt, vidAt}
 use Rattle.record.proofs.HeadPairs.{prior-prior, waits-prior, queue-prior, stream-prior, waits-waits, prior-waits, queue-waits, stream-waits, queue-queue, other-queue, queue-cases, prior-queue, waits-queue, stream-queue}
 use Rattle.record.proofs.EntryPairs.{place-cases, prior-place, waits-place, queue-place}
@@ -50,20 +50,20 @@ abbrev pub FitQueue : List ℕ → ℕ → Queue → Type 0
 FitQueue m q x = (queueFits x ≡ true) × (allOf (frameFits q) (waiting m q x) ≡ true)
 
 -- each stream is reserved as it was, with the same P
-abbrev SameReservations : List ℕ → List ℕ → Type 0
+abbrev pub SameReservations : List ℕ → List ℕ → Type 0
 SameReservations p k = (s : ℕ) → s < streamCount → (streamAt k s .reserved ≡ streamAt p s .reserved) × (streamAt k s .permitted ≡ streamAt p s .permitted)
 
-same-stream : (x y : Stream) → x ≡ y → (x .reserved ≡ y .reserved) × (x .permitted ≡ y .permitted)
+pub same-stream : (x y : Stream) → x ≡ y → (x .reserved ≡ y .reserved) × (x .permitted ≡ y .permitted)
 same-stream x y e = (ap (λ (z : Stream). z .reserved) e, ap (λ (z : Stream). z .permitted) e)
 
-module _ (p k m n : List ℕ) (fit : Fit p m) (keeps : Keeps p k) (same : SameReservations p k) where
-  -- then L, K, each P and their sum are as fit as they were
-  plan-stays : openFits k ≡ true
-  plan-stays =
-      let each = allTo-same (λ s. reservationFits (streamAt k s)) (λ s. reservationFits (streamAt p s)) streamCount (λ s b. rw (same s b .0, same s b .1)) in
-      let sum : permittedSum k ≡ permittedSum p = sumTo-same (λ s. permittedOf (streamAt k s)) (λ s. permittedOf (streamAt p s)) streamCount (λ s b. rw (same s b .0, same s b .1)) in
-      rw (keeps .opened, keeps .link, keeps .delay, each, sum) (fit .plan)
+-- then L, K, each P and their sum are as fit as they were
+pub plan-stays : (p k : List ℕ) → SameReservations p k → openAt k ≡ openAt p → linkAt k ≡ linkAt p → delayAt k ≡ delayAt p → openFits p ≡ true → openFits k ≡ true
+plan-stays p k same opened link delay plan =
+    let each = allTo-same (λ s. reservationFits (streamAt k s)) (λ s. reservationFits (streamAt p s)) streamCount (λ s b. rw (same s b .0, same s b .1)) in
+    let sum : permittedSum k ≡ permittedSum p = sumTo-same (λ s. permittedOf (streamAt k s)) (λ s. permittedOf (streamAt p s)) streamCount (λ s b. rw (same s b .0, same s b .1)) in
+    rw (opened, link, delay, each, sum) plan
 
+module _ (p k m n : List ℕ) (fit : Fit p m) (keeps : Keeps p k) (same : SameReservations p k) where
   -- where the reservations and all that `Keeps` names are kept, fitness is that of prior, the queues, the places and W
   kept-fits : priorAt k < queueCount
       → ((q : ℕ) → q < allQueues → FitQueue n q (queueAt k q))
@@ -79,7 +79,7 @@ module _ (p k m n : List ℕ) (fit : Fit p m) (keeps : Keeps p k) (same : SameRe
         bindings = bindings-stay p k m fit keeps (λ s b r. same s b .0 ∙ r);
         frames = λ q b. queues q b .1;
         waits = waits;
-        plan = plan-stays;
+        plan = plan-stays p k same (keeps .opened) (keeps .link) (keeps .delay) (fit .plan);
       }
 
 module _ (p m : List ℕ) (fit : Fit p m) where
