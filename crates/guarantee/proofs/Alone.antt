@@ -12,7 +12,7 @@ use Rattle.stream.specs.declared.Stream.{Stream}
 use Rattle.stream.specs.State.{reserveOf}
 use Rattle.stream.specs.Steps.{arriveOf, tickOf}
 use Rattle.stream.specs.Replies.{refusedBy, replyOf, streamOf}
-use Rattle.port_laws.specs.Lists.{Call, opening, reserving, arriving, ticking, transmitting, joiningBestEffort}
+use Rattle.port_laws.specs.Lists.{Call, opening, reserving, arriving, ticking, transmitting, joiningBestEffort, binding, framing}
 use Rattle.guarantee.specs.Events.{Sent, Event}
 use Rattle.guarantee.specs.Claims.{isTick, isReserveOf, isArriveOf, remaining, grants, answers, Alike}
 use Rattle.guarantee.proofs.Run.{View, ownRefusal, Quiet, Effect, quiet, refuses-reservation, reserves, refuses-arrival, arrives, ticks, sends, idles, Run}
@@ -34,11 +34,15 @@ replyAlone last s x (arriving r charge tag ∷ cs) gs = ownReply last s x charge
 replyAlone last s x (ticking ∷ cs) gs = replyAlone last s (tickOf x) cs gs
 replyAlone last s x (transmitting ∷ cs) gs = replyAlone last s x cs gs
 replyAlone last s x (joiningBestEffort charge tag ∷ cs) gs = replyAlone last s x cs gs
+replyAlone last s x (binding r address vid ∷ cs) gs = replyAlone last s x cs gs
+replyAlone last s x (framing octets tag ∷ cs) gs = replyAlone last s x cs gs
 
 -- a call that touches neither queues nor streams is struck out
 quiet-foreign : (s : ℕ) (c : Call) → Quiet c → (isTick c ≡ false) × ((isReserveOf s c ≡ false) × (isArriveOf s c ≡ false))
 quiet-foreign s (opening link delay) q = (refl, (refl, refl))
 quiet-foreign s (joiningBestEffort charge tag) q = (refl, (refl, refl))
+quiet-foreign s (binding r address vid) q = (refl, (refl, refl))
+quiet-foreign s (framing octets tag) q = (refl, (refl, refl))
 
 -- by whether there is a refusal
 allowed-so : {A : Type 0} (g : ℕ) (y z : A) → g ≡ 0 → cond (eqb g 0) y z ≡ y

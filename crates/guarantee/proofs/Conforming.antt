@@ -23,7 +23,7 @@ use Rattle.stream.proofs.TickLaws.{tick-cases}
 use Rattle.record.specs.Layout.{streamCount}
 use Rattle.ranges.specs.Ranges.{leastCharge, greatestCharge, chargeFits}
 use Rattle.ranges.proofs.RangeLaws.{within-bounds}
-use Rattle.port_laws.specs.Lists.{Call, opening, reserving, arriving, joiningBestEffort}
+use Rattle.port_laws.specs.Lists.{Call, opening, reserving, arriving, joiningBestEffort, binding, framing}
 use Rattle.guarantee.specs.Events.{Sent, Event}
 use Rattle.guarantee.specs.Claims.{isTick, NoTick, PurgesNothing, offer, offers, OffersWithin, Prompt, ConformingPrompt}
 use Rattle.lists.proofs.EachLaws.{differ, all-rest}
@@ -77,6 +77,8 @@ offer-unfit s r a tag unfit = rw (unfit, and-false (eqb r s))
 quiet-offers : (s : ℕ) (c : Call) → Quiet c → offer s c ≡ 0
 quiet-offers s (opening link delay) q = refl
 quiet-offers s (joiningBestEffort charge tag) q = refl
+quiet-offers s (binding r address vid) q = refl
+quiet-offers s (framing octets tag) q = refl
 
 -- no arrival of a fit charge on a reserved stream is refused before its rule
 allowed : (s : ℕ) (x : Stream) (a : ℕ) → s < streamCount → x .reserved ≡ true → chargeFits a ≡ true → ownRefusal s x a ≡ 0

@@ -12,6 +12,8 @@ pub mod BestEffortWritten
 pub mod Next
 pub mod NextReserve
 pub mod NextBestEffort
+pub mod NextBind
+pub mod NextFrame
 pub mod NextArrive
 pub mod NextTick
 pub mod NextTransmit

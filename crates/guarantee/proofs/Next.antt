@@ -10,8 +10,8 @@ use Rattle.stream.specs.State.{lastPlace}
 use Rattle.stream.specs.Replies.{refusedBy}
 use Rattle.queue.specs.Waiting.{waiting}
 use Rattle.record.specs.Layout.{queueCount, bestEffort}
-use Rattle.record.specs.Head.{queueAt}
-use Rattle.record.proofs.KeepLaws.{Keeps, keeps-same}
+use Rattle.record.specs.Head.{openAt, linkAt, queueAt}
+use Rattle.record.proofs.KeepLaws.{Keeps}
 use Rattle.ranges.specs.Ranges.{shareOf}
 use Rattle.fitness.specs.Fit.{lentRefusal}
 use Rattle.fitness.proofs.FitLaws.{fit-lent}
@@ -25,9 +25,16 @@ use Rattle.guarantee.proofs.Run.{View, Effect}
 use Rattle.guarantee.proofs.Tied.{Tied}
 use Rattle.guarantee.proofs.Held.{seenAt, inRole, Holds}
 
+-- record q is of an open port where p is, with the same L
+abbrev pub SameLink : List ℕ → List ℕ → Type 0
+SameLink p q = (openAt q ≡ openAt p) × (linkAt q ≡ linkAt p)
+
+pub link-kept : (p q : List ℕ) → Keeps p q → SameLink p q
+link-kept p q keeps = (keeps .opened, keeps .link)
+
 -- record q, memory m and the memory k of the marked calls hold view w and best effort's frames, of a port that was p before
 pub record Moved (all : List Call) (p q m k : List ℕ) (w : View) (best : List Marked) : Type 0 where
-  pub keeps : Keeps p q
+  pub keeps : SameLink p q
   pub streams : (s : ℕ) → w .stream s ≡ seenAt q s
   pub queues : (role : ℕ) → role < queueCount → Tied all reserved (inRole q m role) (inRole q k role) (w .queue role)
   pub above : (role : ℕ) → queueCount ≤ role → w .queue role ≡ []
@@ -54,7 +61,7 @@ pub record Next (earlier all : List Call) (n link : ℕ) (p m k : List ℕ) (v :
 module _ (all : List Call) (n link : ℕ) (p m k : List ℕ) (v : View) (best : List Marked) (h : Holds all link p m k v best) where
   -- where nothing changes
   pub unmoved : Moved all p p m k v best
-  unmoved = record { keeps = keeps-same p; streams = h .streams; queues = h .queues; above = h .above; waits = h .waits }
+  unmoved = record { keeps = (refl, refl); streams = h .streams; queues = h .queues; above = h .above; waits = h .waits }
 
   pub next-refused : (g : ℕ) (c : Call) → g < 18 → (c ≡ transmitting → ⊥) → Effect lastPlace (shareOf link) n v v (refusedBy g) (sentBy all c (refusedBy g)) c
       → Next all all n link p m k v c (refused g p m) (refused g p k)

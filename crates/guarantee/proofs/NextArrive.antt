@@ -43,7 +43,7 @@ use Rattle.guarantee.proofs.Room.{Sound, octets-most, charged-length, s
 use Rattle.guarantee.proofs.Tied.{Tied, plain, numbered, tied-joins, tied-length}
 use Rattle.guarantee.proofs.CallLaws.{no-transmit}
 use Rattle.guarantee.proofs.Held.{Holds, inRole, seen-below, seen-as-is, own-refusal, role-kept, changed, changed-here, changed-else, changed-seen}
-use Rattle.guarantee.proofs.Next.{Moved, Next, next-refused, by-gate}
+use Rattle.guarantee.proofs.Next.{link-kept, Moved, Next, next-refused, by-gate}
 
 -- the step, where the frame joins a queue that has room, and where it is discarded
 module _ (p m : List ℕ) (s a tag : ℕ) where
@@ -208,7 +208,7 @@ module _ (all : List Call) (n link : ℕ) (p m k : List ℕ) (v : View) (best : 
         (arrivedView v s frame (Joined place next)) best
     joined-moved =
         record {
-          keeps = keeps-both p _ _ (keeps-place p s (next .place) (next .left)) (keeps-queue (moved p s next) number (joinedQueue (queueAt p number)) (omega (arith, role-below p place)));
+          keeps = link-kept _ _ (keeps-both p _ _ (keeps-place p s (next .place) (next .left)) (keeps-queue (moved p s next) number (joinedQueue (queueAt p number)) (omega (arith, role-below p place))));
           streams =
               changed-seen p after v s next below (h .streams)
               (joined-stream p s number next whole (role-below p place) s ∙ stream-place p s (next .place) (next .left) whole below ∙ next-held)
@@ -257,7 +257,7 @@ module _ (all : List Call) (n link : ℕ) (p m k : List ℕ) (v : View) (best : 
           long-marked = refl;
           moved =
               record {
-                keeps = keeps-place p s (spent .place) (spent .left);
+                keeps = link-kept _ _ (keeps-place p s (spent .place) (spent .left));
                 streams =
                     changed-seen p (moved p s spent) v s spent below (h .streams) (stream-place p s (spent .place) (spent .left) whole below ∙ spent-held)
                     (ap (λ (x : Stream). x .reserved) (sym spent-held) ∙ is-reserved)

@@ -25,7 +25,7 @@ use Rattle.guarantee.proofs.Tied.{tied-joins}
 use Rattle.guarantee.proofs.CallLaws.{no-transmit}
 use Rattle.guarantee.proofs.BestEffortWritten.{written, written-keeps, written-here, written-stream, role-not-best-effort, written-role}
 use Rattle.guarantee.proofs.Held.{Holds, inRole, same-seen}
-use Rattle.guarantee.proofs.Next.{Next, next-refused, by-gate}
+use Rattle.guarantee.proofs.Next.{link-kept, Next, next-refused, by-gate}
 
 -- the queue of best effort and W after the step
 abbrev queueJoined : List ℕ → Queue
@@ -68,7 +68,7 @@ module _ (all : List Call) (n link : ℕ) (p m k : List ℕ) (v : View) (best : 
         long-marked = joins-length k bestEffort x (bestEffortFrame a n);
         moved =
             record {
-              keeps = written-keeps p (queueJoined p) (waitsAt p + a);
+              keeps = link-kept _ _ (written-keeps p (queueJoined p) (waitsAt p + a));
               streams = same-seen p (written p (queueJoined p) (waitsAt p + a)) v (h .streams) (λ i b. written-stream p (queueJoined p) (waitsAt p + a) i);
               queues = λ role b. rw (best-effort-role p a m (bestEffortFrame a tag) role, best-effort-role p a k (bestEffortFrame a n) role) (h .queues role b);
               above = h .above;

@@ -21,7 +21,7 @@ use Rattle.guarantee.specs.Events.{Marked, marked}
 use Rattle.guarantee.proofs.Run.{View, free, quiet, refuses-reservation, reserves}
 use Rattle.guarantee.proofs.CallLaws.{no-transmit}
 use Rattle.guarantee.proofs.Held.{Holds, seen-below, seen-free, seen-sum, role-kept, changed, changed-here, changed-else, changed-seen}
-use Rattle.guarantee.proofs.Next.{Next, next-refused, by-gate}
+use Rattle.guarantee.proofs.Next.{link-kept, Next, next-refused, by-gate}
 
 module _ (all : List Call) (n link : ℕ) (p m k : List ℕ) (v : View) (best : List Marked) (h : Holds all link p m k v best) where
   -- Reserve, granted
@@ -50,7 +50,7 @@ module _ (all : List Call) (n link : ℕ) (p m k : List ℕ) (v : View) (best : 
         long-marked = refl;
         moved =
             record {
-              keeps = keeps-stream p s (reserveOf permitted);
+              keeps = link-kept _ _ (keeps-stream p s (reserveOf permitted));
               streams =
                   changed-seen p q v s (reserveOf permitted) (a .stream) (h .streams) (stream-stream p s (reserveOf permitted) whole (a .stream)) refl
                   (λ i b o. other-stream p s (reserveOf permitted) i o);

@@ -36,7 +36,7 @@ use Rattle.guarantee.proofs.Run.{View, free, octets, ticks}
 use Rattle.guarantee.proofs.Tied.{Tied, tied-empty, tied-length, tied-octets, tied-octets-shown}
 use Rattle.guarantee.proofs.CallLaws.{no-transmit}
 use Rattle.guarantee.proofs.Held.{Holds, inRole, seen, seenAt, seen-below, seen-above, seen-as-is, seen-free}
-use Rattle.guarantee.proofs.Next.{Next, by-gate}
+use Rattle.guarantee.proofs.Next.{link-kept, Next, by-gate}
 
 -- a stream of the record after the tick: nothing of an unreserved one is written
 abbrev ticked : Stream → Stream
@@ -234,7 +234,7 @@ module _ (all : List Call) (n link : ℕ) (p m k : List ℕ) (v : View) (best : 
         long-marked = refl;
         moved =
             record {
-              keeps = ticked-keeps p whole;
+              keeps = link-kept _ _ (ticked-keeps p whole);
               streams = tick-streams;
               queues = tick-queues;
               above = λ role b. h .above (suc role) (omega arith);

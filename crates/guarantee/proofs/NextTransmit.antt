@@ -36,7 +36,7 @@ use Rattle.guarantee.proofs.CallLaws.{not-reserved, none-reserved}
 use Rattle.guarantee.proofs.Tied.{Tied, Oldest, oldest, tied-length}
 use Rattle.guarantee.proofs.BestEffortWritten.{written, written-keeps, written-here, written-stream, written-role}
 use Rattle.guarantee.proofs.Held.{Holds, inRole, role-kept, same-seen}
-use Rattle.guarantee.proofs.Next.{Next, unmoved, by-gate}
+use Rattle.guarantee.proofs.Next.{link-kept, Next, unmoved, by-gate}
 
 module _ (all : List Call) (n link : ℕ) (p m k : List ℕ) (v : View) (best : List Marked) (h : Holds all link p m k v best) where
   whole : Whole p
@@ -127,7 +127,7 @@ module _ (all : List Call) (n link : ℕ) (p m k : List ℕ) (v : View) (best : 
           long-marked = refl;
           moved =
               record {
-                keeps = keeps-queue p number (sentQueue there) number-below;
+                keeps = link-kept _ _ (keeps-queue p number (sentQueue there) number-below);
                 streams = same-seen p after v (h .streams) (λ i c. stream-queue p number (sentQueue there) i number-below);
                 queues = sent-queues;
                 above = λ j c. sent-else j (λ e. omega arith) ∙ h .above j c;
@@ -168,7 +168,7 @@ module _ (all : List Call) (n link : ℕ) (p m k : List ℕ) (v : View) (best : 
           long-marked = refl;
           moved =
               record {
-                keeps = written-keeps p (sentQueue waitingThere) octets;
+                keeps = link-kept _ _ (written-keeps p (sentQueue waitingThere) octets);
                 streams = same-seen p (written p (sentQueue waitingThere) octets) v (h .streams) (λ i c. written-stream p (sentQueue waitingThere) octets i);
                 queues = λ role b. rw (written-role p (sentQueue waitingThere) octets m role, written-role p (sentQueue waitingThere) octets k role) (h .queues role b);
                 above = h .above;

@@ -1,6 +1,6 @@
 -- A list of calls, from a port that holds a view on, is a run of the views. Assumes nothing.
 use Prim.Native.Nat.{ℕ, suc, _<_}
-use mathlib.Core.Bool.{true}
+use mathlib.Core.Bool.{Bool, true, false, cond}
 use mathlib.Core.Path.{_≡_, refl, sym, ap, ap₂, subst, _∙_}
 use mathlib.Core.List.{List, [], _∷_, _++_}
 use native.Mathlib.Omega.{arith}
@@ -9,12 +9,17 @@ use Rattle.lists.specs.Each.{All}
 use Rattle.lists.proofs.EachLaws.{getD-before, getD-last}
 use Rattle.stream.specs.State.{lastPlace}
 use Rattle.ranges.specs.Ranges.{shareOf}
+use Rattle.header.specs.Header.{chargeOf, lengthFits}
 use Rattle.fitness.specs.Fit.{recordFits}
 use Rattle.steps.specs.Outcome.{Outcome}
-use Rattle.port_laws.specs.Lists.{Call, opening, reserving, arriving, ticking, transmitting, joiningBestEffort, called, quicklyCalled}
+use Rattle.binding.specs.declared.Lookup.{Lookup}
+use Rattle.binding.specs.declared.Lookup.the-variants.{Bound, Unbound}
+use Rattle.binding.specs.Finding.{frameLookup}
+use Rattle.port_laws.specs.Lists.{Call, opening, reserving, arriving, ticking, transmitting, joiningBestEffort, binding, framing, called, quicklyCalled, becoming}
+use Rattle.port_laws.proofs.FrameLaws.{frame-becomes}
 use Rattle.port_laws.proofs.QuickLaws.{quick-call}
 use Rattle.port_laws.proofs.StayLaws.{stays-fit}
-use Rattle.guarantee.specs.Events.{Marked, Sent, reserved, bestEffort as sentBestEffort, none, broughtBy, marked, sentBy, Event, happened}
+use Rattle.guarantee.specs.Events.{Marked, Sent, reserved, bestEffort as sentBestEffort, none, countsAs, broughtBy, marked, sentBy, Event, happened}
 use Rattle.guarantee.specs.Claims.{SaysWhatItSends, AlikeMarked, NotByHost}
 use Rattle.guarantee.proofs.Run.{View, Effect, Run}
 use Rattle.guarantee.proofs.CallLaws.{NoTransmit, no-transmit, sends-none}
@@ -24,6 +29,8 @@ use Rattle.guarantee.proofs.Held.{Holds, inRole}
 use Rattle.guarantee.proofs.Next.{Moved, Next}
 use Rattle.guarantee.proofs.NextReserve.{next-reserve, next-open}
 use Rattle.guarantee.proofs.NextBestEffort.{next-best-effort}
+use Rattle.guarantee.proofs.NextBind.{next-bind}
+use Rattle.guarantee.proofs.NextFrame.{next-refused-frame}
 use Rattle.guarantee.proofs.NextArrive.{next-arrive}
 use Rattle.guarantee.proofs.NextTick.{next-tick}
 use Rattle.guarantee.proofs.NextTransmit.{next-transmit}
@@ -63,9 +70,12 @@ module _ (earlier : List Call) (c : Call) where
   counted = omega (arith, length-append earlier (c ∷ []))
 
 module _ (earlier : List Call) (link : ℕ) (p m k : List ℕ) (v : View) where
-  -- what a call leaves, by the calls up to it
+  -- what a call that counts as d leaves, by the calls up to it
+  abbrev pub AfterAs : Call → Outcome → Outcome → Type 0
+  AfterAs d o u = Next earlier (withCall earlier d) (length earlier) link p m k v d o u
+
   abbrev pub After : Call → Type 0
-  After c = Next earlier (withCall earlier c) (length earlier) link p m k v c (called c p m) (called (marked (length earlier) c) p k)
+  After c = AfterAs (countsAs p c) (called c p m) (called (marked (length earlier) c) p k)
 
   -- a call that sends nothing sends nothing by whichever calls
   no-sender : (c : Call) (all : List Call) (o u : Outcome) → NoTransmit c → Next all all (length earlier) link p m k v c o u → Next earlier all (length earlier) link p m k v c o u
@@ -107,26 +117,56 @@ module _ (earlier : List Call) (link : ℕ) (p m k : List ℕ) (v : View) where
     abbrev held : (c : Call) → Holds (withCall earlier c) link p m k v best
     held c = holds-later earlier c link p m k v best h
 
+    -- a call that brings a frame
+    next-arriving : (s charge tag : ℕ) → After (arriving s charge tag)
+    next-arriving s charge tag =
+        let c = arriving s charge tag in
+        no-sender c _ _ _ tt
+        (next-arrive (withCall earlier c) (length earlier) link p m k v best (held c) sound s charge tag (counted earlier c) (getD-last earlier c ticking))
+
+    next-joining : (charge tag : ℕ) → After (joiningBestEffort charge tag)
+    next-joining charge tag =
+        let c = joiningBestEffort charge tag in
+        no-sender c _ _ _ tt
+        (next-best-effort (withCall earlier c) (length earlier) link p m k v best (held c) charge tag (counted earlier c) (getD-last earlier c ticking))
+
+    -- a Frame, as what it becomes
+    next-becoming : (octets : List ℕ) (tag : ℕ) (found : Lookup)
+        → AfterAs (becoming octets tag found) (called (becoming octets tag found) p m) (called (becoming octets (length earlier) found) p k)
+    next-becoming octets tag (Bound s) = next-arriving s (chargeOf octets) tag
+    next-becoming octets tag Unbound = next-joining (chargeOf octets) tag
+
+    next-framing : (octets : List ℕ) (tag : ℕ) → After (framing octets tag)
+    next-framing octets tag = told (lengthFits octets) refl
+      where
+        told : (b : Bool) → lengthFits octets ≡ b
+            → AfterAs (cond b (becoming octets tag (frameLookup p octets)) (framing octets tag)) (called (framing octets tag) p m) (called (framing octets (length earlier)) p k)
+        told true fits =
+            let d = becoming octets tag (frameLookup p octets) in
+            subst (λ (o : Outcome). AfterAs d o (called (framing octets (length earlier)) p k)) (sym (frame-becomes p m octets tag fits))
+            (subst (AfterAs d (called d p m)) (sym (frame-becomes p k octets (length earlier) fits)) (next-becoming octets tag (frameLookup p octets)))
+        told false short =
+            let c = framing octets tag in
+            no-sender c _ _ _ tt (next-refused-frame (withCall earlier c) (length earlier) link p m k v best (held c) octets tag short)
+
     next-call : (c : Call) → After c
     next-call (opening l d) =
         no-sender (opening l d) _ _ _ tt (next-open (withCall earlier (opening l d)) (length earlier) link p m k v best (held (opening l d)) l d)
     next-call (reserving s permitted) =
         no-sender (reserving s permitted) _ _ _ tt
         (next-reserve (withCall earlier (reserving s permitted)) (length earlier) link p m k v best (held (reserving s permitted)) s permitted)
-    next-call (arriving s charge tag) =
-        let c = arriving s charge tag in
-        no-sender (arriving s charge tag) _ _ _ tt
-        (next-arrive (withCall earlier c) (length earlier) link p m k v best (held c) sound s charge tag (counted earlier c) (getD-last earlier c ticking))
+    next-call (arriving s charge tag) = next-arriving s charge tag
     next-call ticking = no-sender ticking _ _ _ tt (next-tick (withCall earlier ticking) (length earlier) link p m k v best (held ticking))
     next-call transmitting = sender transmitting _ _ (next-transmit earlier (length earlier) link p m k v best h first)
-    next-call (joiningBestEffort charge tag) =
-        let c = joiningBestEffort charge tag in
-        no-sender (joiningBestEffort charge tag) _ _ _ tt
-        (next-best-effort (withCall earlier c) (length earlier) link p m k v best (held c) charge tag (counted earlier c) (getD-last earlier c ticking))
+    next-call (joiningBestEffort charge tag) = next-joining charge tag
+    next-call (binding s address vid) =
+        let c = binding s address vid in
+        no-sender c _ _ _ tt (next-bind (withCall earlier c) (length earlier) link p m k v best (held c) s address vid)
+    next-call (framing octets tag) = next-framing octets tag
 
   -- the port holds the view after a call
   holds-next : (best : List Marked) (c : Call) → Holds earlier link p m k v best → (next : After c)
-      → Holds (withCall earlier c) link (called c p m .port) (called c p m .memory) (called (marked (length earlier) c) p k .memory) (next .view) (next .best)
+      → Holds (withCall earlier (countsAs p c)) link (called c p m .port) (called c p m .memory) (called (marked (length earlier) c) p k .memory) (next .view) (next .best)
   holds-next best c h next =
       let moved = next .moved in
       record {
@@ -136,8 +176,8 @@ module _ (earlier : List Call) (link : ℕ) (p m k : List ℕ) (v : View) where
             (stays-fit (marked (length earlier) c) p k (h .fit-marked));
         long = omega (arith, next .long, h .long);
         long-marked = omega (arith, next .long-marked, h .long-marked);
-        opened = moved .keeps .opened ∙ h .opened;
-        octets = moved .keeps .link ∙ h .octets;
+        opened = moved .keeps .0 ∙ h .opened;
+        octets = moved .keeps .1 ∙ h .octets;
         streams = moved .streams;
         queues = moved .queues;
         above = moved .above;
@@ -172,19 +212,20 @@ module _ (link : ℕ) where
   plays [] earlier p m k v best h sound first = record { run = tt; says = tt; marks = tt; not-by-host = tt }
   plays (c ∷ cs) earlier p m k v best h sound first =
       let next = next-call earlier link p m k v best h sound (first .1) c in
+      let d = countsAs p c in
       let o = called c p m in
       let u = called (marked (length earlier) c) p k in
-      let one-more : length (earlier ++ (c ∷ [])) ≡ suc (length earlier) = omega (arith, length-append earlier (c ∷ [])) in
+      let one-more : length (earlier ++ (d ∷ [])) ≡ suc (length earlier) = omega (arith, length-append earlier (d ∷ [])) in
       let later =
-      subst (λ (n : ℕ). Plays link n (next .view) (happened called (earlier ++ (c ∷ [])) cs (o .port) (o .memory) (u .memory))) one-more
-      (plays cs (earlier ++ (c ∷ [])) (o .port) (o .memory) (u .memory) (next .view) (next .best) (holds-next earlier link p m k v best c h next)
-      (stays-sound lastPlace (shareOf link) (length earlier) v (next .view) (o .reply) _ c (omega arith) (next .effect) sound)
-      (first-later earlier c first)) in
+      subst (λ (n : ℕ). Plays link n (next .view) (happened called (earlier ++ (d ∷ [])) cs (o .port) (o .memory) (u .memory))) one-more
+      (plays cs (earlier ++ (d ∷ [])) (o .port) (o .memory) (u .memory) (next .view) (next .best) (holds-next earlier link p m k v best c h next)
+      (stays-sound lastPlace (shareOf link) (length earlier) v (next .view) (o .reply) _ d (omega arith) (next .effect) sound)
+      (first-later earlier d first)) in
       record {
         run = (next .view, next .effect, later .run);
         says = (next .says, later .says);
         marks = (next .marks, later .marks);
-        not-by-host = (not-lent (event earlier c o u) (next .not-lent), later .not-by-host);
+        not-by-host = (not-lent (event earlier d o u) (next .not-lent), later .not-by-host);
       }
 
   -- the quick calls, which do not scan the record, do the same
@@ -193,11 +234,12 @@ module _ (link : ℕ) where
   quick-plays [] earlier p m k v best h sound first = refl
   quick-plays (c ∷ cs) earlier p m k v best h sound first =
       let next = next-call earlier link p m k v best h sound (first .1) c in
+      let d = countsAs p c in
       let o = called c p m in
       let u = called (marked (length earlier) c) p k in
-      ap₂ (λ (x y : Outcome). event earlier c x y ∷ happened quicklyCalled (earlier ++ (c ∷ [])) cs (x .port) (x .memory) (y .memory))
+      ap₂ (λ (x y : Outcome). event earlier d x y ∷ happened quicklyCalled (earlier ++ (d ∷ [])) cs (x .port) (x .memory) (y .memory))
       (quick-call c p m (h .fit)) (quick-call (marked (length earlier) c) p k (h .fit-marked))
-      ∙ ap (λ (es : List Event). event earlier c o u ∷ es)
-      (quick-plays cs (earlier ++ (c ∷ [])) (o .port) (o .memory) (u .memory) (next .view) (next .best) (holds-next earlier link p m k v best c h next)
-      (stays-sound lastPlace (shareOf link) (length earlier) v (next .view) (o .reply) _ c (omega arith) (next .effect) sound)
-      (first-later earlier c first))
+      ∙ ap (λ (es : List Event). event earlier d o u ∷ es)
+      (quick-plays cs (earlier ++ (d ∷ [])) (o .port) (o .memory) (u .memory) (next .view) (next .best) (holds-next earlier link p m k v best c h next)
+      (stays-sound lastPlace (shareOf link) (length earlier) v (next .view) (o .reply) _ d (omega arith) (next .effect) sound)
+      (first-later earlier d first))

@@ -16,7 +16,7 @@ use Rattle.stream.specs.Steps.{arriveOf, tickOf}
 use Rattle.stream.specs.Replies.{granted, refusedBy, replyOf, streamOf}
 use Rattle.record.specs.Layout.{streamCount}
 use Rattle.ranges.specs.Ranges.{chargeFits}
-use Rattle.port_laws.specs.Lists.{Call, opening, reserving, arriving, ticking, transmitting, joiningBestEffort}
+use Rattle.port_laws.specs.Lists.{Call, opening, reserving, arriving, ticking, transmitting, joiningBestEffort, binding, framing}
 use Rattle.guarantee.specs.Events.{Marked, Sent, reserved, none, Event}
 
 -- the queues, by role (0 prior, 1 current, and so on), and the streams
@@ -67,6 +67,8 @@ Quiet (arriving s charge tag) = ⊥
 Quiet ticking = ⊥
 Quiet transmitting = ⊥
 Quiet (joiningBestEffort charge tag) = Unit {0}
+Quiet (binding s address vid) = Unit {0}
+Quiet (framing octets tag) = Unit {0}
 
 -- a Reserve that is granted
 pub record Reserves (share : ℕ) (v w : View) (r : Reply) (s permitted : ℕ) : Type 0 where

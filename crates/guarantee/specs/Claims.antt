@@ -13,7 +13,7 @@ use Rattle.stream.specs.Replies.{granted}
 use Rattle.stream.specs.State.{currentPlace}
 use Rattle.sending.specs.Sending.{nothing}
 use Rattle.ranges.specs.Ranges.{chargeFits}
-use Rattle.port_laws.specs.Lists.{Call, opening, reserving, arriving, ticking, transmitting, joiningBestEffort}
+use Rattle.port_laws.specs.Lists.{Call, opening, reserving, arriving, ticking, transmitting, joiningBestEffort, binding, framing}
 use Rattle.guarantee.specs.Events.{Marked, Sent, reserved, bestEffort, none, Event}
 
 -- whether a call is a Tick, and how many of the events are
@@ -24,6 +24,8 @@ isTick (arriving r charge tag) = false
 isTick ticking = true
 isTick transmitting = false
 isTick (joiningBestEffort charge tag) = false
+isTick (binding r address vid) = false
+isTick (framing octets tag) = false
 
 abbrev pub Tick : Event → Type 0
 Tick e = isTick (e .call) ≡ true
@@ -98,6 +100,8 @@ offer s (arriving r charge tag) = cond (eqb r s && chargeFits charge) charge 0
 offer s ticking = 0
 offer s transmitting = 0
 offer s (joiningBestEffort charge tag) = 0
+offer s (binding r address vid) = 0
+offer s (framing octets tag) = 0
 
 abbrev pub offers : ℕ → List Event → ℕ
 offers s = sumOf (λ e. offer s (e .call))
@@ -130,6 +134,8 @@ isReserveOf s (arriving r charge tag) = false
 isReserveOf s ticking = false
 isReserveOf s transmitting = false
 isReserveOf s (joiningBestEffort charge tag) = false
+isReserveOf s (binding r address vid) = false
+isReserveOf s (framing octets tag) = false
 
 abbrev pub isArriveOf : ℕ → Call → Bool
 isArriveOf s (opening link delay) = false
@@ -138,6 +144,8 @@ isArriveOf s (arriving r charge tag) = eqb r s
 isArriveOf s ticking = false
 isArriveOf s transmitting = false
 isArriveOf s (joiningBestEffort charge tag) = false
+isArriveOf s (binding r address vid) = false
+isArriveOf s (framing octets tag) = false
 
 -- the ticks and the stream's own calls, "once all others are struck out"
 abbrev pub remaining : ℕ → List Event → List Call

@@ -1,0 +1,56 @@
+-- Bind on a port that holds a view, granted or refused: it touches neither queues nor streams. Assumes nothing.
+use Prim.Native.Nat.{ℕ}
+use mathlib.Core.Path.{_≡_, refl}
+use mathlib.Core.List.{List}
+use native.Mathlib.Omega.{arith}
+use Rattle.record.specs.Layout.{bestEffort}
+use Rattle.record.specs.Entry.{withBinding}
+use Rattle.record.proofs.BindingPairs.{open-binding, prior-binding, link-binding, queue-binding, stream-binding}
+use Rattle.steps.specs.Roles.{roleAt}
+use Rattle.steps.proofs.RoleLaws.{role-below}
+use Rattle.binding.specs.Binding.{bindStep}
+use Rattle.gates.specs.Refusals.{bindRefusal}
+use Rattle.port_laws.specs.Lists.{Call, binding, called}
+use Rattle.port_laws.proofs.GateNumbers.{bind-numbers}
+use Rattle.guarantee.specs.Events.{Marked, marked}
+use Rattle.guarantee.proofs.Run.{View, quiet}
+use Rattle.guarantee.proofs.CallLaws.{no-transmit}
+use Rattle.guarantee.proofs.Held.{Holds, role-kept, same-seen}
+use Rattle.guarantee.proofs.Next.{Next, next-refused, by-gate}
+
+module _ (all : List Call) (n link : ℕ) (p m k : List ℕ) (v : View) (best : List Marked) (h : Holds all link p m k v best) where
+  bind-next : (s : ℕ) (address : List ℕ) (vid : ℕ)
+      → Next all all n link p m k v (binding s address vid) (bindStep p m s address vid) (bindStep p k s address vid)
+  bind-next s address vid =
+      let q = withBinding p s address vid in
+      record {
+        view = v;
+        best = best;
+        effect = quiet tt refl (λ j. refl) (λ j. refl);
+        same = refl;
+        long = refl;
+        long-marked = refl;
+        moved =
+            record {
+              keeps = (open-binding p s address vid, link-binding p s address vid);
+              streams = same-seen p q v (h .streams) (λ i b. stream-binding p s address vid i);
+              queues = λ role b.
+                  let there = queue-binding p s address vid (roleAt p role) (omega (arith, role-below p role)) in
+                  rw (role-kept p q m role (prior-binding p s address vid) there, role-kept p q k role (prior-binding p s address vid) there) (h .queues role b);
+              above = h .above;
+              waits = rw (queue-binding p s address vid bestEffort (omega arith)) (h .waits);
+            };
+        says = λ z. absurd (no-transmit (binding s address vid) tt z);
+        marks = λ z. refl;
+        not-lent = omega arith;
+      }
+
+  pub next-bind : (s : ℕ) (address : List ℕ) (vid : ℕ)
+      → Next all all n link p m k v (binding s address vid) (called (binding s address vid) p m) (called (marked n (binding s address vid)) p k)
+  next-bind s address vid =
+      by-gate all n link p m k v best h (bindRefusal p s address vid) (binding s address vid) (bindStep p m s address vid) (bindStep p k s address vid)
+      (λ z.
+      next-refused all n link p m k v best h (bindRefusal p s address vid) (binding s address vid) (bind-numbers p s address vid)
+      (no-transmit (binding s address vid) tt)
+      (quiet tt refl (λ j. refl) (λ j. refl)))
+      (λ z. bind-next s address vid)
