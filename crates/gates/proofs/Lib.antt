@@ -1,2 +1,3 @@
 -- The laws of the gates, cited by the crates above.
 pub mod GateLaws
+pub mod FrameGateLaws

@@ -14,7 +14,8 @@ use Rattle.binding.specs.declared.Lookup.{Lookup}
 use Rattle.binding.specs.declared.Lookup.the-variants.{Bound, Unbound}
 use Rattle.binding.specs.Binding.{bindStep}
 use Rattle.binding.specs.Finding.{frameLookup}
-use Rattle.gates.specs.Refusals.{openRefusal, reserveRefusal, arriveRefusal, closedRefusal, bestEffortRefusal, bindRefusal, frameRefusal}
+use Rattle.gates.specs.Refusals.{openRefusal, reserveRefusal, arriveRefusal, closedRefusal, bestEffortRefusal}
+use Rattle.gates.specs.FrameRefusals.{bindRefusal, frameRefusal}
 
 -- a refusal, which leaves record and memory as they are, or what is done where there is none
 abbrev pub gated : ℕ → List ℕ → List ℕ → Outcome → Outcome

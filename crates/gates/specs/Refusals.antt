@@ -7,11 +7,9 @@ use lib.Dec.{leb, ltb}
 use Rattle.queue.specs.Ring.{placeCount}
 use Rattle.record.specs.Layout.{bestEffort, streamCount}
 use Rattle.record.specs.Head.{openAt, delayAt, linkAt, waitsAt, queueAt}
-use Rattle.record.specs.Entry.{streamAt, boundAt}
-use Rattle.ranges.specs.Ranges.{chargeFits, shareOf, linkFits, delayFits, permittedFits, vidFits}
-use Rattle.header.specs.Header.{lengthFits}
+use Rattle.record.specs.Entry.{streamAt}
+use Rattle.ranges.specs.Ranges.{chargeFits, shareOf, linkFits, delayFits, permittedFits}
 use Rattle.fitness.specs.Clauses.{permittedSum}
-use Rattle.binding.specs.Finding.{lookup, isBound}
 
 -- Open: "2 open already; 3 L outside its range; 4 K outside its range"
 unfoldable pub openRefusal : List ℕ → ℕ → ℕ → ℕ
@@ -52,19 +50,3 @@ bestEffortRefusal p charge =
     (cond (not (chargeFits charge)) 13
     (cond (leb placeCount (queueAt p bestEffort .count)) 15
     (cond (ltb (bestEffortLimit p) (waitsAt p + charge)) 16 0)))
-
--- Bind: "12 stream not reserved [..]; 9 VID outside 1 to 4,094; 10 stream bound already; 11 pair bound already"
-unfoldable pub bindRefusal : List ℕ → ℕ → List ℕ → ℕ → ℕ
-bindRefusal p s address vid =
-    cond (not (openAt p)) 1
-    (cond (leb streamCount s) 5
-    (cond (not (streamAt p s .reserved)) 12
-    (cond (not (vidFits vid)) 9
-    (cond (boundAt p s) 10
-    (cond (isBound (lookup p address vid)) 11 0)))))
-
--- Frame: "17 frame outside 60 to 1,518 octets"; then the refusals of the call that it becomes
-unfoldable pub frameRefusal : List ℕ → List ℕ → ℕ
-frameRefusal p f =
-    cond (not (openAt p)) 1
-    (cond (not (lengthFits f)) 17 0)

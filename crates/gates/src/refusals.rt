@@ -4,7 +4,8 @@ ghost use Prim.Native.Nat.{_≤_, _<_};
 ghost use lib.ListN.{length};
 ghost use Rattle.record.specs.Layout.{Whole, addressLength};
 ghost use Rattle.best_effort.specs.BestEffort.{WaitsKept};
-ghost use Rattle.gates.specs.Refusals.{openRefusal, reserveRefusal, arriveRefusal, closedRefusal, bestEffortLimit, bestEffortRefusal, bindRefusal, frameRefusal};
+ghost use Rattle.gates.specs.Refusals.{openRefusal, reserveRefusal, arriveRefusal, closedRefusal, bestEffortLimit, bestEffortRefusal};
+ghost use Rattle.gates.specs.FrameRefusals.{bindRefusal, frameRefusal};
 
 // Document 01's numbers.
 const CLOSED: u8 = 1;

@@ -9,7 +9,7 @@ use Rattle.record.proofs.BindingPairs.{open-binding, prior-binding, link-bindin
 use Rattle.steps.specs.Roles.{roleAt}
 use Rattle.steps.proofs.RoleLaws.{role-below}
 use Rattle.binding.specs.Binding.{bindStep}
-use Rattle.gates.specs.Refusals.{bindRefusal}
+use Rattle.gates.specs.FrameRefusals.{bindRefusal}
 use Rattle.port_laws.specs.Lists.{Call, binding, called}
 use Rattle.port_laws.proofs.GateNumbers.{bind-numbers}
 use Rattle.guarantee.specs.Events.{Marked, marked}

@@ -6,7 +6,7 @@ use mathlib.Core.List.{List}
 use native.Mathlib.Omega.{arith}
 use Rattle.header.specs.Header.{chargeOf, lengthFits}
 use Rattle.binding.specs.Finding.{frameLookup}
-use Rattle.gates.specs.Refusals.{frameRefusal}
+use Rattle.gates.specs.FrameRefusals.{frameRefusal}
 use Rattle.gates.specs.Gated.{becomes}
 use Rattle.port_laws.specs.Lists.{Call, framing, called}
 use Rattle.port_laws.proofs.FrameLaws.{frame-refused}

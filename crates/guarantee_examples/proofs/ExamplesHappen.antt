@@ -3,13 +3,15 @@ use Prim.Native.Nat.{ℕ}
 use mathlib.Core.Path.{_≡_, refl}
 use mathlib.Core.List.{List, [], _∷_}
 use Rattle.lists.specs.Turns.{allTo, sumTo, listTo, iterate}
+use Rattle.lists.specs.Equal.{octetsEqual}
 use Rattle.octets.specs.Numbers.{twoOf, fourOf, eightOf}
 use Rattle.stream.specs.Steps.{attempt, arriveOf, tickOf}
 use Rattle.queue.specs.Place.{frameAt, withFrame}
 use Rattle.queue.specs.Ring.{joinedMemory, frontOf}
 use Rattle.queue.specs.Waiting.{waiting}
 use Rattle.record.specs.Head.{openAt, withOpen, priorAt, withPrior, delayAt, withDelay, linkAt, withLink, waitsAt, withWaits, queueAt, withQueue}
-use Rattle.record.specs.Entry.{streamAt, withStream, withPlace, boundAt, vidAt, pairAt, dropped}
+use Rattle.record.specs.Entry.{streamAt, withStream, withPlace, boundAt, vidAt, pairAt, pairOf, withBinding, dropped}
+use Rattle.header.specs.Header.{chargeOf, lengthFits, taggedFrame, vidOf}
 use Rattle.fitness.specs.Fit.{recordFits, lentRefusal}
 use Rattle.steps.specs.Roles.{roleAt}
 use Rattle.opening.specs.Opening.{openedRecord}
@@ -17,25 +19,27 @@ use Rattle.arriving.specs.Arriving.{arriveStep}
 use Rattle.ticking.specs.Ticking.{tickedRecord, tickStep}
 use Rattle.sending.specs.Sending.{transmitStep}
 use Rattle.best_effort.specs.BestEffort.{bestEffortStep}
+use Rattle.binding.specs.Finding.{lookupFrom, lookup, frameLookup}
 use Rattle.gates.specs.Refusals.{openRefusal, reserveRefusal, arriveRefusal, closedRefusal, bestEffortRefusal}
+use Rattle.gates.specs.FrameRefusals.{bindRefusal, frameRefusal}
 use Rattle.port.specs.Calls.{openCall}
-use Rattle.port_laws.specs.Lists.{freshRecord, freshMemory}
+use Rattle.port_laws.specs.Lists.{Call, freshRecord, freshMemory}
 use Rattle.guarantee.specs.Events.{Event}
 use Rattle.guarantee.specs.Demand3.{CallList}
 use Rattle.guarantee_examples.specs.Shown.{AllHappen}
-use Rattle.guarantee_examples.specs.Examples.{busy, light, withheld, permitted200, permitted100, callsOf}
+use Rattle.guarantee_examples.specs.Examples.{busy, light, withheld, permitted200, permitted100, framedCalls, callsOf}
 
 -- a list of calls on a port never opened
-abbrev fromFresh : (link delay : ℕ) → List Event → openCall freshRecord freshMemory link delay .reply .refusal ≡ 0 → CallList
-fromFresh link delay later is = record { port = freshRecord; memory = freshMemory; link = link; delay = delay; later = callsOf later; opened = is }
+abbrev fromFresh : (link delay : ℕ) → List Call → openCall freshRecord freshMemory link delay .reply .refusal ≡ 0 → CallList
+fromFresh link delay later is = record { port = freshRecord; memory = freshMemory; link = link; delay = delay; later = later; opened = is }
 
--- the events after the first
-abbrev afterFirst : List Event → List Event
+-- the calls of the events after the first, which are the calls themselves where none is a Frame
+abbrev afterFirst : List Event → List Call
 afterFirst [] = []
-afterFirst (e ∷ es) = es
+afterFirst (e ∷ es) = callsOf es
 
 pub all-happen : AllHappen
-unfolding allTo sumTo listTo iterate twoOf fourOf eightOf attempt arriveOf tickOf frameAt withFrame joinedMemory frontOf waiting openAt withOpen priorAt withPrior delayAt withDelay linkAt withLink waitsAt withWaits queueAt withQueue streamAt withStream withPlace boundAt vidAt pairAt dropped recordFits lentRefusal roleAt openedRecord arriveStep tickedRecord tickStep transmitStep bestEffortStep openRefusal reserveRefusal arriveRefusal closedRefusal bestEffortRefusal
+unfolding allTo sumTo listTo iterate twoOf fourOf eightOf attempt arriveOf tickOf frameAt withFrame joinedMemory frontOf waiting openAt withOpen priorAt withPrior delayAt withDelay linkAt withLink waitsAt withWaits queueAt withQueue streamAt withStream withPlace boundAt vidAt pairAt pairOf withBinding dropped recordFits lentRefusal roleAt openedRecord arriveStep tickedRecord tickStep transmitStep bestEffortStep openRefusal reserveRefusal arriveRefusal closedRefusal bestEffortRefusal bindRefusal frameRefusal lookupFrom lookup frameLookup octetsEqual chargeOf lengthFits taggedFrame vidOf
 all-happen =
     record {
       busy-happens = record { list = fromFresh 1626 1 (afterFirst busy) refl; so = refl };
@@ -43,5 +47,6 @@ all-happen =
       withheld-happens = record { list = fromFresh 2142 1 (afterFirst withheld) refl; so = refl };
       permitted-200-happens = record { list = fromFresh 2142 1 (afterFirst permitted200) refl; so = refl };
       permitted-100-happens = record { list = fromFresh 2142 1 (afterFirst permitted100) refl; so = refl };
+      framed-happens = record { list = fromFresh 2142 1 framedCalls refl; so = refl };
       silent-happens = refl;
     }

@@ -93,6 +93,8 @@ examples-show =
       withheld-nearly-links = link-holds (shareOf 2142 - leastCharge) withheld refl;
       same-grants = refl;
       other-answers = λ e. let z : _≡_ {A = ℕ} 0 14 = ap (λ (rs : List Reply). firstRefusal rs) e in omega arith;
+      framed-offers = refl;
+      framed-remaining = refl;
       silent-links = link-holds (shareOf 2142) silent refl;
       silent-purges = silent-purged;
     }

@@ -9,7 +9,7 @@ use borrow.Author.Tests.{leb-true}
 use lib.Dec.{leb}
 use Rattle.lists.specs.Each.{All, Some}
 use Rattle.lists.proofs.TurnLaws.{both}
-use Rattle.port_laws.specs.Lists.{Call, opening, reserving, arriving, ticking, transmitting, joiningBestEffort}
+use Rattle.port_laws.specs.Lists.{Call, opening, reserving, arriving, ticking, transmitting, joiningBestEffort, binding, framing}
 use Rattle.guarantee.specs.Events.{Marked, Sent, reserved, bestEffort, none, Event}
 use Rattle.guarantee.specs.Claims.{isTick, Tick, NoTick, reservedCharge, reservedOctets, Idle, LinkCondition}
 use Rattle.lists.proofs.EachLaws.{differ}
@@ -22,6 +22,8 @@ isTransmit (arriving s charge tag) = false
 isTransmit ticking = false
 isTransmit transmitting = true
 isTransmit (joiningBestEffort charge tag) = false
+isTransmit (binding s address vid) = false
+isTransmit (framing octets tag) = false
 
 transmit-so : (c : Call) → isTransmit c ≡ true → c ≡ transmitting
 transmit-so (opening link delay) e = differ (sym e)
@@ -30,6 +32,8 @@ transmit-so (arriving s charge tag) e = differ (sym e)
 transmit-so ticking e = differ (sym e)
 transmit-so transmitting e = refl
 transmit-so (joiningBestEffort charge tag) e = differ (sym e)
+transmit-so (binding s address vid) e = differ (sym e)
+transmit-so (framing octets tag) e = differ (sym e)
 
 abbrev isReserved : Sent → Bool
 isReserved (reserved f) = true

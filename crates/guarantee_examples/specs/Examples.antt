@@ -1,14 +1,16 @@
 -- Lists that show demand 3 at work, each as its events, on a port never opened: what the link condition asks is met, by octets or by a transmit
--- without a reserved frame, and where it fails a tick purges; and no number in the claims can be smaller.
-use Prim.Native.Nat.{ℕ}
+-- without a reserved frame, and where it fails a tick purges; no number in the claims can be smaller; and Frames count as what they become.
+use Prim.Native.Nat.{ℕ, _+_, _-_}
 use mathlib.Core.Path.{_≡_}
-use mathlib.Core.List.{List, [], _∷_, map}
+use mathlib.Core.List.{List, [], _∷_, _++_, map}
+use lib.ListN.{replicate}
+use Rattle.octets.specs.Numbers.{twoOctets}
 use Rattle.stream.specs.declared.Reply.{Reply}
 use Rattle.stream.specs.Replies.{granted, refusedBy}
 use Rattle.fitness.specs.Clauses.{bestEffortStream}
 use Rattle.steps.specs.Outcome.{Outcome, outcome}
 use Rattle.sending.specs.Sending.{nothing}
-use Rattle.port_laws.specs.Lists.{Call, opening, reserving, arriving, ticking, transmitting, joiningBestEffort, called}
+use Rattle.port_laws.specs.Lists.{Call, opening, reserving, arriving, ticking, transmitting, joiningBestEffort, binding, framing, called}
 use Rattle.guarantee.specs.Events.{Marked, Sent, reserved, bestEffort, none, Event}
 use Rattle.guarantee.specs.Claims.{replyOfSent}
 use Rattle.guarantee.specs.Demand3.{CallList, eventsOf}
@@ -82,6 +84,45 @@ permitted200 = replied (opening 2142 1) (granted 600 0) ∷ replied (reserving 5
 abbrev pub permitted100 : List Event
 permitted100 = replied (opening 2142 1) (granted 600 0) ∷ replied (reserving 5 100) (granted 500 0) ∷ replied (arriving 5 120 7) (refusedBy 14) ∷ []
 
+-- a frame of as many octets to an address, with a VLAN tag whose priority bits are set, and one without
+abbrev pub address : List ℕ
+address = 1 ∷ 0 ∷ 94 ∷ 0 ∷ 0 ∷ 5 ∷ []
+
+abbrev pub taggedTo : ℕ → ℕ → List ℕ
+taggedTo vid length = (address ++ replicate {A = ℕ} 6 0) ++ ((129 ∷ 0 ∷ twoOctets (57344 + vid)) ++ replicate {A = ℕ} (length - 16) 0)
+
+abbrev pub untagged : ℕ → List ℕ
+untagged length = address ++ replicate {A = ℕ} (length - 6) 0
+
+-- calls with a binding and frames: of the bound VID, of another, without a VLAN tag, and one octet too short
+abbrev pub framedCalls : List Call
+framedCalls =
+    reserving 5 200
+    ∷ binding 5 address 100
+    ∷ framing (taggedTo 100 60) 7
+    ∷ framing (taggedTo 101 96) 8
+    ∷ framing (untagged 60) 9
+    ∷ framing (taggedTo 100 59) 10
+    ∷ ticking
+    ∷ transmitting
+    ∷ transmitting
+    ∷ []
+
+-- each counts as what it becomes, and the one that is too short as itself
+abbrev pub framed : List Event
+framed =
+    replied (opening 2142 1) (granted 600 0)
+    ∷ replied (reserving 5 200) (granted 400 0)
+    ∷ replied (binding 5 address 100) (granted 0 0)
+    ∷ replied (arriving 5 84 7) (granted 1 116)
+    ∷ replied (joiningBestEffort 120 8) (granted 120 0)
+    ∷ replied (joiningBestEffort 84 9) (granted 204 0)
+    ∷ replied (framing (taggedTo 100 59) 10) (refusedBy 17)
+    ∷ replied ticking (granted 0 0)
+    ∷ sending (reserved (frameOf 5 84 7 3)) (granted 5 7)
+    ∷ sending (bestEffort (frameOf bestEffortStream 120 8 4)) (granted 255 8)
+    ∷ []
+
 -- a machine whose transmit says nothing without looking
 abbrev pub silently : Call → List ℕ → List ℕ → Outcome
 silently (opening link delay) p m = called (opening link delay) p m
@@ -90,6 +131,8 @@ silently (arriving s charge tag) p m = called (arriving s charge tag) p m
 silently ticking p m = called ticking p m
 silently transmitting p m = outcome (granted nothing 0) p m
 silently (joiningBestEffort charge tag) p m = called (joiningBestEffort charge tag) p m
+silently (binding s address vid) p m = called (binding s address vid) p m
+silently (framing octets tag) p m = called (framing octets tag) p m
 
 -- and what happens by it: the link condition is met by its transmit, and a tick purges
 abbrev pub silent : List Event

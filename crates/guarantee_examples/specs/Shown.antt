@@ -1,13 +1,14 @@
 -- What the examples show of demand 3: its premise can be met, in either way, and what it claims cannot be claimed of smaller numbers.
 use Prim.Native.Nat.{_-_, _<_}
 use mathlib.Core.Path.{_≡_}
+use mathlib.Core.List.{[], _∷_}
 use Rattle.lists.specs.Each.{All, Some}
 use Rattle.stream.specs.State.{lastPlace}
 use Rattle.ranges.specs.Ranges.{leastCharge, shareOf}
-use Rattle.port_laws.specs.Lists.{freshRecord, freshMemory}
+use Rattle.port_laws.specs.Lists.{reserving, arriving, ticking, freshRecord, freshMemory}
 use Rattle.guarantee.specs.Events.{events}
-use Rattle.guarantee.specs.Claims.{reservedOctets, Idle, LinkCondition, PurgesNothing, SentBefore, AllSentBefore, grants, answers}
-use Rattle.guarantee_examples.specs.Examples.{frameOf, Happens, busy, light, afterArrival, withheld, permitted200, permitted100, silently, silent, callsOf}
+use Rattle.guarantee.specs.Claims.{reservedOctets, Idle, LinkCondition, PurgesNothing, SentBefore, AllSentBefore, offers, remaining, grants, answers}
+use Rattle.guarantee_examples.specs.Examples.{frameOf, Happens, busy, light, afterArrival, withheld, permitted200, permitted100, framed, silently, silent, callsOf}
 
 -- each example is what happens in a list of calls, the last one by the machine whose transmit says nothing
 pub record AllHappen : Type 0 where
@@ -16,6 +17,7 @@ pub record AllHappen : Type 0 where
   pub withheld-happens : Happens withheld
   pub permitted-200-happens : Happens permitted200
   pub permitted-100-happens : Happens permitted100
+  pub framed-happens : Happens framed
   pub silent-happens : events silently (callsOf silent) freshRecord freshMemory ≡ silent
 
 pub record ExamplesShow : Type 0 where
@@ -38,6 +40,9 @@ pub record ExamplesShow : Type 0 where
   -- a stream's reservations are among its own calls, since its replies depend on P
   pub same-grants : grants 5 permitted200 ≡ grants 5 permitted100
   pub other-answers : answers 5 permitted200 ≡ answers 5 permitted100 → ⊥
+  -- the frame that becomes an Arrive is among its stream's offers and its own calls, and no other frame is
+  pub framed-offers : offers 5 framed ≡ 84
+  pub framed-remaining : remaining 5 framed ≡ reserving 5 200 ∷ arriving 5 84 7 ∷ ticking ∷ []
   -- demand 3 is false of a machine whose transmit says nothing
   pub silent-links : LinkCondition (shareOf 2142) silent
   pub silent-purges : All PurgesNothing silent → ⊥

@@ -12,7 +12,8 @@ use Rattle.best_effort.specs.BestEffort.{bestEffortStep}
 use Rattle.binding.specs.declared.Lookup.{Lookup}
 use Rattle.binding.specs.declared.Lookup.the-variants.{Bound, Unbound}
 use Rattle.binding.specs.Finding.{frameLookup}
-use Rattle.gates.specs.Refusals.{arriveRefusal, bestEffortRefusal, frameRefusal}
+use Rattle.gates.specs.Refusals.{arriveRefusal, bestEffortRefusal}
+use Rattle.gates.specs.FrameRefusals.{frameRefusal}
 use Rattle.gates.specs.Gated.{gated, becomes, frames}
 use Rattle.port_laws.specs.Lists.{framing, called, becoming}
 

@@ -12,7 +12,8 @@ use Rattle.record.specs.Entry.{streamAt, boundAt}
 use Rattle.ranges.specs.Ranges.{chargeFits, shareOf, permittedFits, vidFits}
 use Rattle.fitness.specs.Clauses.{permittedSum}
 use Rattle.binding.specs.Finding.{lookup, isBound}
-use Rattle.gates.specs.Refusals.{openRefusal, reserveRefusal, arriveRefusal, closedRefusal, bestEffortLimit, bestEffortRefusal, bindRefusal}
+use Rattle.gates.specs.Refusals.{openRefusal, reserveRefusal, arriveRefusal, closedRefusal, bestEffortLimit, bestEffortRefusal}
+use Rattle.gates.specs.FrameRefusals.{bindRefusal}
 
 -- an open port refuses Open with 2, and neither Tick nor Transmit
 pub open-taken : (p : List ℕ) (link delay : ℕ) → openAt p ≡ true → openRefusal p link delay ≡ 2

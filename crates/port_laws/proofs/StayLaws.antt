@@ -18,9 +18,11 @@ use Rattle.binding.specs.declared.Lookup.{Lookup}
 use Rattle.binding.specs.declared.Lookup.the-variants.{Bound, Unbound}
 use Rattle.binding.specs.Binding.{bindStep}
 use Rattle.binding.specs.Finding.{frameLookup}
-use Rattle.gates.specs.Refusals.{openRefusal, reserveRefusal, arriveRefusal, closedRefusal, bestEffortRefusal, bindRefusal, frameRefusal}
+use Rattle.gates.specs.Refusals.{openRefusal, reserveRefusal, arriveRefusal, closedRefusal, bestEffortRefusal}
+use Rattle.gates.specs.FrameRefusals.{bindRefusal, frameRefusal}
 use Rattle.gates.specs.Gated.{gated, opens, reserves, arrives, ticks, transmits, joinsBestEffort, binds, becomes, frames}
-use Rattle.gates.proofs.GateLaws.{grants, refuses, open-allowed, reserve-allowed, arrive-allowed, best-effort-allowed, bind-allowed}
+use Rattle.gates.proofs.GateLaws.{grants, refuses, open-allowed, reserve-allowed, arrive-allowed, best-effort-allowed}
+use Rattle.gates.proofs.FrameGateLaws.{bind-allowed}
 use Rattle.port.specs.Quick.{lengthRefusal, quickOpen}
 use Rattle.port.proofs.LengthLaws.{long-enough}
 use Rattle.port_laws.specs.Lists.{Call, opening, reserving, arriving, ticking, transmitting, joiningBestEffort, binding, framing, called, quicklyCalled, replies}

@@ -109,7 +109,10 @@ pub fn pair_of(address: &[u8], vid: u16) -> u64
     requires { ⌜ addressLength ≤ length (now address) ⌝ }
     ensures { λ r. ⌜ r ≡ pairOf (now (address .entry)) vid ⌝ }
 {
-    octets::eight(octets::four(vid, octets::two_at(address, 0)), octets::four_at(address, LATER))
+    octets::eight(
+        octets::four(vid, octets::two_at(address, 0)),
+        octets::four_at(address, LATER),
+    )
 }
 
 // Binds the stream to an address, the first six of the octets, and a VID.

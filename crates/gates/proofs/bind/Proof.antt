@@ -7,7 +7,8 @@ use Rattle.ranges.proofs.RangeLaws.{within-bounds}
 use Rattle.binding.specs.Binding.{bindStep}
 use Rattle.steps.proofs.OutcomeLaws.{same-outcome}
 use Rattle.gates.specs.Gated.{gated}
-use Rattle.gates.proofs.GateLaws.{grants, refuses, bind-allowed}
+use Rattle.gates.proofs.GateLaws.{grants, refuses}
+use Rattle.gates.proofs.FrameGateLaws.{bind-allowed}
 use Rattle.gates.proofs.bind.Statement.{statement}
 use Rattle.gates.proofs.bind.Tie as tie
 

@@ -7,7 +7,8 @@ use Rattle.header.proofs.HeaderLaws.{header-whole}
 use Rattle.binding.specs.Finding.{frameLookup}
 use Rattle.steps.proofs.OutcomeLaws.{same-outcome}
 use Rattle.gates.specs.Gated.{gated, becomes}
-use Rattle.gates.proofs.GateLaws.{grants, refuses, frame-allowed}
+use Rattle.gates.proofs.GateLaws.{grants, refuses}
+use Rattle.gates.proofs.FrameGateLaws.{frame-allowed}
 use Rattle.gates.proofs.frame.Statement.{statement}
 use Rattle.gates.proofs.frame.Tie as tie
 

@@ -12,7 +12,7 @@ use Rattle.record.specs.Head.{openAt}
 use Rattle.record.specs.Layout.{streamCount}
 use Rattle.stream.specs.declared.Stream.{Stream}
 use Rattle.binding.specs.Finding.{lookup, isBound}
-use Rattle.gates.specs.Refusals.{bindRefusal}
+use Rattle.gates.specs.FrameRefusals.{bindRefusal}
 use Rattle.gates.proofs.refusals.bind.Statement.{statement}
 use Rattle.gates.proofs.refusals.bind.Tie as tie
 

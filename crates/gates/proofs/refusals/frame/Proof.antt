@@ -5,7 +5,7 @@ use borrow.Author.Needs.{needs}
 use borrow.Author.Tests.{not-true, not-false}
 use Rattle.record.specs.Head.{openAt}
 use Rattle.header.specs.Header.{lengthFits}
-use Rattle.gates.specs.Refusals.{frameRefusal}
+use Rattle.gates.specs.FrameRefusals.{frameRefusal}
 use Rattle.gates.proofs.refusals.frame.Statement.{statement}
 use Rattle.gates.proofs.refusals.frame.Tie as tie
 
