@@ -218,13 +218,7 @@ fn put_number(lines: &mut Vec<u8>, number: u32) {
 
 /// A capture of one chain of so many records on four ports.
 fn capture(records: usize) -> Vec<u8> {
-    let first = u16::from(records > 0);
-    let mut octets = file::header([first; PORTS]).to_vec();
-    for (before, event) in events(records).iter().enumerate() {
-        let next = if before + 1 < records { before + 2 } else { 0 };
-        octets.extend(file::record(event, next as u16));
-    }
-    octets
+    file::chain([true; PORTS], &events(records))
 }
 
 /// So many events: a port is opened, its streams are reserved, then come epochs, until there are enough.

@@ -44,6 +44,14 @@ pub fn record(event: &Call, next: u16) -> Record {
     record
 }
 
+/// The capture of one chain of events, at whose front those of ports 0 to 3 start of which it is said.
+pub fn chain(starts: [bool; PORTS], events: &[Call]) -> Vec<u8> {
+    let first = starts.map(|starts| u16::from(starts && !events.is_empty()));
+    let next = |before: usize| if before + 1 < events.len() { before + 2 } else { 0 };
+    let records = events.iter().enumerate().flat_map(|(before, event)| record(event, next(before) as u16));
+    header(first).into_iter().chain(records).collect()
+}
+
 /// Writes the next index into a record.
 pub fn put_next_index(record: &mut [u8], index: u16) {
     put(record, NEXT_INDEX_AT, &index.to_be_bytes());

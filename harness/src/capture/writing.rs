@@ -1,28 +1,13 @@
 //! From the text form to a capture; of a bad text, the line and what is wrong there.
 
-use std::fmt;
-use std::str;
-
 use crate::call::Call;
 use crate::capture::file::{self, Record, LAST_INDEX};
+use crate::capture::lines::{self, BadText};
 use crate::capture::words::{number, Words, CHAIN, FIRST, HEADER, NEXT, OCTETS, PORT};
 use crate::model::capture::{PORTS, RECORD_OCTETS};
 
 /// The greatest port number.
 const LAST_PORT: u32 = PORTS as u32 - 1;
-
-/// What is wrong with a text, and in which line, from 1.
-#[derive(Clone, Debug, PartialEq, Eq)]
-pub struct BadText {
-    pub line: usize,
-    pub what: String,
-}
-
-impl fmt::Display for BadText {
-    fn fmt(&self, f: &mut fmt::Formatter<'_>) -> fmt::Result {
-        write!(f, "line {}: {}", self.line, self.what)
-    }
-}
 
 /// Where in the text the next line stands.
 #[derive(Clone, Copy, PartialEq, Eq)]
@@ -50,14 +35,7 @@ struct Capture {
 /// The capture of a text.
 pub fn octets(text: &[u8]) -> Result<Vec<u8>, BadText> {
     let mut capture = Capture { header: None, first: [None; PORTS], records: Vec::new(), beyond: Vec::new(), within: Within::Nothing };
-    let mut last = 0;
-    for (before, line) in text.split(|&octet| octet == b'\n').enumerate() {
-        let bad = |what| BadText { line: before + 1, what };
-        let line = str::from_utf8(line).map_err(|_| bad(String::from("it is not text")))?;
-        if capture.line(&mut Words::of(line)).map_err(bad)? {
-            last = before + 1;
-        }
-    }
+    let last = lines::each(text, |words| capture.line(words))?;
     capture.ended().map_err(|what| BadText { line: last, what })
 }
 
@@ -194,7 +172,7 @@ impl Capture {
 }
 
 /// The event that a line names by its first word.
-fn event(word: &str, words: &mut Words) -> Result<Call, String> {
+pub fn event(word: &str, words: &mut Words) -> Result<Call, String> {
     let stream = |words: &mut Words| words.number("a stream", u32::from(u8::MAX)).map(|stream| stream as u8);
     let charge = |words: &mut Words| words.number("a charge", u32::MAX);
     let tag = |words: &mut Words| words.number("a tag", u32::MAX);
