@@ -1,6 +1,6 @@
 //! Evidence about the port and the program `replay` from outside their proof: the outside program (an independent model of the calls and of the
 //! replay of captures, and the quick calls in plain Rust), the exported calls as a host declares them, the tests that compare them, demand 3 read off
-//! lists of calls, and captures as a person writes and reads them.
+//! lists of calls, captures as a person writes and reads them, and captures made of a plant's own recordings.
 
 pub mod call;
 pub mod capture;
@@ -11,3 +11,4 @@ pub mod guarantee;
 pub mod in_place;
 pub mod layout;
 pub mod model;
+pub mod recording;

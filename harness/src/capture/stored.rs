@@ -10,6 +10,10 @@ const CAPTURE: &str = "capture";
 const TEXT: &str = "text";
 /// The ending of the file with what `replay` prints of it.
 const OUTPUT: &str = "output";
+/// The ending of the recording of which a capture was made, where it was.
+const RECORDING: &str = "pcap";
+/// The ending of the plan under which it was made.
+const PLAN: &str = "plan";
 /// The file that says of each capture what it shows.
 const README: &str = "README.md";
 
@@ -21,8 +25,14 @@ pub struct Stored {
     pub output: String,
 }
 
+/// A stored recording, and the file of the plan under which it becomes the capture of the same name.
+pub struct StoredRecording {
+    pub octets: Vec<u8>,
+    pub plan: PathBuf,
+}
+
 /// The folder of the stored captures.
-fn folder() -> PathBuf {
+pub fn folder() -> PathBuf {
     Path::new(env!("CARGO_MANIFEST_DIR")).join("../captures")
 }
 
@@ -48,19 +58,25 @@ pub fn one(name: &str) -> Result<Stored, String> {
     Ok(Stored { name: String::from(name), octets: read(&with(CAPTURE))?, text: read_text(&with(TEXT))?, output: read_text(&with(OUTPUT))? })
 }
 
+/// The stored recording of a name.
+pub fn recording(name: &str) -> Result<StoredRecording, String> {
+    Ok(StoredRecording { octets: read(&format!("{name}.{RECORDING}"))?, plan: folder().join(format!("{name}.{PLAN}")) })
+}
+
 /// All stored captures, by name.
 pub fn all() -> Result<Vec<Stored>, String> {
     names()?.iter().map(|name| one(name)).collect()
 }
 
-/// The names of the stored captures: every file of the folder is one of a capture's three, or the one that says what each shows.
+/// The names of the stored captures: every file of the folder is one of a capture's three, one of the two of which a capture was made, or the one that
+/// says what each shows.
 pub fn names() -> Result<Vec<String>, String> {
     let entries = fs::read_dir(folder()).map_err(|why| format!("{}: {why}", folder().display()))?;
     let mut names = BTreeSet::new();
     for entry in entries {
         let file = entry.map_err(|why| why.to_string())?.file_name().to_string_lossy().into_owned();
         match file.split_once('.') {
-            Some((name, CAPTURE | TEXT | OUTPUT)) => names.insert(String::from(name)),
+            Some((name, CAPTURE | TEXT | OUTPUT | RECORDING | PLAN)) => names.insert(String::from(name)),
             _ if file == README => continue,
             _ => return Err(format!("{file} is no file of a stored capture")),
         };

@@ -1,0 +1,138 @@
+//! Reads a plan: the text that gives the epoch's length, L and K, the reservations and the bindings. What Open, Reserve or Bind would refuse is told
+//! with its line and number.
+
+use crate::call::{Call, Reply};
+use crate::capture::lines::{self, BadText};
+use crate::capture::words::Words;
+use crate::capture::writing::event;
+use crate::model::port::{Port, ADDRESS_OCTETS};
+use crate::model::refusal::{
+    DELAY_OUTSIDE, LINK_OUTSIDE, NOT_RESERVED, OPEN_ALREADY, PERMITTED_BELOW, PORT_CLOSED, RESERVED_ALREADY, SHARE_EXCEEDED, STREAM_ABOVE,
+};
+use crate::model::rule;
+use crate::recording::bindings::{bind, PAIR_BOUND, STREAM_BOUND, VID_OUTSIDE};
+
+/// Begins the line with the epoch's length.
+const EPOCH: &str = "epoch";
+/// Begins the line with L and K, as in the text form of captures.
+const OPEN: &str = "open";
+/// Begins the line of a reservation, as in the text form of captures.
+const RESERVE: &str = "reserve";
+/// Begins the line of a binding.
+const BIND: &str = "bind";
+/// Stands between the octets of an address.
+const BETWEEN_OCTETS: char = ':';
+/// The base of an octet's digits, and how many it has.
+const HEXADECIMAL: u32 = 16;
+const DIGITS: usize = 2;
+
+/// What document 01 says of the refusals that a plan can meet.
+const REFUSALS: [(u8, &str); 12] = [
+    (PORT_CLOSED, "port closed"),
+    (OPEN_ALREADY, "open already"),
+    (LINK_OUTSIDE, "L outside its range, 1,626 to 23,046"),
+    (DELAY_OUTSIDE, "K outside its range, 1 to 16"),
+    (STREAM_ABOVE, "stream above 63"),
+    (RESERVED_ALREADY, "reserved already"),
+    (PERMITTED_BELOW, "P below 84"),
+    (SHARE_EXCEEDED, "sum of P above the share, which is L less 1,542"),
+    (VID_OUTSIDE, "VID outside 1 to 4,094"),
+    (STREAM_BOUND, "stream bound already"),
+    (PAIR_BOUND, "pair bound already"),
+    (NOT_RESERVED, "stream not reserved"),
+];
+
+/// A plan without fault.
+#[derive(Debug, PartialEq, Eq)]
+pub struct Plan {
+    /// The epoch's length in nanoseconds.
+    pub epoch: u32,
+    /// The Open and the Reserves.
+    pub calls: Vec<Call>,
+    /// The port after them and the bindings.
+    pub port: Port,
+}
+
+/// The plan as far as the lines went.
+struct Reading {
+    epoch: Option<u32>,
+    calls: Vec<Call>,
+    port: Port,
+}
+
+/// The plan of a text.
+pub fn read(text: &[u8]) -> Result<Plan, BadText> {
+    let mut reading = Reading { epoch: None, calls: Vec::new(), port: Port::closed() };
+    let last = lines::each(text, |words| reading.line(words))?;
+    reading.ended().map_err(|what| BadText { line: last.max(1), what })
+}
+
+impl Reading {
+    /// Takes one line; whether there was anything in it.
+    fn line(&mut self, words: &mut Words) -> Result<bool, String> {
+        let Some(word) = words.word() else { return Ok(false) };
+        match word {
+            EPOCH => self.epoch(words)?,
+            OPEN | RESERVE => self.call(event(word, words)?)?,
+            BIND => self.bind(words)?,
+            other => return Err(format!("'{other}' begins no line of a plan")),
+        }
+        words.end()?;
+        Ok(true)
+    }
+
+    /// The epoch's length, once.
+    fn epoch(&mut self, words: &mut Words) -> Result<(), String> {
+        let epoch = words.number("an epoch's length", u32::MAX)?;
+        if epoch == 0 {
+            return Err(String::from("an epoch has at least 1 nanosecond"));
+        }
+        match self.epoch.replace(epoch) {
+            None => Ok(()),
+            Some(_) => Err(String::from("the epoch has a length already")),
+        }
+    }
+
+    /// An Open or a Reserve.
+    fn call(&mut self, call: Call) -> Result<(), String> {
+        granted(rule::step(&call, &mut self.port))?;
+        self.calls.push(call);
+        Ok(())
+    }
+
+    /// A binding.
+    fn bind(&mut self, words: &mut Words) -> Result<(), String> {
+        let stream = words.number("a stream", u8::MAX.into())? as u8;
+        let address = address(words.word().ok_or("an address is missing")?)?;
+        let vid = words.number("a VID", u32::MAX)?;
+        granted(bind(&mut self.port, stream, address, vid))
+    }
+
+    /// The plan, once no line follows.
+    fn ended(self) -> Result<Plan, String> {
+        let epoch = self.epoch.ok_or("no line before the end gives the epoch's length")?;
+        match self.port.is_open() {
+            true => Ok(Plan { epoch, calls: self.calls, port: self.port }),
+            false => Err(String::from("no line before the end opens the port")),
+        }
+    }
+}
+
+/// Fails where a call is refused, with the number and what document 01 says of it.
+fn granted(reply: Reply) -> Result<(), String> {
+    match REFUSALS.iter().find(|(refusal, _)| *refusal == reply.refusal) {
+        None => Ok(()),
+        Some((refusal, what)) => Err(format!("refused with {refusal}: {what}")),
+    }
+}
+
+/// A word as an address, six octets of two hexadecimal digits.
+fn address(word: &str) -> Result<[u8; ADDRESS_OCTETS], String> {
+    let octet = |digits: &str| match digits.len() == DIGITS && digits.chars().all(|digit| digit.is_digit(HEXADECIMAL)) {
+        true => u8::from_str_radix(digits, HEXADECIMAL).ok(),
+        false => None,
+    };
+    let octets: Option<Vec<u8>> = word.split(BETWEEN_OCTETS).map(octet).collect();
+    let address = octets.and_then(|octets| octets.try_into().ok());
+    address.ok_or_else(|| format!("'{word}' is not an address, which is six octets as in 01:23:45:67:89:ab"))
+}

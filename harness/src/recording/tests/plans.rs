@@ -1,0 +1,126 @@
+//! Plans as they are read, and what is said of a bad one.
+
+use super::made::PLAN;
+use crate::call::Call;
+use crate::recording::plan::{read, Plan};
+
+/// The plan of a text that must be good.
+fn plan(text: &str) -> Plan {
+    read(text.as_bytes()).unwrap_or_else(|bad| panic!("{bad}, in\n{text}"))
+}
+
+/// What is said of a bad plan.
+fn said_of(text: &str) -> String {
+    read(text.as_bytes()).expect_err("a bad plan").to_string()
+}
+
+/// The plan of these tests, then lines.
+fn with(lines: &str) -> String {
+    format!("{PLAN}{lines}")
+}
+
+#[test]
+fn a_plan_is_read() {
+    let plan = plan(PLAN);
+    assert_eq!(plan.epoch, 160_000);
+    assert_eq!(plan.calls, [Call::Open { link: 2_000, delay: 1 }, Call::Reserve { stream: 5, permitted: 200 }]);
+    let stream = plan.port.streams[5];
+    assert_eq!((stream.permitted, stream.bound, stream.address, stream.vid), (200, 1, [0x01, 0x00, 0x5e, 0x00, 0x00, 0x05], 10));
+    assert_eq!(plan.port.streams.iter().filter(|stream| stream.is_bound()).count(), 1);
+}
+
+#[test]
+fn comments_blank_lines_and_the_order_make_no_difference() {
+    let text = "# of the line\n\n open 2000  1\r\n\treserve 5 200 # samples\nbind 5 01:00:5E:00:00:05 10\nepoch 160000#\n";
+    assert_eq!(plan(text), plan(PLAN));
+}
+
+#[test]
+fn a_stream_need_not_be_bound_and_a_port_need_have_none() {
+    assert_eq!(plan("epoch 1\nopen 1626 16\n").calls, [Call::Open { link: 1_626, delay: 16 }]);
+    assert!(!plan("open 2000 1\nreserve 63 84\nepoch 4294967295").port.streams[63].is_bound());
+}
+
+#[test]
+fn a_pair_is_address_and_vid() {
+    let text = with("reserve 6 84\nreserve 7 84\nbind 6 01:00:5e:00:00:05 11\nbind 7 01:00:5e:00:00:04 10\n");
+    assert_eq!(plan(&text).port.streams.iter().filter(|stream| stream.is_bound()).count(), 3);
+}
+
+#[test]
+fn a_wrong_line_is_told() {
+    let said = [
+        (with("band 5"), "line 5: 'band' begins no line of a plan"),
+        (with("tick"), "line 5: 'tick' begins no line of a plan"),
+        (with("arrive 5 84 1"), "line 5: 'arrive' begins no line of a plan"),
+        (with("\n# a comment\nbind"), "line 7: a stream is missing"),
+        (with("bind 5"), "line 5: an address is missing"),
+        (with("bind 5 01:00:5e:00:00:05"), "line 5: a VID is missing"),
+        (with("bind 5 01:00:5e:00:00:05 10 11"), "line 5: refused with 10: stream bound already"),
+        (with("reserve 6 84 1"), "line 5: '1' is one word too many"),
+        (with("reserve 6"), "line 5: a P is missing"),
+        (with("reserve 256 84"), "line 5: '256' is not a stream, which is a number from 0 to 255"),
+        (with("bind 256 01:00:5e:00:00:05 1"), "line 5: '256' is not a stream, which is a number from 0 to 255"),
+        (with("epoch 160000"), "line 5: the epoch has a length already"),
+        (String::from("epoch"), "line 1: an epoch's length is missing"),
+        (String::from("epoch 0"), "line 1: an epoch has at least 1 nanosecond"),
+        (String::from("open 2000 1\n"), "line 1: no line before the end gives the epoch's length"),
+        (String::from("epoch 1\n\n"), "line 1: no line before the end opens the port"),
+        (String::new(), "line 1: no line before the end gives the epoch's length"),
+    ];
+    for (text, what) in said {
+        assert_eq!(said_of(&text), what, "of {text:?}");
+    }
+    assert_eq!(read(b"epoch 1\n\xff").expect_err("no text").to_string(), "line 2: it is not text");
+}
+
+#[test]
+fn a_wrong_address_is_told() {
+    let wrong = [
+        "01:00:5e:00:00",
+        "01:00:5e:00:00:05:06",
+        "1:00:5e:00:00:05",
+        "001:00:5e:00:00:05",
+        "01-00-5e-00-00-05",
+        "0g:00:5e:00:00:05",
+        "+1:00:5e:00:00:05",
+        ":",
+    ];
+    for address in wrong {
+        let said = format!("line 5: '{address}' is not an address, which is six octets as in 01:23:45:67:89:ab");
+        assert_eq!(said_of(&with(&format!("bind 5 {address} 10"))), said);
+    }
+}
+
+#[test]
+fn what_a_call_would_refuse_is_told() {
+    let bound = "01:00:5e:00:00:05";
+    let said = [
+        (String::from("reserve 5 200"), "line 1: refused with 1: port closed"),
+        (format!("bind 5 {bound} 10"), "line 1: refused with 1: port closed"),
+        (with("open 2000 1"), "line 5: refused with 2: open already"),
+        (String::from("open 1625 0"), "line 1: refused with 3: L outside its range, 1,626 to 23,046"),
+        (String::from("open 23047 1"), "line 1: refused with 3: L outside its range, 1,626 to 23,046"),
+        (String::from("open 2000 17"), "line 1: refused with 4: K outside its range, 1 to 16"),
+        (with("reserve 64 83"), "line 5: refused with 5: stream above 63"),
+        (with("reserve 5 83"), "line 5: refused with 6: reserved already"),
+        (with("reserve 6 83"), "line 5: refused with 7: P below 84"),
+        (with("reserve 6 259"), "line 5: refused with 8: sum of P above the share, which is L less 1,542"),
+        (with(&format!("bind 64 {bound} 0")), "line 5: refused with 5: stream above 63"),
+        (with(&format!("bind 6 {bound} 0")), "line 5: refused with 12: stream not reserved"),
+        (with(&format!("bind 5 {bound} 0")), "line 5: refused with 9: VID outside 1 to 4,094"),
+        (with(&format!("bind 5 {bound} 4095")), "line 5: refused with 9: VID outside 1 to 4,094"),
+        (with(&format!("bind 5 {bound} 65546")), "line 5: refused with 9: VID outside 1 to 4,094"),
+        (with(&format!("bind 5 {bound} 10")), "line 5: refused with 10: stream bound already"),
+        (with(&format!("reserve 6 258\nbind 6 {bound} 10")), "line 6: refused with 11: pair bound already"),
+    ];
+    for (text, what) in said {
+        assert_eq!(said_of(&text), what, "of {text:?}");
+    }
+}
+
+#[test]
+fn the_ends_of_the_ranges_are_granted() {
+    let text = "open 23046 16\nepoch 1\nreserve 0 21420\nreserve 63 84\nbind 0 00:00:00:00:00:00 1\nbind 63 ff:ff:ff:ff:ff:ff 4094\n";
+    assert_eq!(plan(text).calls.len(), 3);
+}

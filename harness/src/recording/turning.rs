@@ -1,0 +1,89 @@
+//! Makes the capture of a recording: packet after packet becomes a call on port 0 at its time.
+
+use std::io::Read;
+
+use crate::call::Call;
+use crate::capture::file;
+use crate::model::capture::PORTS;
+use crate::recording::bindings;
+use crate::recording::frames::{frame, Frame};
+use crate::recording::link::{Full, Link};
+use crate::recording::pcap::{BadRecording, Packet, Recording};
+use crate::recording::plan::Plan;
+use crate::recording::report::Report;
+
+/// Which ports start: port 0.
+const STARTS: [bool; PORTS] = [true, false, false, false];
+
+/// The capture of a recording under a plan, and what became of the packets.
+pub fn capture<R: Read>(plan: Plan, recording: Recording<R>) -> Result<(Vec<u8>, Report), BadRecording> {
+    let mut turning = Turning { link: Link::of(plan), times: None, full: false, report: Report::default() };
+    for packet in recording {
+        turning.packet(&packet?);
+    }
+    Ok(turning.ended())
+}
+
+/// A capture that is being made.
+struct Turning {
+    link: Link,
+    /// The time of the first packet, when epoch 0 begins, and the latest so far.
+    times: Option<(u64, u64)>,
+    /// Whether an event had no room.
+    full: bool,
+    report: Report,
+}
+
+impl Turning {
+    /// Takes the next packet.
+    fn packet(&mut self, packet: &Packet) {
+        self.report.packets += 1;
+        let time = self.time(packet);
+        if self.full {
+            return self.report.left_out.add(packet.number);
+        }
+        match frame(packet) {
+            None => self.report.refused.add(packet.number),
+            Some(frame) => self.frame(packet.number, time, &frame),
+        }
+    }
+
+    /// The nanoseconds from the first packet to a packet; one that is earlier than the latest so far counts as arriving with that.
+    fn time(&mut self, packet: &Packet) -> u64 {
+        let (first, latest) = self.times.unwrap_or((packet.time, packet.time));
+        if packet.time < latest {
+            self.report.earlier.add(packet.number);
+        }
+        let time = packet.time.max(latest);
+        self.times = Some((first, time));
+        time - first
+    }
+
+    /// Brings the frame of a packet to the port at its time, its tag the packet's number.
+    fn frame(&mut self, number: u64, time: u64, frame: &Frame) {
+        let call = bindings::call(self.link.port(), &frame.octets, number as u32);
+        if self.link.bring(time, call) == Err(Full) {
+            self.full = true;
+            return self.report.left_out.add(number);
+        }
+        match call {
+            Call::Arrive { .. } => self.report.arrivals += 1,
+            _ => self.report.best_effort += 1,
+        }
+        if frame.padded {
+            self.report.padded.add(number);
+        }
+    }
+
+    /// The capture and the report, once no packet follows: what waits is sent.
+    fn ended(mut self) -> (Vec<u8>, Report) {
+        if !self.full && self.link.send_all() == Err(Full) {
+            self.report.waiting = self.link.frames();
+        }
+        if self.report.packets > 0 {
+            self.report.epochs = self.link.ticks() + 1;
+        }
+        self.report.events = self.link.events().len();
+        (file::chain(STARTS, self.link.events()), self.report)
+    }
+}
