@@ -1,5 +1,7 @@
 //! The stored recording: it is made anew here, and the tool makes the stored capture of it. captures/README.md derives what that prints by hand.
 
+use std::fs;
+
 use super::made::{tagged, untagged, ADDRESS, ORDINARY};
 use crate::capture::stored;
 use crate::recording::tool;
@@ -37,6 +39,20 @@ fn the_stored_recording_is_the_one_that_is_made_here() {
     let packets = packets().map(|(time, octets)| (BEGINS + time * MICROSECOND, octets));
     let stored = stored::recording(NAME).expect("the recording is there");
     assert!(ORDINARY.recording(&packets) == stored.octets, "the octets differ");
+}
+
+/// The cells of a column in the rows of captures/README.md that end in what an event prints.
+fn derived(column: usize) -> String {
+    let text = fs::read_to_string(stored::folder().join("README.md")).expect("it can be read");
+    let rows = text.lines().filter(|row| row.ends_with("` |") && row.contains("| `0 "));
+    rows.map(|row| format!("{}\n", row.split('|').nth(column).expect("a cell").trim().trim_matches('`'))).collect()
+}
+
+#[test]
+fn the_stored_capture_is_the_one_that_is_derived() {
+    let capture = stored::one(NAME).expect("the capture is there");
+    assert_eq!(format!("port 0\n{}", derived(3)), capture.text);
+    assert_eq!(derived(5), capture.output);
 }
 
 #[test]
