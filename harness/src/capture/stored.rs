@@ -68,8 +68,8 @@ pub fn all() -> Result<Vec<Stored>, String> {
     names()?.iter().map(|name| one(name)).collect()
 }
 
-/// The names of the stored captures: every file of the folder is one of a capture's three, one of the two of which a capture was made, or the one that
-/// says what each shows.
+/// The names of the stored captures: every file of the folder is one of a capture's three, one of the two of which a capture was made, or the one
+/// that says what each shows.
 pub fn names() -> Result<Vec<String>, String> {
     let entries = fs::read_dir(folder()).map_err(|why| format!("{}: {why}", folder().display()))?;
     let mut names = BTreeSet::new();

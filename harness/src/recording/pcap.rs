@@ -1,5 +1,5 @@
-//! Reads a recording, packet by packet: a file in the ordinary pcap format, of either byte order, in microseconds or nanoseconds. Of a packet's octets
-//! the first few are read and the rest is passed over, so a recording may be of any length.
+//! Reads a recording, packet by packet: a file in the ordinary pcap format, of either byte order, in microseconds or nanoseconds. Of a packet's
+//! octets the first few are read and the rest is passed over, so a recording may be of any length.
 
 use std::fmt;
 use std::io::{self, Read};

@@ -59,7 +59,7 @@ impl Turning {
         time - first
     }
 
-    /// Brings the frame of a packet to the port at its time, its tag the packet's number.
+    /// Brings the frame of a packet to the port at its time; the tag is the packet's number, its low 32 bits.
     fn frame(&mut self, number: u64, time: u64, frame: &Frame) {
         let call = bindings::call(self.link.port(), &frame.octets, number as u32);
         if self.link.bring(time, call) == Err(Full) {
