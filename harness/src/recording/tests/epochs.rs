@@ -62,12 +62,14 @@ fn a_recording_without_packets_opens_the_port() {
 
 #[test]
 fn packets_of_earlier_times_arrive_at_the_latest_time_so_far() {
-    let at = |times: [u64; 5]| times.map(|time| (time, streamed(60)));
-    let in_order = text_of(&at([EPOCH, EPOCH + 10, EPOCH + 10, EPOCH + 10, 2 * EPOCH]));
-    let (events, report) = events_of(PLAN, &at([EPOCH, EPOCH + 10, EPOCH + 9, 0, 2 * EPOCH]));
-    assert_eq!(text_of(&at([EPOCH, EPOCH + 10, EPOCH + 9, 0, 2 * EPOCH])), in_order);
-    assert_eq!((report.earlier.count, report.earlier.first, report.epochs), (2, vec![3, 4], 3));
-    assert_eq!(events.iter().filter(|call| **call == Call::Tick).count(), 2);
+    let at = |times: [u64; 6]| times.map(|time| (time, streamed(60)));
+    let latest = EPOCH + 10;
+    let in_order = at([EPOCH, latest, latest, latest, latest, 2 * EPOCH]);
+    let out_of_order = at([EPOCH, latest, latest - 1, 0, latest - 5, 2 * EPOCH]);
+    assert_eq!(text_of(&out_of_order), text_of(&in_order));
+    let report = events_of(PLAN, &out_of_order).1;
+    assert_eq!((report.earlier.count, report.earlier.first, report.epochs), (3, vec![3, 4, 5], 3));
+    assert_eq!(events_of(PLAN, &in_order).1.earlier.count, 0);
 }
 
 #[test]

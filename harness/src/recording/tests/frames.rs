@@ -2,6 +2,7 @@
 
 use super::made::{captured, events_of, streamed, tagged, typed, untagged, Form, ADDRESS, ORDINARY, PLAN};
 use crate::call::Call;
+use crate::capture::reading;
 use crate::recording::report::Packets;
 
 /// The call that one packet becomes under the plan, or none.
@@ -36,6 +37,8 @@ fn another_pair_is_best_effort() {
         address[place] ^= 1;
         assert_eq!(becomes(tagged(address, 10, 60)), best_effort(84), "octet {place}");
     }
+    // Zeros are what the model has of a stream that is not bound.
+    assert_eq!(becomes(tagged([0; 6], 0, 60)), best_effort(84));
 }
 
 #[test]
@@ -100,5 +103,5 @@ fn the_charge_is_that_of_the_wire() {
     let packets = [(0, streamed(1_522)), (0, streamed(63)), (0, streamed(1_523))];
     let (capture, report) = captured(PLAN, &form.recording(&packets));
     assert_eq!((report.arrivals, report.padded.first, report.refused.first), (2, vec![2], vec![3]));
-    assert_eq!(crate::capture::reading::text(&capture).lines().nth(3), Some("arrive 5 1542 1"));
+    assert_eq!(reading::text(&capture).lines().nth(3), Some("arrive 5 1542 1"));
 }

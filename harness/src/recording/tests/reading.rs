@@ -2,7 +2,7 @@
 
 use std::io::{self, Read};
 
-use super::made::{streamed, tagged, untagged, Form, ADDRESS, NANOSECONDS, ORDINARY, PLAN};
+use super::made::{captured, streamed, tagged, untagged, Form, ADDRESS, NANOSECONDS, ORDINARY, PLAN};
 use crate::recording::pcap::{BadRecording, Packet, Recording};
 
 /// The packets of a recording.
@@ -45,7 +45,7 @@ fn a_recording_written_out_is_read() {
 fn the_four_sorts_give_the_same_capture() {
     let packets =
         [(1_999_998_000, streamed(96)), (1_999_999_000, untagged(400)), (2_000_000_000, streamed(60)), (2_000_159_000, untagged(60))];
-    let capture = |form: Form| super::made::captured(PLAN, &form.recording(&packets));
+    let capture = |form: Form| captured(PLAN, &form.recording(&packets));
     let sorts = [(false, false), (false, true), (true, false), (true, true)];
     let [first, others @ ..] = sorts.map(|(low_first, nanoseconds)| capture(Form { low_first, nanoseconds, ..ORDINARY }));
     assert_eq!(first.1.packets, 4);

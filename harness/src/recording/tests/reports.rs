@@ -1,5 +1,6 @@
 //! What the tool tells, its statuses, and captures that are full.
 
+use std::fs;
 use std::io::{self, Write};
 
 use super::made::{captured, events_of, streamed, untagged, NANOSECONDS, PLAN};
@@ -102,7 +103,7 @@ fn a_capture_of_all_packets_is_status_0() {
     let plan = stored_path("recording.plan");
     let recording = NANOSECONDS.recording(&[(0, untagged(60))]);
     let (status, output, told) = used(&[&plan], &recording);
-    let text = String::from_utf8(std::fs::read(&plan).expect("the plan is there")).expect("it is text");
+    let text = fs::read_to_string(&plan).expect("the plan can be read");
     assert_eq!((status, output), (0, captured(&text, &recording).0));
     assert_eq!(told, "packets 1: arrivals 0, best effort 1, refused 0, left out 0; padded 0, epochs 1, events 5\n");
 }
