@@ -1,6 +1,6 @@
 /*
- * Every function that bunnysolder.h declares, called through it: both sorts of call play document 01's sample, and must reply what the document
- * says. The last line is the total.
+ * Every function that bunnysolder.h declares, called through it: both sorts of call play document 01's sample, by charges and by frames, and must
+ * reply what the document says. The last line is the total.
  */
 #include <stdio.h>
 #include <string.h>
@@ -16,13 +16,16 @@ struct sort {
     uint8_t (*tick)(uint8_t *, size_t, const uint8_t *, size_t, uint32_t *, uint32_t *);
     uint8_t (*transmit)(uint8_t *, size_t, const uint8_t *, size_t, uint32_t *, uint32_t *);
     uint8_t (*best_effort)(uint8_t *, size_t, uint8_t *, size_t, uint32_t, uint32_t, uint32_t *, uint32_t *);
+    uint8_t (*bind)(uint8_t *, size_t, const uint8_t *, size_t, uint8_t, const uint8_t *, uint32_t, uint32_t *, uint32_t *);
+    uint8_t (*frame)(uint8_t *, size_t, uint8_t *, size_t, const uint8_t *, size_t, uint32_t, uint32_t *, uint32_t *);
 };
 
 static const struct sort sorts[] = {
     { "the calls", bunnysolder_open, bunnysolder_reserve, bunnysolder_arrive, bunnysolder_tick, bunnysolder_transmit,
-      bunnysolder_best_effort },
+      bunnysolder_best_effort, bunnysolder_bind, bunnysolder_frame },
     { "the unscanned calls", bunnysolder_open_unscanned, bunnysolder_reserve_unscanned, bunnysolder_arrive_unscanned,
-      bunnysolder_tick_unscanned, bunnysolder_transmit_unscanned, bunnysolder_best_effort_unscanned },
+      bunnysolder_tick_unscanned, bunnysolder_transmit_unscanned, bunnysolder_best_effort_unscanned, bunnysolder_bind_unscanned,
+      bunnysolder_frame_unscanned },
 };
 
 /* What the two reply numbers hold before a call. */
@@ -70,6 +73,39 @@ static void sample(const struct sort *s)
     replies("tick", s->tick(port, p, memory, m - 1, &first, &second), BUNNYSOLDER_SHORT_MEMORY, 0, 0);
 }
 
+/* The same sample with Frames in the place of its Arrives, each 24 octets shorter than its charge, and a refusal of Bind and Frame in between. */
+static void sample_by_frames(const struct sort *s)
+{
+    static const uint8_t address[BUNNYSOLDER_ADDRESS_LENGTH] = { 0x02, 0x00, 0x5E, 0x10, 0x20, 0x30 };
+    static const uint8_t vid_100[] = { 0x81, 0x00, 0xE0, 0x64 };
+    static uint8_t frame[1518];
+    const size_t p = sizeof port, m = sizeof memory;
+
+    memset(port, 0, p);
+    memset(memory, 0, m);
+    memcpy(frame, address, sizeof address);
+    memcpy(frame + 12, vid_100, sizeof vid_100);
+    first = second = UNWRITTEN;
+    replies("open", s->open(port, p, memory, m, 2142, 1, &first, &second), BUNNYSOLDER_GRANTED, 600, 0);
+    replies("reserve", s->reserve(port, p, memory, m, 5, 200, &first, &second), BUNNYSOLDER_GRANTED, 400, 0);
+    replies("reserve", s->reserve(port, p, memory, m, 6, 200, &first, &second), BUNNYSOLDER_GRANTED, 200, 0);
+    replies("bind", s->bind(port, p, memory, m, 5, address, 4095, &first, &second), BUNNYSOLDER_VID_RANGE, 0, 0);
+    replies("bind", s->bind(port, p, memory, m, 5, address, 100, &first, &second), BUNNYSOLDER_GRANTED, 0, 0);
+    replies("bind", s->bind(port, p, memory, m, 5, address, 101, &first, &second), BUNNYSOLDER_BOUND_ALREADY, 0, 0);
+    replies("bind", s->bind(port, p, memory, m, 6, address, 100, &first, &second), BUNNYSOLDER_PAIR_BOUND_ALREADY, 0, 0);
+    replies("frame", s->frame(port, p, memory, m, frame, 96, 7, &first, &second), BUNNYSOLDER_GRANTED, BUNNYSOLDER_CURRENT, 80);
+    replies("frame", s->frame(port, p, memory, m, frame, 76, 8, &first, &second), BUNNYSOLDER_GRANTED, BUNNYSOLDER_NEXT, 100);
+    replies("transmit", s->transmit(port, p, memory, m, &first, &second), BUNNYSOLDER_GRANTED, 5, 7);
+    replies("transmit", s->transmit(port, p, memory, m, &first, &second), BUNNYSOLDER_GRANTED, BUNNYSOLDER_NOTHING, 0);
+    replies("tick", s->tick(port, p, memory, m, &first, &second), BUNNYSOLDER_GRANTED, 0, 0);
+    replies("transmit", s->transmit(port, p, memory, m, &first, &second), BUNNYSOLDER_GRANTED, 5, 8);
+    replies("frame", s->frame(port, p, memory, m, frame, 0, 9, &first, &second), BUNNYSOLDER_FRAME_LENGTH, 0, 0);
+    frame[12] = 0x08;
+    replies("frame", s->frame(port, p, memory, m, frame, 1518, 10, &first, &second), BUNNYSOLDER_GRANTED, 1542, 0);
+    replies("frame", s->frame(port, p, memory, m, frame, 177, 11, &first, &second), BUNNYSOLDER_LIMIT_EXCEEDED, 0, 0);
+    replies("transmit", s->transmit(port, p, memory, m, &first, &second), BUNNYSOLDER_GRANTED, BUNNYSOLDER_BEST_EFFORT, 10);
+}
+
 int main(void)
 {
     int passed = 0, failed = 0;
@@ -78,6 +114,7 @@ int main(void)
     for (i = 0; i < sizeof sorts / sizeof *sorts; i++) {
         wrong = 0;
         sample(&sorts[i]);
+        sample_by_frames(&sorts[i]);
         printf("test %s through the header: %s\n", sorts[i].name, wrong ? "FAILED" : "ok");
         if (wrong)
             failed++;

@@ -4,10 +4,13 @@
  *
  * What is lent. `port` is the port record: BUNNYSOLDER_RECORD_LENGTH octets or more. `memory` holds the waiting frames:
  * BUNNYSOLDER_MEMORY_LENGTH octets or more. Octets past these lengths are neither read nor written. Both may hold anything: a call tests what
- * it is given (18 and 19 below) and never reads or writes outside the two. A record of zeros is a port that is closed, and may be opened.
+ * it is given (18 and 19 below) and never reads or writes outside the two, but for the `address` of Bind and the `octets` of Frame, which it
+ * reads. A record of zeros is a port that is closed, and may be opened.
  *
- * What C has to keep. Each pointer is not null and points to as many octets as its length says; `port`, `memory`, `*first` and `*second` do
- * not overlap; nobody else reads or writes them while a call runs. C cannot be asked for these, and no call can test them.
+ * What C has to keep. Each pointer is not null and points to as many octets as its length says; `address` points to
+ * BUNNYSOLDER_ADDRESS_LENGTH octets. `port`, `memory`, `address`, `octets`, `*first` and `*second` do not overlap. While a call runs nobody else
+ * reads or writes `port`, `memory`, `*first` and `*second`, and nobody writes `address` and `octets`, which the call only reads. C cannot be asked
+ * for these, and no call can test them.
  *
  * What comes back. A call returns 0, or the number of its refusal, and leaves its two reply numbers in `*first` and `*second`. Both are always
  * written; a refusal leaves two zeros there, and record and memory as they were. BUNNYSOLDER_DISCARD alone also moves its stream: to place
@@ -18,7 +21,8 @@
  * and then does the same. On every record that is fit (one that 19 does not refuse) the two are equal in reply, record and memory, and leave it fit;
  * and a granted Open of either sort leaves a fit record. So a host that opens its port by a granted Open, lets nothing but these calls write record
  * and memory from then on, and always lends the two together, gets the same from both sorts. On a record that is not fit an unscanned call
- * still ends, and reads and writes nothing but record, memory and the two numbers, but its reply and what it leaves need not be document 01's.
+ * still ends, and reads and writes nothing but record, memory, the two numbers and what it is given to read, but its reply and what it leaves need
+ * not be document 01's.
  */
 #ifndef BUNNYSOLDER_H
 #define BUNNYSOLDER_H
@@ -34,28 +38,35 @@ extern "C" {
 #define BUNNYSOLDER_RECORD_LENGTH 1088
 #define BUNNYSOLDER_MEMORY_LENGTH 10240
 
+/* The octets of a destination address. */
+#define BUNNYSOLDER_ADDRESS_LENGTH 6
+
 /* The refusals, with document 01's numbers. */
 enum bunnysolder_refusal {
     BUNNYSOLDER_GRANTED = 0,
-    BUNNYSOLDER_CLOSED = 1,            /* the port is closed */
-    BUNNYSOLDER_OPEN_ALREADY = 2,      /* the port is open already */
-    BUNNYSOLDER_LINK_RANGE = 3,        /* L is outside 1,626 to 23,046 */
-    BUNNYSOLDER_DELAY_RANGE = 4,       /* K is outside 1 to 16 */
-    BUNNYSOLDER_STREAM_RANGE = 5,      /* the stream is above 63 */
-    BUNNYSOLDER_RESERVED_ALREADY = 6,  /* the stream is reserved already */
-    BUNNYSOLDER_PERMITTED_RANGE = 7,   /* P is below 84 */
-    BUNNYSOLDER_SHARE_EXCEEDED = 8,    /* the sum of P would be above the share */
-    BUNNYSOLDER_NOT_RESERVED = 12,     /* the stream is not reserved */
-    BUNNYSOLDER_CHARGE_RANGE = 13,     /* the charge is outside 84 to 1,542 */
-    BUNNYSOLDER_DISCARD = 14,          /* the frame fits neither at its stream's place nor at a later one */
-    BUNNYSOLDER_BEST_EFFORT_FULL = 15, /* 256 best-effort frames are waiting */
-    BUNNYSOLDER_LIMIT_EXCEEDED = 16,   /* W, with the charge in it, would be above K x (L - R) */
-    BUNNYSOLDER_SHORT_MEMORY = 18,     /* the memory is shorter than BUNNYSOLDER_MEMORY_LENGTH */
-    BUNNYSOLDER_UNFIT_RECORD = 19,     /* the record is unfit, or shorter than BUNNYSOLDER_RECORD_LENGTH */
-    BUNNYSOLDER_QUEUE_FULL = 20        /* the chosen queue holds 256 frames; never met from a granted Open on, while nobody else writes */
+    BUNNYSOLDER_CLOSED = 1,              /* the port is closed */
+    BUNNYSOLDER_OPEN_ALREADY = 2,        /* the port is open already */
+    BUNNYSOLDER_LINK_RANGE = 3,          /* L is outside 1,626 to 23,046 */
+    BUNNYSOLDER_DELAY_RANGE = 4,         /* K is outside 1 to 16 */
+    BUNNYSOLDER_STREAM_RANGE = 5,        /* the stream is above 63 */
+    BUNNYSOLDER_RESERVED_ALREADY = 6,    /* the stream is reserved already */
+    BUNNYSOLDER_PERMITTED_RANGE = 7,     /* P is below 84 */
+    BUNNYSOLDER_SHARE_EXCEEDED = 8,      /* the sum of P would be above the share */
+    BUNNYSOLDER_VID_RANGE = 9,           /* the VID is outside 1 to 4,094 */
+    BUNNYSOLDER_BOUND_ALREADY = 10,      /* the stream is bound already */
+    BUNNYSOLDER_PAIR_BOUND_ALREADY = 11, /* the pair of address and VID is bound already */
+    BUNNYSOLDER_NOT_RESERVED = 12,       /* the stream is not reserved */
+    BUNNYSOLDER_CHARGE_RANGE = 13,       /* the charge is outside 84 to 1,542 */
+    BUNNYSOLDER_DISCARD = 14,            /* the frame fits neither at its stream's place nor at a later one */
+    BUNNYSOLDER_BEST_EFFORT_FULL = 15,   /* 256 best-effort frames are waiting */
+    BUNNYSOLDER_LIMIT_EXCEEDED = 16,     /* W, with the charge in it, would be above K x (L - R) */
+    BUNNYSOLDER_FRAME_LENGTH = 17,       /* the frame is outside 60 to 1,518 octets */
+    BUNNYSOLDER_SHORT_MEMORY = 18,       /* the memory is shorter than BUNNYSOLDER_MEMORY_LENGTH */
+    BUNNYSOLDER_UNFIT_RECORD = 19,       /* the record is unfit, or shorter than BUNNYSOLDER_RECORD_LENGTH */
+    BUNNYSOLDER_QUEUE_FULL = 20          /* the chosen queue holds 256 frames; never met from a granted Open on, while nobody else writes */
 };
 
-/* The first reply number of Arrive: the queue that the frame has joined. */
+/* The first reply number of Arrive, also where a Frame becomes one: the queue that the frame has joined. */
 enum bunnysolder_place { BUNNYSOLDER_CURRENT = 1, BUNNYSOLDER_NEXT = 2, BUNNYSOLDER_LAST = 3 };
 
 /* The first reply number of Transmit where no reserved stream's frame is sent. */
@@ -82,7 +93,7 @@ uint8_t bunnysolder_reserve_unscanned(uint8_t *port, size_t port_length, const u
 /*
  * Arrive(s, a, tag): a frame arrives on the stream. `charge` is a, the octets that it costs on the wire: its length without check sequence plus
  * 24. `tag` is the host's own number for it. Replies the queue that the frame has joined (enum bunnysolder_place) and the octets left to
- * the stream at its place afterwards. Refusals: 18 19 1 5 12 13, then 14 or 20. Of all calls this one and Best effort alone write the memory.
+ * the stream at its place afterwards. Refusals: 18 19 1 5 12 13, then 14 or 20. Of all calls this one, Best effort and Frame alone write the memory.
  */
 uint8_t bunnysolder_arrive(uint8_t *port, size_t port_length, uint8_t *memory, size_t memory_length,
                            uint8_t stream, uint32_t charge, uint32_t tag, uint32_t *first, uint32_t *second);
@@ -115,6 +126,28 @@ uint8_t bunnysolder_best_effort(uint8_t *port, size_t port_length, uint8_t *memo
                                 uint32_t charge, uint32_t tag, uint32_t *first, uint32_t *second);
 uint8_t bunnysolder_best_effort_unscanned(uint8_t *port, size_t port_length, uint8_t *memory, size_t memory_length,
                                           uint32_t charge, uint32_t tag, uint32_t *first, uint32_t *second);
+
+/*
+ * Bind(s, address, VID): gives a reserved stream a destination address and a VLAN id, so that a Frame that has both arrives on it. No two streams
+ * are bound to one pair; a binding stands until the next granted Open. Replies two zeros. Refusals: 18 19 1 5 12 9 10 11.
+ */
+uint8_t bunnysolder_bind(uint8_t *port, size_t port_length, const uint8_t *memory, size_t memory_length,
+                         uint8_t stream, const uint8_t address[BUNNYSOLDER_ADDRESS_LENGTH], uint32_t vid, uint32_t *first, uint32_t *second);
+uint8_t bunnysolder_bind_unscanned(uint8_t *port, size_t port_length, const uint8_t *memory, size_t memory_length,
+                                   uint8_t stream, const uint8_t address[BUNNYSOLDER_ADDRESS_LENGTH], uint32_t vid,
+                                   uint32_t *first, uint32_t *second);
+
+/*
+ * Frame(octets, tag): a frame arrives, given by its octets from the destination on, without check sequence. `tag` is the host's own number for it.
+ * Octets 0 to 5 are the destination; where octets 12 and 13 are 81 00 (hexadecimal), the VID is the low 12 bits of octets 14 and 15, high octet
+ * first. A frame whose destination and VID are bound is an Arrive on their stream, every other a Best effort, each with its length plus 24 as its
+ * charge, and replies as that call. A length of 0 is refused (17) as any other outside 60 to 1,518; `octets` is not null even then. Nothing is
+ * kept of the octets. Refusals: 18 19 1 17, then 14 or 20, or 15 16.
+ */
+uint8_t bunnysolder_frame(uint8_t *port, size_t port_length, uint8_t *memory, size_t memory_length,
+                          const uint8_t *octets, size_t octets_length, uint32_t tag, uint32_t *first, uint32_t *second);
+uint8_t bunnysolder_frame_unscanned(uint8_t *port, size_t port_length, uint8_t *memory, size_t memory_length,
+                                    const uint8_t *octets, size_t octets_length, uint32_t tag, uint32_t *first, uint32_t *second);
 
 #ifdef __cplusplus
 }

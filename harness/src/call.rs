@@ -1,17 +1,27 @@
 //! A call on a port and its reply, as plain values: what the model, the exports and the tests speak of alike.
 
 use std::fmt;
+use std::sync::Arc;
 
-/// A call with its arguments: numbers are unsigned 32-bit, a stream is an octet.
+/// The octets of a destination address: "a destination address of six octets".
+pub const ADDRESS_OCTETS: usize = 6;
+
+/// A call with its arguments: numbers are unsigned 32-bit, a stream is an octet. It holds the address of a Bind and the octets of a Frame, which
+/// its copies share.
 #[derive(Clone, Copy, Debug, PartialEq, Eq, Hash)]
-pub enum Call {
+pub enum Call<Address = [u8; ADDRESS_OCTETS], Octets = Arc<[u8]>> {
     Open { link: u32, delay: u32 },
     Reserve { stream: u8, permitted: u32 },
     Arrive { stream: u8, charge: u32, tag: u32 },
     Tick,
     Transmit,
     BestEffort { charge: u32, tag: u32 },
+    Bind { stream: u8, address: Address, vid: u32 },
+    Frame { octets: Octets, tag: u32 },
 }
+
+/// A call as it is given to a port: address and octets lie where the caller lends them.
+pub type Given<'a> = Call<&'a [u8; ADDRESS_OCTETS], &'a [u8]>;
 
 /// The refusal, or 0, and the two reply numbers.
 #[derive(Clone, Copy, Debug, PartialEq, Eq)]
@@ -33,6 +43,25 @@ impl Reply {
     }
 }
 
+impl Call {
+    /// The call with its address or octets lent from where it holds them.
+    pub fn given(&self) -> Given<'_> {
+        match *self {
+            Call::Open { link, delay } => Call::Open { link, delay },
+            Call::Reserve { stream, permitted } => Call::Reserve { stream, permitted },
+            Call::Arrive { stream, charge, tag } => Call::Arrive { stream, charge, tag },
+            Call::Tick => Call::Tick,
+            Call::Transmit => Call::Transmit,
+            Call::BestEffort { charge, tag } => Call::BestEffort { charge, tag },
+            Call::Bind { stream, ref address, vid } => Call::Bind { stream, address, vid },
+            Call::Frame { ref octets, tag } => Call::Frame { octets, tag },
+        }
+    }
+}
+
+/// The octets of a frame that a report tells: all that Frame reads of its header.
+const TOLD_OCTETS: usize = 16;
+
 impl fmt::Display for Call {
     fn fmt(&self, f: &mut fmt::Formatter<'_>) -> fmt::Result {
         match self {
@@ -42,8 +71,19 @@ impl fmt::Display for Call {
             Call::Tick => write!(f, "tick"),
             Call::Transmit => write!(f, "transmit"),
             Call::BestEffort { charge, tag } => write!(f, "best effort {charge} {tag}"),
+            Call::Bind { stream, address, vid } => write!(f, "bind {stream} {} {vid}", hexadecimal(address)),
+            Call::Frame { octets, tag } => {
+                let header = hexadecimal(&octets[..octets.len().min(TOLD_OCTETS)]);
+                write!(f, "frame of {} octets [{header}] {tag}", octets.len())
+            }
         }
     }
+}
+
+/// Octets in hexadecimal, with a space between any two.
+fn hexadecimal(octets: &[u8]) -> String {
+    let texts: Vec<String> = octets.iter().map(|octet| format!("{octet:02x}")).collect();
+    texts.join(" ")
 }
 
 impl fmt::Display for Reply {

@@ -1,6 +1,6 @@
 //! The exported calls of the proved port, as a host in Rust declares them: a slice is a pointer and a length.
 
-use crate::call::{Call, Reply};
+use crate::call::{Call, Given, Reply};
 
 /// Declares each call in both sorts, with its memory and its own arguments between those that all calls have.
 macro_rules! declare {
@@ -23,6 +23,8 @@ declare! {
     bunnysolder_tick, bunnysolder_tick_unscanned: *const u8, ();
     bunnysolder_transmit, bunnysolder_transmit_unscanned: *const u8, ();
     bunnysolder_best_effort, bunnysolder_best_effort_unscanned: *mut u8, (charge: u32, tag: u32);
+    bunnysolder_bind, bunnysolder_bind_unscanned: *const u8, (stream: u8, address: *const u8, vid: u32);
+    bunnysolder_frame, bunnysolder_frame_unscanned: *mut u8, (octets: *const u8, octets_length: usize, tag: u32);
 }
 
 /// The calls as functions of C; Tick and Transmit have no arguments of their own.
@@ -30,6 +32,8 @@ type Open = unsafe extern "C" fn(*mut u8, usize, *const u8, usize, u32, u32, &mu
 type Reserve = unsafe extern "C" fn(*mut u8, usize, *const u8, usize, u8, u32, &mut u32, &mut u32) -> u8;
 type Arrive = unsafe extern "C" fn(*mut u8, usize, *mut u8, usize, u8, u32, u32, &mut u32, &mut u32) -> u8;
 type BestEffort = unsafe extern "C" fn(*mut u8, usize, *mut u8, usize, u32, u32, &mut u32, &mut u32) -> u8;
+type Bind = unsafe extern "C" fn(*mut u8, usize, *const u8, usize, u8, *const u8, u32, &mut u32, &mut u32) -> u8;
+type Frame = unsafe extern "C" fn(*mut u8, usize, *mut u8, usize, *const u8, usize, u32, &mut u32, &mut u32) -> u8;
 type Plain = unsafe extern "C" fn(*mut u8, usize, *const u8, usize, &mut u32, &mut u32) -> u8;
 
 /// One sort of call.
@@ -40,6 +44,8 @@ struct Sort {
     tick: Plain,
     transmit: Plain,
     best_effort: BestEffort,
+    bind: Bind,
+    frame: Frame,
 }
 
 /// The calls with all of document 01's checks.
@@ -50,6 +56,8 @@ const CALLS: Sort = Sort {
     tick: bunnysolder_tick,
     transmit: bunnysolder_transmit,
     best_effort: bunnysolder_best_effort,
+    bind: bunnysolder_bind,
+    frame: bunnysolder_frame,
 };
 
 /// The quick calls: nothing is scanned.
@@ -60,6 +68,8 @@ const UNSCANNED: Sort = Sort {
     tick: bunnysolder_tick_unscanned,
     transmit: bunnysolder_transmit_unscanned,
     best_effort: bunnysolder_best_effort_unscanned,
+    bind: bunnysolder_bind_unscanned,
+    frame: bunnysolder_frame_unscanned,
 };
 
 /// What the two reply numbers hold before each call, so that a number which a call leaves unwritten shows.
@@ -68,11 +78,12 @@ const UNWRITTEN: u32 = 0xA5A5_5A5A;
 impl Sort {
     /// A call of this sort.
     #[inline(always)]
-    fn play(&self, call: &Call, port: &mut [u8], memory: &mut [u8]) -> Reply {
+    fn play(&self, call: &Given, port: &mut [u8], memory: &mut [u8]) -> Reply {
         let (mut first, mut second) = (UNWRITTEN, UNWRITTEN);
         let (p, n) = (port.as_mut_ptr(), port.len());
         let (m, k) = (memory.as_mut_ptr(), memory.len());
-        // Each pointer and length is that of a slice which this function alone holds, and the two numbers are its own.
+        // Each pointer and length is that of a slice; record and memory this function alone holds, address and octets nobody writes, and the two
+        // numbers are its own.
         let refusal = unsafe {
             match *call {
                 Call::Open { link, delay } => (self.open)(p, n, m, k, link, delay, &mut first, &mut second),
@@ -81,6 +92,8 @@ impl Sort {
                 Call::Tick => (self.tick)(p, n, m, k, &mut first, &mut second),
                 Call::Transmit => (self.transmit)(p, n, m, k, &mut first, &mut second),
                 Call::BestEffort { charge, tag } => (self.best_effort)(p, n, m, k, charge, tag, &mut first, &mut second),
+                Call::Bind { stream, address, vid } => (self.bind)(p, n, m, k, stream, address.as_ptr(), vid, &mut first, &mut second),
+                Call::Frame { octets, tag } => (self.frame)(p, n, m, k, octets.as_ptr(), octets.len(), tag, &mut first, &mut second),
             }
         };
         Reply { refusal, first, second }
@@ -89,12 +102,12 @@ impl Sort {
 
 /// The call with all of document 01's checks.
 #[inline]
-pub fn call(call: &Call, port: &mut [u8], memory: &mut [u8]) -> Reply {
+pub fn call(call: &Given, port: &mut [u8], memory: &mut [u8]) -> Reply {
     CALLS.play(call, port, memory)
 }
 
 /// The quick call: nothing is scanned.
 #[inline]
-pub fn unscanned(call: &Call, port: &mut [u8], memory: &mut [u8]) -> Reply {
+pub fn unscanned(call: &Given, port: &mut [u8], memory: &mut [u8]) -> Reply {
     UNSCANNED.play(call, port, memory)
 }

@@ -1,12 +1,15 @@
-//! What a call costs: nanoseconds for arrive, transmit, tick and best effort as a call, as a quick call, and as plain Rust in place on the same
-//! layout, in one run, for a port with 4 streams and for a full one. Nothing here is a test: it prints figures and judges none.
+//! What a call costs: nanoseconds for arrive, transmit, tick, best effort and frame as a call, as a quick call, and as plain Rust in place on the
+//! same layout, in one run, for a port with 4 streams and for a full one. Nothing here is a test: it prints figures and judges none.
 
 use std::hint::black_box;
 use std::time::Instant;
 
-use harness::call::{Call, Reply};
+use harness::call::{Call, Given, Reply};
 use harness::comparing::fit::Octets;
-use harness::model::port::{BEST_EFFORT, BEST_EFFORT_STREAM, LAST, LEAST_CHARGE, LINKS, QUEUES, QUEUE_PLACES, STREAMS};
+use harness::comparing::frames::Header;
+use harness::comparing::random::Random;
+use harness::comparing::sides::Play;
+use harness::model::port::{BEST_EFFORT, BEST_EFFORT_STREAM, LAST, LEAST_CHARGE, LEAST_PERMITTED, LINKS, QUEUES, QUEUE_PLACES, STREAMS};
 use harness::{exports, in_place, layout};
 
 /// How often each batch is measured; the figure is the median.
@@ -43,7 +46,7 @@ fn main() {
     let batches: Vec<&Batch> = few.iter().chain(&full).collect();
     let medians = measured(&batches);
     println!("nanoseconds for one call, median of {ROUNDS} rounds");
-    println!("{:<34}{:>9}{:>9}{:>9}{:>14}{:>14}", "", "call", "quick", "Rust", "call / Rust", "quick / Rust");
+    println!("{:<38}{:>9}{:>9}{:>9}{:>14}{:>14}", "", "call", "quick", "Rust", "call / Rust", "quick / Rust");
     report("4 streams", &few, &medians[..few.len()]);
     report("64 bound streams, full queues", &full, &medians[few.len()..]);
     println!("for one arrive and one transmit of 84 octets a link leaves {ONE_GIGABIT} ns at 1 Gbit/s and {TEN_GIGABIT} ns at 10 Gbit/s");
@@ -62,7 +65,7 @@ fn report(port: &str, batches: &[Batch], medians: &[Figures<f64>]) {
 /// One line of the table.
 fn line(what: &str, f: &Figures<f64>) {
     let (call, quick) = (f.call / f.rust, f.quick / f.rust);
-    println!("  {:<32}{:>9.1}{:>9.1}{:>9.1}{:>14.1}{:>14.2}", what, f.call, f.quick, f.rust, call, quick);
+    println!("  {:<36}{:>9.1}{:>9.1}{:>9.1}{:>14.1}{:>14.2}", what, f.call, f.quick, f.rust, call, quick);
 }
 
 /// The medians of all batches. In each round every batch is run on the three sides in turn, so that what else the machine does meets all alike.
@@ -85,9 +88,10 @@ fn round(batch: &Batch, f: &mut Figures<Vec<f64>>) {
 }
 
 /// The time of one call: the whole batch's on a fresh copy of its port, shared out.
-fn nanoseconds(batch: &Batch, side: impl Fn(&Call, &mut [u8], &mut [u8]) -> Reply) -> f64 {
+fn nanoseconds(batch: &Batch, side: impl Fn(&Given, &mut [u8], &mut [u8]) -> Reply) -> f64 {
     let Octets { mut record, mut memory } = batch.port.clone();
-    let calls = black_box(&batch.calls[..]);
+    let calls: Vec<Given> = batch.calls.iter().map(Call::given).collect();
+    let calls = black_box(&calls[..]);
     let began = Instant::now();
     for call in calls {
         black_box(side(call, &mut record, &mut memory));
@@ -110,27 +114,35 @@ fn same_on_all_sides(batch: &Batch) {
 }
 
 /// The replies of the batch on one side, and the record and memory after it.
-fn run(batch: &Batch, side: fn(&Call, &mut [u8], &mut [u8]) -> Reply) -> (Vec<Reply>, Vec<u8>, Vec<u8>) {
+fn run(batch: &Batch, side: Play) -> (Vec<Reply>, Vec<u8>, Vec<u8>) {
     let Octets { mut record, mut memory } = batch.port.clone();
-    let replies = batch.calls.iter().map(|call| side(call, &mut record, &mut memory)).collect();
+    let replies = batch.calls.iter().map(|call| side(&call.given(), &mut record, &mut memory)).collect();
     (replies, record, memory)
 }
 
 /// An open port with this many streams, which share the link evenly.
 fn opened(streams: u8) -> Octets {
+    reserved(streams, |share, _| share / u32::from(streams))
+}
+
+/// An open port with all streams, of which the last has what the others leave of the share.
+fn opened_for_the_last() -> Octets {
+    let others = LEAST_PERMITTED * (STREAMS as u32 - 1);
+    reserved(STREAMS as u8, |share, stream| if usize::from(stream) + 1 < STREAMS { LEAST_PERMITTED } else { share - others })
+}
+
+/// An open port with this many streams, each with its P by the share and its number.
+fn reserved(streams: u8, permitted: impl Fn(u32, u8) -> u32) -> Octets {
     let mut port = Octets::zero();
     let share = exports::call(&Call::Open { link: LINK, delay: DELAY }, &mut port.record, &mut port.memory).first;
-    for stream in 0..streams {
-        let call = Call::Reserve { stream, permitted: share / streams as u32 };
-        exports::call(&call, &mut port.record, &mut port.memory);
-    }
-    port
+    let reserves: Vec<Call> = (0..streams).map(|stream| Call::Reserve { stream, permitted: permitted(share, stream) }).collect();
+    after(port, &reserves)
 }
 
 /// The port after calls.
 fn after(mut port: Octets, calls: &[Call]) -> Octets {
     for call in calls {
-        exports::call(call, &mut port.record, &mut port.memory);
+        exports::call(&call.given(), &mut port.record, &mut port.memory);
     }
     port
 }
@@ -143,6 +155,16 @@ fn arrivals(streams: usize) -> Vec<Call> {
 /// A batch of best-effort frames of the least charge.
 fn best_effort() -> Vec<Call> {
     (0..BATCH).map(|i| Call::BestEffort { charge: LEAST_CHARGE, tag: i as u32 }).collect()
+}
+
+/// The address to which the last stream is bound, and the VID to which all are.
+const LAST_ADDRESS: [u8; 6] = [0, 0, 0, 0, 0, STREAMS as u8 - 1];
+const VID: u16 = 1;
+
+/// A batch of frames of the least charge with one header.
+fn frames(header: &Header) -> Vec<Call> {
+    let mut random = Random::of(1, "frames", 0);
+    (0..BATCH).map(|i| header.frame(&mut random, LEAST_CHARGE, i as u32)).collect()
 }
 
 /// The batches of a port with few streams, whose queues are nearly empty.
@@ -158,24 +180,30 @@ fn few(streams: u8) -> [Batch; 4] {
 }
 
 /// The batches of a port with all streams bound, whose queues are full or become so.
-fn full() -> [Batch; 5] {
-    let [all_full, last_fills, best_effort_fills] = [QUEUES, usize::from(LAST), BEST_EFFORT].map(bound);
-    let purged = after(all_full.clone(), &[Call::Tick; 4]);
+fn full() -> [Batch; 7] {
+    let [all_full, last_fills, best_effort_fills] =
+        [QUEUES, usize::from(LAST), BEST_EFFORT].map(|not_full| bound(opened(STREAMS as u8), not_full));
+    let last_stream_fills = bound(opened_for_the_last(), usize::from(LAST));
+    let ticks = vec![Call::Tick; 4];
+    let purged = after(all_full.clone(), &ticks);
+    let tagged = Header::tagged(LAST_ADDRESS, VID);
+    let untagged = Header { protocol: [0x08, 0x00], ..tagged };
     [
         Batch { what: "arrive, 1,216 to 1,280 frames", port: last_fills, calls: arrivals(STREAMS) },
         Batch { what: "transmit, 1,280 to 1,216 frames", port: all_full.clone(), calls: vec![Call::Transmit; BATCH] },
-        Batch { what: "tick, 256 frames purged", port: all_full, calls: vec![Call::Tick; 4] },
+        Batch { what: "tick, 256 frames purged", port: all_full, calls: ticks },
         Batch { what: "tick, nothing to purge", port: purged, calls: vec![Call::Tick; BATCH] },
-        Batch { what: "best effort, 1,216 to 1,280", port: best_effort_fills, calls: best_effort() },
+        Batch { what: "best effort, 1,216 to 1,280", port: best_effort_fills.clone(), calls: best_effort() },
+        Batch { what: "frame of stream 63, 1,216 to 1,280", port: last_stream_fills, calls: frames(&tagged) },
+        Batch { what: "frame, untagged, 1,216 to 1,280", port: best_effort_fills, calls: frames(&untagged) },
     ]
 }
 
-/// A port with every stream bound and at last, and 256 frames in each queue, but a batch less in the one of this number, if there is one.
-fn bound(not_full: usize) -> Octets {
-    let mut port = opened(STREAMS as u8);
+/// The port with every stream bound and at last, and 256 frames in each queue, but a batch less in the one of this number, if there is one.
+fn bound(mut port: Octets, not_full: usize) -> Octets {
     for stream in 0..STREAMS {
         port.record[layout::entry(stream) + layout::PLACE] = LAST;
-        port.put_binding(stream, &[0, 1, 0, 0, 0, 0, 0, stream as u8]);
+        port.put_binding(stream, &[0, VID as u8, 0, 0, 0, 0, 0, stream as u8]);
     }
     let count = |queue: usize| if queue == not_full { QUEUE_PLACES - BATCH } else { QUEUE_PLACES };
     for queue in 0..QUEUES {

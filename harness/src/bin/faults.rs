@@ -41,7 +41,7 @@ struct Part {
 /// The independent model, the quick calls in plain Rust, the exports as a host declares and calls them, and the checkers of demand 3.
 const PARTS: [Part; 5] = [
     Part { copied: "model", module: "model", plays: &[("model", "call"), ("replay", "replay::replay")] },
-    Part { copied: "in_place.rs", module: "in_place", plays: &[("in_place", "call")] },
+    Part { copied: "in_place", module: "in_place", plays: &[("in_place", "call")] },
     Part { copied: "exports.rs", module: "exports", plays: &[("exports", "call"), ("quick", "unscanned")] },
     Part { copied: "guarantee/claims.rs", module: "claims", plays: &[("check", "check")] },
     Part { copied: "guarantee/pairs.rs", module: "pairs", plays: &[("pair", "check")] },

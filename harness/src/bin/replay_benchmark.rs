@@ -195,7 +195,7 @@ fn by_digits() -> io::Result<()> {
 fn put_lines(lines: &mut Vec<u8>, number: u32, events: &[Call]) {
     let mut port = Port::closed();
     for (event_number, event) in (1..).zip(events) {
-        let reply = rule::step(event, &mut port);
+        let reply = rule::step(&event.given(), &mut port);
         let numbers = [number, event_number, capture::kind(event).into(), reply.refusal.into(), reply.first, reply.second];
         numbers.into_iter().for_each(|number| put_number(lines, number));
         *lines.last_mut().expect("a line has numbers") = b'\n';

@@ -1,6 +1,6 @@
 //! For each clause of refusal 19 the smallest changes of a fit record that break it alone, at its boundary.
 
-use crate::comparing::fit::{any_count, any_start, Octets};
+use crate::comparing::fit::{any_count, any_start, binding as stream_binding, Octets};
 use crate::comparing::random::Random;
 use crate::layout::{self, four, permitted_sum, put_four, put_two, two};
 use crate::model::fitness::Clause;
@@ -207,11 +207,11 @@ fn binding(port: &mut Octets, random: &mut Random, boundary: &Boundary) -> Vec<C
     let other = (boundary.site + random.between(1..=STREAMS as u32 - 1) as usize) % STREAMS;
     reserve(port, random, &[boundary.site, other], LEAST_PERMITTED);
     put_any_binding(port, random, boundary.site);
-    let one = port.binding(boundary.site);
+    let one = stream_binding(&port.record, boundary.site);
     let mut apart = one;
     while apart == one {
         put_any_binding(port, random, other);
-        apart[octet] = port.binding(other)[octet];
+        apart[octet] = stream_binding(&port.record, other)[octet];
     }
     port.put_binding(other, &apart);
     let at = layout::entry(boundary.site) + layout::VID + octet;

@@ -12,7 +12,7 @@ use crate::model::octets::RECORD_OCTETS;
 use crate::model::port::{CHARGES, DELAYS, LARGEST_CHARGE, LEAST_CHARGE, LEAST_PERMITTED, LINKS, MARK_YES, STREAMS};
 
 /// Where a number of 16 bits starts over.
-const OVER_TWO_OCTETS: u32 = 1 << 16;
+pub const OVER_TWO_OCTETS: u32 = 1 << 16;
 /// Where a number of 8 bits starts over.
 pub const OVER_AN_OCTET: u32 = 1 << 8;
 
@@ -36,6 +36,8 @@ pub struct Weights {
     pub tick: usize,
     pub transmit: usize,
     pub best_effort: usize,
+    pub bind: usize,
+    pub frame: usize,
     /// The host writes the open mark.
     pub close: usize,
 }
@@ -78,7 +80,7 @@ pub struct Profile {
 
 /// An ordinary profile: every stream and L, charges and P's that press what is left and free, and all calls alike.
 pub const ORDINARY: Profile = Profile {
-    weights: Weights { open: 1, reserve: 1, arrive: 1, tick: 1, transmit: 1, best_effort: 1, close: 0 },
+    weights: Weights { open: 1, reserve: 1, arrive: 1, tick: 1, transmit: 1, best_effort: 1, bind: 1, frame: 1, close: 0 },
     streams: STREAMS,
     links: LINKS,
     permitted: Permitted::NearFree,
@@ -86,8 +88,8 @@ pub const ORDINARY: Profile = Profile {
     edges: 0,
 };
 
-/// Each of the six calls with good and bad arguments, to be tried on a record of any length and content.
-pub fn each_call(random: &mut Random, record: &[u8]) -> [Call; 13] {
+/// Each of the eight calls with good and bad arguments, to be tried on a record of any length and content.
+pub fn each_call(random: &mut Random, record: &[u8]) -> [Call; 19] {
     let zeros = [0; RECORD_OCTETS];
     let record = if record.len() < RECORD_OCTETS { &zeros } else { record };
     let profile = ORDINARY;
@@ -105,6 +107,12 @@ pub fn each_call(random: &mut Random, record: &[u8]) -> [Call; 13] {
         profile.best_effort(random, record, false),
         profile.best_effort(random, record, false),
         profile.best_effort(random, record, true),
+        profile.bind(random, record, false),
+        profile.bind(random, record, true),
+        profile.frame(random, record, false),
+        profile.frame(random, record, false),
+        profile.frame(random, record, false),
+        profile.frame(random, record, true),
     ]
 }
 
@@ -115,14 +123,16 @@ impl Profile {
         if record[layout::OPEN] != MARK_YES && random.chance(60) {
             return Step::Call(self.open(random, edge));
         }
-        let Weights { open, reserve, arrive, tick, transmit, best_effort, close } = self.weights;
-        Step::Call(match random.weighted(&[open, reserve, arrive, tick, transmit, best_effort, close]) {
+        let Weights { open, reserve, arrive, tick, transmit, best_effort, bind, frame, close } = self.weights;
+        Step::Call(match random.weighted(&[open, reserve, arrive, tick, transmit, best_effort, bind, frame, close]) {
             0 => self.open(random, edge),
             1 => self.reserve(random, record, edge),
             2 => self.arrive(random, record, edge),
             3 => Call::Tick,
             4 => Call::Transmit,
             5 => self.best_effort(random, record, edge),
+            6 => self.bind(random, record, edge),
+            7 => self.frame(random, record, edge),
             _ => return Step::HostWrites { at: layout::OPEN, octet: no_mark(random) },
         })
     }
@@ -183,7 +193,7 @@ impl Profile {
     }
 
     /// A best-effort charge of this profile: what the limit still allows, one octet more or less than that, or any.
-    fn any_best_effort(&self, random: &mut Random, record: &[u8]) -> u32 {
+    pub fn any_best_effort(&self, random: &mut Random, record: &[u8]) -> u32 {
         let Charges::NearLeft = self.charges else { return LEAST_CHARGE };
         let any = random.between(CHARGES);
         let free = best_effort_limit(record).saturating_sub(waits_with(record, 0)).min(u64::from(LARGEST_CHARGE)) as u32;
@@ -192,7 +202,7 @@ impl Profile {
     }
 
     /// A charge of this profile.
-    fn any_charge(&self, random: &mut Random, record: &[u8], stream: u8) -> u32 {
+    pub fn any_charge(&self, random: &mut Random, record: &[u8], stream: u8) -> u32 {
         let Charges::NearLeft = self.charges else { return LEAST_CHARGE };
         let at = layout::entry(usize::from(stream) % STREAMS);
         let (left, permitted) = (two(record, at + layout::LEFT), two(record, at + layout::PERMITTED));
@@ -220,13 +230,13 @@ fn any_delay(random: &mut Random) -> u32 {
 }
 
 /// A tag, its ends more often.
-fn any_tag(random: &mut Random) -> u32 {
+pub fn any_tag(random: &mut Random) -> u32 {
     let tag = random.number();
     random.pick(&[0, u32::MAX, tag, tag, tag])
 }
 
 /// The last stream, or one that there is not.
-fn edge_stream(random: &mut Random) -> u8 {
+pub fn edge_stream(random: &mut Random) -> u8 {
     let any = random.between(STREAMS as u32..=u32::from(u8::MAX)) as u8;
     let end = random.pick(&EDGE_STREAMS);
     random.pick(&[any, end])

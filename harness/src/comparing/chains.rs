@@ -149,25 +149,22 @@ fn walk(coverage: &mut Coverage, random: &mut Random, links: &Links, first: usiz
     let Octets { mut record, mut memory } = Octets::zero();
     let mut index = first;
     while index != 0 {
-        let event = match events[index] {
-            Some(event) => event,
-            None => any_event(random, profile, &record),
-        };
         coverage.add(Seen::SharedRecord, u64::from(events[index].is_some()));
-        events[index] = Some(event);
+        let event = events[index].get_or_insert_with(|| any_event(random, profile, &record));
         let prior_waited = prior_waits(&record);
-        let reply = in_place::call(&event, &mut record, &mut memory);
-        coverage.count_call(&event, &reply, &record, prior_waited);
+        let reply = in_place::call(&event.given(), &mut record, &mut memory);
+        coverage.count_call(event, &reply, &record, prior_waited);
         index = links.next[index];
     }
     coverage.add(Seen::PortWithoutEvents, u64::from(first == 0));
 }
 
-/// An event of a profile, on a port with this record; a capture has no event that closes a port.
+/// An event of a profile, on a port with this record; a capture has no event that binds, brings a frame by its octets or closes a port.
 fn any_event(random: &mut Random, profile: &Profile, record: &[u8]) -> Call {
     loop {
-        if let Step::Call(call) = profile.step(random, record) {
-            return call;
+        match profile.step(random, record) {
+            Step::Call(Call::Bind { .. } | Call::Frame { .. }) | Step::HostWrites { .. } => (),
+            Step::Call(event) => return event,
         }
     }
 }

@@ -1,18 +1,19 @@
-//! One call on two sides: the same record and memory lent to both, and reply, every octet and what lies around them compared.
+//! One call on two sides: the same record and memory lent to both, and what the call gives to read; reply, every octet and what lies around them
+//! compared.
 
 use std::collections::VecDeque;
 use std::fmt;
 
-use crate::call::{Call, Reply};
+use crate::call::{Call, Given, Reply};
 use crate::comparing::coverage::prior_waits;
-use crate::comparing::fenced::{lend_pair, Edge};
+use crate::comparing::fenced::{lend_given, lend_pair, Edge};
 use crate::comparing::lent::{Lend, Lent};
 use crate::comparing::sides::{Play, Side};
 use crate::comparing::test::Run;
 use crate::layout;
 
 /// What is done to a lent port: a call, or the host writes an octet of the record.
-#[derive(Clone, Copy, Debug)]
+#[derive(Clone, Debug)]
 pub enum Step {
     Call(Call),
     HostWrites { at: usize, octet: u8 },
@@ -36,28 +37,61 @@ struct Player {
     play: Play,
     record: Box<dyn Lend>,
     memory: Box<dyn Lend>,
+    /// Which end of what a call gives to read lies against a fence; where none is named, guards stand around it.
+    edge: Option<Edge>,
+    /// Whether what the calls so far gave to read, and the octets outside it, were left alone.
+    given_kept: bool,
 }
 
 impl Player {
     /// A side that gets copies with guards around them.
     fn guarded(side: Side, run: &Run, record: &[u8], memory: &[u8]) -> Player {
-        Player { side, play: run.sides.play(side), record: Box::new(Lent::new(record)), memory: Box::new(Lent::new(memory)) }
+        let (record, memory) = (Box::new(Lent::new(record)), Box::new(Lent::new(memory)));
+        Player { side, play: run.sides.play(side), record, memory, edge: None, given_kept: true }
     }
 
-    /// A side that gets copies against fences.
-    fn fenced(side: Side, run: &Run, record: &[u8], memory: &[u8], edges: [Edge; 2]) -> Player {
-        let (record, memory) = lend_pair(record, memory, edges);
-        Player { side, play: run.sides.play(side), record: Box::new(record), memory: Box::new(memory) }
+    /// A side that gets copies against fences: record, memory, and what a call gives to read.
+    fn fenced(side: Side, run: &Run, record: &[u8], memory: &[u8], [of_record, of_memory, of_given]: [Edge; 3]) -> Player {
+        let (record, memory) = lend_pair(record, memory, [of_record, of_memory]);
+        let (record, memory) = (Box::new(record), Box::new(memory));
+        Player { side, play: run.sides.play(side), record, memory, edge: Some(of_given), given_kept: true }
     }
 
     /// Plays a call on what was lent.
     fn play(&mut self, call: &Call) -> Reply {
-        (self.play)(call, self.record.octets_mut(), self.memory.octets_mut())
+        let Some(octets) = to_read(call) else {
+            return (self.play)(&call.given(), self.record.octets_mut(), self.memory.octets_mut());
+        };
+        let given: Box<dyn Lend> = match self.edge {
+            Some(edge) => Box::new(lend_given(octets, edge)),
+            None => Box::new(Lent::new(octets)),
+        };
+        let reply = (self.play)(&giving(call, given.octets()), self.record.octets_mut(), self.memory.octets_mut());
+        self.given_kept = self.given_kept && given.outside_kept() && given.octets() == octets;
+        reply
     }
 
-    /// Whether nothing outside the lent slices was touched.
+    /// Whether nothing outside the lent slices was touched, and nothing written of what was lent to be read.
     fn outside_kept(&self) -> bool {
-        self.record.outside_kept() && self.memory.outside_kept()
+        self.record.outside_kept() && self.memory.outside_kept() && self.given_kept
+    }
+}
+
+/// What a call gives the port to read: an address, or the octets of a frame.
+fn to_read(call: &Call) -> Option<&[u8]> {
+    match call {
+        Call::Bind { address, .. } => Some(address),
+        Call::Frame { octets, .. } => Some(octets),
+        _ => None,
+    }
+}
+
+/// The call with its address or octets lent from elsewhere.
+fn giving<'a>(call: &'a Call, octets: &'a [u8]) -> Given<'a> {
+    match *call {
+        Call::Bind { stream, vid, .. } => Call::Bind { stream, address: octets.try_into().expect("an address has six octets"), vid },
+        Call::Frame { tag, .. } => Call::Frame { octets, tag },
+        _ => call.given(),
     }
 }
 
@@ -76,7 +110,7 @@ impl Compared {
     }
 
     /// One side twice: against fences, and with guards.
-    pub fn fenced(side: Side, run: &Run, record: &[u8], memory: &[u8], edges: [Edge; 2]) -> Compared {
+    pub fn fenced(side: Side, run: &Run, record: &[u8], memory: &[u8], edges: [Edge; 3]) -> Compared {
         Compared::of([Player::fenced(side, run, record, memory, edges), Player::guarded(side, run, record, memory)], run)
     }
 
@@ -88,6 +122,11 @@ impl Compared {
     /// The record as the calls so far left it.
     pub fn record(&self) -> &[u8] {
         self.players[0].record.octets()
+    }
+
+    /// The memory as the calls so far left it.
+    pub fn memory(&self) -> &[u8] {
+        self.players[0].memory.octets()
     }
 
     /// Lends other octets of the same lengths to both sides.
@@ -116,7 +155,7 @@ impl Compared {
         if let Some(difference) = self.difference(&replies) {
             return Err(self.report(call, &replies, &difference));
         }
-        self.remember(Step::Call(*call));
+        self.remember(Step::Call(call.clone()));
         run.count_call(call, &replies[0], self.record(), prior_waited);
         Ok(replies[0])
     }
@@ -142,7 +181,7 @@ impl Compared {
     fn difference(&self, replies: &[Reply; 2]) -> Option<String> {
         let [one, other] = &self.players;
         if let Some(player) = self.players.iter().find(|player| !player.outside_kept()) {
-            return Some(format!("{} touched octets outside a lent slice", player.side));
+            return Some(format!("{} touched octets outside a lent slice, or wrote what it was given to read", player.side));
         }
         if let Some(at) = first_difference(one.record.octets(), other.record.octets()) {
             return Some(self.octets_differ("record", at, layout::record_field(at), one.record.octets(), other.record.octets()));

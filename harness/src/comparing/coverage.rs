@@ -5,10 +5,12 @@ use std::fmt;
 
 use crate::call::{Call, Reply};
 use crate::comparing::damage::Field;
+use crate::comparing::fit::is_bound;
+use crate::comparing::frames::{stream_of, BESIDE_LENGTH};
 use crate::guarantee::found::Shown;
 use crate::layout;
 use crate::model::port::{BEST_EFFORT, BEST_EFFORT_STREAM, CURRENT, LAST, NOTHING, QUEUE_PLACES, RESERVED_QUEUES, STREAMS};
-use crate::model::refusal::{BEST_EFFORT_EXCEEDED, BEST_EFFORT_FULL};
+use crate::model::refusal::{BEST_EFFORT_EXCEEDED, BEST_EFFORT_FULL, FRAME_LENGTH, MEMORY_SHORT, PORT_CLOSED, RECORD_UNFIT};
 
 /// One kind of thing that can happen.
 #[derive(Clone, Copy, Debug, PartialEq, Eq, PartialOrd, Ord)]
@@ -57,6 +59,16 @@ pub enum Seen {
     BestEffortFullAndAbove,
     /// A granted Reserve after which W is above K × (L − R).
     LimitBelowWaits,
+    /// A granted Bind.
+    Bound,
+    /// A granted Bind after which all 64 streams are bound.
+    AllBound,
+    /// A Frame that became a granted Arrive.
+    FrameArrived,
+    /// A Frame that became a granted Best effort.
+    FrameBestEffort,
+    /// A Frame that was refused with a number.
+    FrameRefused(u8),
     /// A refusal with a number.
     Refused(u8),
     /// What a list that is held against demand 3 showed.
@@ -102,6 +114,11 @@ impl fmt::Display for Seen {
             Seen::BestEffortFilled => write!(f, "best effort filled"),
             Seen::BestEffortFullAndAbove => write!(f, "best effort full and above"),
             Seen::LimitBelowWaits => write!(f, "limit fell below W"),
+            Seen::Bound => write!(f, "bound"),
+            Seen::AllBound => write!(f, "all streams bound"),
+            Seen::FrameArrived => write!(f, "frames that arrived"),
+            Seen::FrameBestEffort => write!(f, "frames of best effort"),
+            Seen::FrameRefused(number) => write!(f, "frames refused {number}"),
             Seen::Refused(number) => write!(f, "refused {number}"),
             Seen::Shown(shown) => write!(f, "{shown}"),
             Seen::Closed => write!(f, "closed by host"),
@@ -114,6 +131,9 @@ impl fmt::Display for Seen {
         }
     }
 }
+
+/// The refusals of a Frame that becomes no other call.
+const BEFORE_A_FRAME: [u8; 4] = [MEMORY_SHORT, RECORD_UNFIT, PORT_CLOSED, FRAME_LENGTH];
 
 /// How often each kind of thing happened.
 #[derive(Default)]
@@ -141,6 +161,9 @@ impl Coverage {
 
     /// Counts what a call did, by its reply and the record after it; `prior_waited` says whether frames waited in prior before it.
     pub fn count_call(&mut self, call: &Call, reply: &Reply, record: &[u8], prior_waited: bool) {
+        if let Call::Frame { octets, tag } = call {
+            return self.count_frame(octets, *tag, reply, record);
+        }
         if let Call::BestEffort { charge, .. } = *call {
             self.count_best_effort(charge, reply, record);
         }
@@ -157,7 +180,29 @@ impl Coverage {
             }
             Call::Transmit => self.count(sent(reply, prior_waited)),
             Call::BestEffort { .. } => self.count(Seen::BestEffort),
+            Call::Bind { .. } => {
+                self.count(Seen::Bound);
+                self.add(Seen::AllBound, u64::from((0..STREAMS).all(|stream| is_bound(record, stream))));
+            }
+            Call::Frame { .. } => unreachable!("a Frame is counted as the call that it becomes"),
         }
+    }
+
+    /// Counts a Frame, and the call that it becomes where it becomes one.
+    fn count_frame(&mut self, octets: &[u8], tag: u32, reply: &Reply, record: &[u8]) {
+        if reply.refusal != 0 {
+            self.count(Seen::FrameRefused(reply.refusal));
+        }
+        if BEFORE_A_FRAME.contains(&reply.refusal) {
+            return self.count(Seen::Refused(reply.refusal));
+        }
+        let charge = octets.len() as u32 + BESIDE_LENGTH;
+        let (becomes, seen) = match stream_of(record, octets) {
+            Some(stream) => (Call::Arrive { stream: stream as u8, charge, tag }, Seen::FrameArrived),
+            None => (Call::BestEffort { charge, tag }, Seen::FrameBestEffort),
+        };
+        self.add(seen, u64::from(reply.refusal == 0));
+        self.count_call(&becomes, reply, record, false);
     }
 
     /// Counts how near a Best effort came to its ends.

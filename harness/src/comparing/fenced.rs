@@ -29,13 +29,13 @@ const SEGMENT_VIOLATION: i32 = 11;
 const DEFAULT_HANDLER: usize = 0;
 
 /// The octets of a fence, and of what stands between two: a multiple of every size of a page, and longer than every lent slice.
-const FENCE: usize = 65_536;
+const FENCE: usize = 131_072;
 /// The octets of a mapping: a fence, the lent octets, a fence.
 const MAPPING: usize = 3 * FENCE;
 
 thread_local! {
-    /// Where the mappings begin between whose fences this thread lends now.
-    static MAPPINGS: [AtomicUsize; 2] = const { [AtomicUsize::new(0), AtomicUsize::new(0)] };
+    /// Where the mappings begin between whose fences this thread lends now: those of a record, a memory, and what one call is given to read.
+    static MAPPINGS: [AtomicUsize; 3] = const { [AtomicUsize::new(0), AtomicUsize::new(0), AtomicUsize::new(0)] };
     /// Whether this thread touched a fence since it last lent.
     static TRAPPED: AtomicBool = const { AtomicBool::new(false) };
 }
@@ -60,21 +60,27 @@ pub struct Fenced {
 /// Lends copies of a record and a memory between fences; only the pair that a thread lent last notes its traps.
 pub fn lend_pair(record: &[u8], memory: &[u8], edges: [Edge; 2]) -> (Fenced, Fenced) {
     let pair = (Fenced::new(record, edges[0]), Fenced::new(memory, edges[1]));
-    MAPPINGS.with(|mappings| {
-        mappings[0].store(pair.0.mapping as usize, SeqCst);
-        mappings[1].store(pair.1.mapping as usize, SeqCst);
-    });
+    pair.0.note(0);
+    pair.1.note(1);
     TRAPPED.with(|trapped| trapped.store(false, SeqCst));
     // The handler touches nothing but this thread's cells and mappings.
     unsafe { signal(SEGMENT_VIOLATION, on_trap as extern "C" fn(i32) as usize) };
     pair
 }
 
+/// Lends a copy of what one call is given to read, an address or a frame, between fences; its traps are noted beside those of the pair that was
+/// lent last.
+pub fn lend_given(octets: &[u8], edge: Edge) -> Fenced {
+    let given = Fenced::new(octets, edge);
+    given.note(2);
+    given
+}
+
 /// Notes a touch of a fence and opens the fences, so that the call can go on; a second touch of what is no fence ends the process.
 extern "C" fn on_trap(_number: i32) {
     let again = TRAPPED.with(|trapped| trapped.swap(true, SeqCst));
     for mapping in MAPPINGS.with(|mappings| mappings.each_ref().map(|mapping| mapping.load(SeqCst))) {
-        // An address that is no mapping any more is refused by mprotect, and the touch is met again.
+        // The address 0, of a mapping that is no more, is refused by mprotect.
         unsafe { mprotect(mapping as *mut c_void, MAPPING, WRITABLE) };
     }
     if again {
@@ -98,6 +104,11 @@ impl Fenced {
         let mut fenced = Fenced { mapping: mapping.cast(), first, length: octets.len() };
         fenced.octets_mut().copy_from_slice(octets);
         fenced
+    }
+
+    /// Lets traps at its fences be noted, as those of the mapping of a number.
+    fn note(&self, number: usize) {
+        MAPPINGS.with(|mappings| mappings[number].store(self.mapping as usize, SeqCst));
     }
 
     /// Reads the octet right outside the slice at the edge: what no call may do, to see that the fence notes it.
@@ -130,6 +141,10 @@ impl Lend for Fenced {
 
 impl Drop for Fenced {
     fn drop(&mut self) {
+        MAPPINGS.with(|mappings| {
+            let noted = mappings.iter().filter(|mapping| mapping.load(SeqCst) == self.mapping as usize);
+            noted.for_each(|mapping| mapping.store(0, SeqCst));
+        });
         // The mapping is this value's own.
         unsafe { munmap(self.mapping.cast(), MAPPING) };
     }

@@ -9,7 +9,7 @@ use crate::model::port::{
 };
 
 /// VID and address of a stream, as they stand in its entry.
-type Binding = [u8; layout::BINDING_END - layout::VID];
+pub type Binding = [u8; layout::BINDING_END - layout::VID];
 
 /// The octets of a record and of its memory.
 #[derive(Clone)]
@@ -134,7 +134,7 @@ impl Octets {
 
     /// Binds a reserved stream to a pair that no bound stream has.
     pub fn bind(&mut self, random: &mut Random, stream: usize) {
-        let bindings = self.bindings();
+        let bindings = bindings(&self.record);
         let mut binding = any_binding(random, &bindings);
         while bindings.contains(&binding) {
             binding = any_binding(random, &bindings);
@@ -148,18 +148,22 @@ impl Octets {
         self.record[at + layout::BOUND] = MARK_YES;
         self.record[at + layout::VID..at + layout::BINDING_END].copy_from_slice(binding);
     }
+}
 
-    /// The pairs of the bound streams.
-    fn bindings(&self) -> Vec<Binding> {
-        let bound = (0..STREAMS).filter(|&stream| self.record[layout::entry(stream) + layout::BOUND] == MARK_YES);
-        bound.map(|stream| self.binding(stream)).collect()
-    }
+/// Whether a record says that a stream is bound.
+pub fn is_bound(record: &[u8], stream: usize) -> bool {
+    record[layout::entry(stream) + layout::BOUND] == MARK_YES
+}
 
-    /// VID and address in the entry of a stream.
-    pub fn binding(&self, stream: usize) -> Binding {
-        let at = layout::entry(stream);
-        self.record[at + layout::VID..at + layout::BINDING_END].try_into().expect("a binding has eight octets")
-    }
+/// The pairs of the streams that a record says are bound.
+pub fn bindings(record: &[u8]) -> Vec<Binding> {
+    (0..STREAMS).filter(|&stream| is_bound(record, stream)).map(|stream| binding(record, stream)).collect()
+}
+
+/// VID and address in the entry of a stream.
+pub fn binding(record: &[u8], stream: usize) -> Binding {
+    let at = layout::entry(stream);
+    record[at + layout::VID..at + layout::BINDING_END].try_into().expect("a binding has eight octets")
 }
 
 /// A mark that says no: any octet but 1.
@@ -203,7 +207,7 @@ fn permitted_of_closed(random: &mut Random) -> Vec<u32> {
 }
 
 /// A pair: anything, or another stream's with another VID or with one octet of the address changed.
-fn any_binding(random: &mut Random, others: &[Binding]) -> Binding {
+pub fn any_binding(random: &mut Random, others: &[Binding]) -> Binding {
     let mut binding = Binding::default();
     if others.is_empty() || random.chance(20) {
         random.fill(&mut binding);

@@ -15,7 +15,8 @@ use crate::comparing::test::{Run, Test, KINDS};
 use crate::comparing::tests;
 
 /// How the program is called.
-const USAGE: &str = "usage: compare [lists] [records] [quick] [guarantee] [captures] [TEST..] [--seed N] [--size PERCENT, at least 10] \
+const USAGE: &str =
+    "usage: compare [lists] [records] [quick] [frames] [guarantee] [captures] [TEST..] [--seed N] [--size PERCENT, at least 10] \
 [--first-failure] [--replay PROGRAM]";
 /// The seed of a run that names none.
 const DEFAULT_SEED: u64 = 1;

@@ -1,6 +1,6 @@
 //! Shapes of records that need not be fit, and lengths that need not be right.
 
-use crate::comparing::fit::Octets;
+use crate::comparing::fit::{any_binding, Binding, Octets};
 use crate::comparing::random::Random;
 use crate::layout;
 use crate::model::octets::{MEMORY_OCTETS, RECORD_OCTETS};
@@ -15,7 +15,7 @@ const MEMORY_LENGTHS: [usize; 6] = [0, 1, MEMORY_OCTETS - 1, MEMORY_OCTETS, MEMO
 pub type Shape = fn(&mut Random) -> Octets;
 
 /// The shapes of records that the tests try, each with its name.
-pub const SHAPES: [(&str, Shape); 7] = [
+pub const SHAPES: [(&str, Shape); 8] = [
     ("fit", any_fit),
     ("near fit", near_fit),
     ("any octets", Octets::any),
@@ -23,6 +23,7 @@ pub const SHAPES: [(&str, Shape); 7] = [
     ("few octets that are not zero", sparse),
     ("zeros and ones", zeros_and_ones),
     ("far outside", extreme),
+    ("bindings of every sort", bindings_of_every_sort),
 ];
 
 /// A fit record, open or closed.
@@ -92,6 +93,24 @@ pub fn extreme(random: &mut Random) -> Octets {
     let (prior, delay) = (octets.record[layout::PRIOR], octets.record[layout::DELAY]);
     octets.record[layout::DELAY] = random.pick(&[0, 17, 255, delay, delay, delay]);
     octets.record[layout::PRIOR] = random.pick(&[4, 7, 255, prior]);
+    octets
+}
+
+/// An open record, fit but for its bindings: of streams that are reserved or not, few pairs that repeat, and VIDs of any value.
+pub fn bindings_of_every_sort(random: &mut Random) -> Octets {
+    let mut octets = Octets::fit(random, true);
+    let mut pairs: Vec<Binding> = Vec::new();
+    for _ in 0..random.between(1..=6) {
+        let mut pair = any_binding(random, &pairs);
+        put_extreme(random, &mut pair, 0, &[0, 4_095, 4_096, 4_097, u16::MAX]);
+        pairs.push(pair);
+    }
+    let bound = random.pick(&[5, 30, 100]);
+    for stream in 0..STREAMS {
+        if random.chance(bound) {
+            octets.put_binding(stream, &random.pick(&pairs));
+        }
+    }
     octets
 }
 

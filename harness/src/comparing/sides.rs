@@ -2,14 +2,14 @@
 
 use std::fmt;
 
-use crate::call::{Call, Reply};
-use crate::guarantee::found::{Broken, Found};
+use crate::call::{Given, Reply};
+use crate::guarantee::found::{Alike, Broken, Found};
 use crate::guarantee::list::Event;
 use crate::guarantee::{claims, pairs};
 use crate::{exports, in_place, model};
 
 /// How a call is played on a lent record and memory.
-pub type Play = fn(&Call, &mut [u8], &mut [u8]) -> Reply;
+pub type Play = fn(&Given, &mut [u8], &mut [u8]) -> Reply;
 
 /// What `replay` prints of a capture.
 pub type Replay = fn(&[u8]) -> String;
@@ -17,7 +17,7 @@ pub type Replay = fn(&[u8]) -> String;
 /// How a list that was played is held against demand 3.
 pub type Check = fn(&[Event]) -> Result<Found, Broken>;
 /// How two lists are held beside each other for one stream: how many of its arrivals were compared, if the lists are alike in what is its own.
-pub type CheckPair = fn(&[Event], &[Event], u8) -> Result<Option<u64>, String>;
+pub type CheckPair = fn(&[Event], &[Event], u8) -> Result<Option<Alike>, String>;
 
 /// One of the ways to play a call.
 #[derive(Clone, Copy, Debug, PartialEq, Eq)]

@@ -14,15 +14,17 @@ pub enum Kind {
     Lists,
     Records,
     Quick,
+    Frames,
     Guarantee,
     Captures,
 }
 
 /// Each kind with the word that names it on the command line.
-pub const KINDS: [(&str, Kind); 5] = [
+pub const KINDS: [(&str, Kind); 6] = [
     ("lists", Kind::Lists),
     ("records", Kind::Records),
     ("quick", Kind::Quick),
+    ("frames", Kind::Frames),
     ("guarantee", Kind::Guarantee),
     ("captures", Kind::Captures),
 ];

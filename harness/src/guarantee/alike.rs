@@ -1,9 +1,13 @@
-//! A second list to a first that is alike in ticks and one stream's own calls, and any other in all else.
+//! A second list to a first that is alike in ticks and one stream's own calls, and any other in all else. An arrival may be an Arrive in one of the
+//! two and in the other the Frame that becomes it.
 
 use crate::call::Call;
+use crate::comparing::calls::ORDINARY;
 use crate::comparing::fit::Octets;
+use crate::comparing::frames::{arrival, stream_of};
 use crate::comparing::random::Random;
 use crate::comparing::sides::Play;
+use crate::guarantee::becoming;
 use crate::guarantee::list::{Event, Playing};
 use crate::guarantee::pairs::is_own;
 use crate::model::port::{CHARGES, DELAYS, LARGEST_CHARGE, LEAST_PERMITTED, LINKS, STREAMS};
@@ -15,20 +19,25 @@ struct Changes {
     added: u32,
 }
 
+/// How many arrivals in a hundred are Frames, where their stream is bound in the second list.
+const FRAMES: usize = 50;
+
 /// Writes such a list on another record and memory, with an L and a K of its own.
 pub fn write(random: &mut Random, play: Play, begin: &Octets, events: &[Event], stream: u8) -> Vec<Event> {
     let kept = random.pick(&[0, 50, 90]);
     let changes = Changes { kept, changed: random.pick(&[0, 50, 100]), added: random.pick(&[0, 1, 3]) };
     let mut playing = Playing::new(play, begin);
     playing.call(other_open(random, &events[0].call));
-    for event in &events[1..] {
+    for (event, counted) in events.iter().zip(becoming::counted(events)).skip(1) {
         for _ in 0..random.between(0..=changes.added) {
-            playing.call(any_other(random, stream));
+            any_other(random, &mut playing, stream);
         }
-        if is_own(&event.call, stream) || random.chance(changes.kept) {
-            playing.call(event.call);
+        if is_own(&counted, stream) {
+            own(random, &mut playing, counted);
+        } else if random.chance(changes.kept) {
+            other(&mut playing, event.call.clone(), stream);
         } else if random.chance(changes.changed) {
-            playing.call(any_other(random, stream));
+            any_other(random, &mut playing, stream);
         }
     }
     playing.events
@@ -44,15 +53,52 @@ fn other_open(random: &mut Random, open: &Call) -> Call {
     Call::Open { link: random.pick(&[same, *LINKS.end(), any]), delay: random.between(DELAYS) }
 }
 
-/// A call that is no tick and does not name the stream.
-fn any_other(random: &mut Random, stream: u8) -> Call {
-    let other = (usize::from(stream) + 1 + random.below(STREAMS - 1)) % STREAMS;
-    let (number, charge) = (random.number(), random.between(CHARGES));
-    match random.weighted(&[1, 4, 30, 20, 15]) {
-        0 => Call::Open { link: random.between(LINKS), delay: 1 },
-        1 => Call::Reserve { stream: other as u8, permitted: random.between(LEAST_PERMITTED..=2 * LARGEST_CHARGE) },
-        2 => Call::Arrive { stream: other as u8, charge, tag: number },
-        3 => Call::Transmit,
-        _ => Call::BestEffort { charge, tag: number },
+/// Plays a tick or a call of the stream's own; a Reserve is most often followed by a Bind.
+fn own(random: &mut Random, playing: &mut Playing, call: Call) {
+    let record = &playing.octets().record;
+    match call {
+        Call::Arrive { stream, charge, tag } => {
+            let call = arrival(random, record, FRAMES, stream, charge, tag);
+            playing.call(call);
+        }
+        Call::Reserve { stream, .. } if random.chance(70) => {
+            let mut bind = ORDINARY.bind(random, record, false);
+            if let Call::Bind { stream: bound, .. } = &mut bind {
+                *bound = stream;
+            }
+            playing.call(call);
+            playing.call(bind);
+        }
+        _ => {
+            playing.call(call);
+        }
     }
+}
+
+/// Plays a call that is not the stream's own, unless it would be one here: a Frame that becomes an arrival on it.
+fn other(playing: &mut Playing, call: Call, stream: u8) {
+    let own = match &call {
+        Call::Frame { octets, .. } => stream_of(&playing.octets().record, octets) == Some(usize::from(stream)),
+        _ => false,
+    };
+    if !own {
+        playing.call(call);
+    }
+}
+
+/// Plays a call that is no tick and does not name the stream, but for a Bind, which may.
+fn any_other(random: &mut Random, playing: &mut Playing, stream: u8) {
+    let another = ((usize::from(stream) + 1 + random.below(STREAMS - 1)) % STREAMS) as u8;
+    let (tag, charge) = (random.number(), random.between(CHARGES));
+    let record = &playing.octets().record;
+    let call = match random.weighted(&[1, 4, 20, 20, 10, 4, 15]) {
+        0 => Call::Open { link: random.between(LINKS), delay: 1 },
+        1 => Call::Reserve { stream: another, permitted: random.between(LEAST_PERMITTED..=2 * LARGEST_CHARGE) },
+        2 => Call::Arrive { stream: another, charge, tag },
+        3 => Call::Transmit,
+        4 => Call::BestEffort { charge, tag },
+        5 => ORDINARY.bind(random, record, false),
+        _ => ORDINARY.frame(random, record, false),
+    };
+    other(playing, call, stream);
 }

@@ -1,11 +1,12 @@
-//! One list held against demand 3, and against two claims that say more, from its events alone: a frame is sent as early as the queue of its reply
-//! promises, and a stream's frames are current for as long as it offers no more than P. The numbers of document 01 stand here as numbers, not
-//! as the model's.
+//! One list held against demand 3, and against three claims that say more, from its events alone: a frame is sent as early as the queue of its reply
+//! promises, a stream's frames are current for as long as it offers no more than P, and 17 is the reply to just the frames outside their range.
+//! The numbers of document 01 stand here as numbers, not as the model's.
 
 use std::collections::HashMap;
 use std::ops::RangeInclusive;
 
 use crate::call::{Call, Reply};
+use crate::guarantee::becoming;
 use crate::guarantee::found::{Broken, Found, Link, Prompt};
 use crate::guarantee::list::Event;
 use crate::layout;
@@ -31,6 +32,8 @@ const PURGES_NOTHING: Reply = Reply::granted(0, 0);
 /// A list with what its events say of ticks and frames.
 struct Told<'a> {
     events: &'a [Event],
+    /// What each call counts as: the call that a Frame becomes, or itself.
+    calls: Vec<Call>,
     share: u32,
     /// The numbers of the ticks.
     ticks: Vec<usize>,
@@ -46,6 +49,7 @@ pub fn check(events: &[Event]) -> Result<Found, Broken> {
     let mut found = Found::with(told.link());
     found.purging = told.ticks.iter().filter(|&&tick| events[tick].reply != PURGES_NOTHING).count() as u64;
     found.twins = told.twins();
+    [found.frame_arrivals, found.frame_best_efforts] = told.frames();
     if found.link != Link::Failed {
         told.no_tick_purges()?;
         told.accepted_are_sent(&mut found)?;
@@ -60,28 +64,26 @@ fn broken<T>(call: usize, words: &str) -> Result<T, Broken> {
     Err(Broken { call, words: words.into() })
 }
 
-/// Whether a call brought a reserved frame that was accepted.
-fn is_accepted(event: &Event) -> bool {
-    matches!(event.call, Call::Arrive { .. }) && event.reply.refusal == 0
-}
-
 /// The call whose frame a call sends, by the marked play; the other play's reply is that frame's stream and tag, and its record is the same.
-fn frame_sent(events: &[Event], number: usize) -> Result<Option<usize>, Broken> {
-    let Event { call, reply, marked, apart } = events[number];
+fn frame_sent(events: &[Event], calls: &[Call], number: usize) -> Result<Option<usize>, Broken> {
+    let Event { reply, marked, apart, .. } = events[number];
     if NEVER_MET.contains(&reply.refusal) {
         return broken(number, "a refusal that no list from an opening meets");
+    }
+    if becoming::is_judged_wrongly(&events[number]) {
+        return broken(number, &format!("it replies {reply}, and 17 is for frames outside 60 to 1,518 octets alone"));
     }
     if let Some(octet) = apart {
         return broken(number, &format!("octet {octet} of the record, {}, is another where tags are", layout::record_field(octet)));
     }
-    if call != Call::Transmit || reply.refusal != 0 || reply.first == NOTHING {
+    if calls[number] != Call::Transmit || reply.refusal != 0 || reply.first == NOTHING {
         return if reply == marked { Ok(None) } else { broken(number, "the reply is another where tags are") };
     }
     let frame = marked.second as usize;
     if frame >= number || events[frame].reply.refusal != 0 {
         return broken(number, "it sends what no call before it brought and was granted");
     }
-    let (stream, tag) = match events[frame].call {
+    let (stream, tag) = match calls[frame] {
         Call::Arrive { stream, tag, .. } => (u32::from(stream), tag),
         Call::BestEffort { tag, .. } => (BEST_EFFORT, tag),
         _ => return broken(number, "it sends the frame of a call that brings none"),
@@ -98,9 +100,9 @@ impl<'a> Told<'a> {
         let Some(Event { call: Call::Open { link, .. }, reply: Reply { refusal: 0, .. }, .. }) = events.first() else {
             return broken(0, "it is no granted Open");
         };
-        let numbers = 0..events.len();
-        let ticks = numbers.clone().filter(|&number| events[number].call == Call::Tick).collect();
-        let sends: Vec<Option<usize>> = numbers.map(|number| frame_sent(events, number)).collect::<Result<_, _>>()?;
+        let (calls, numbers) = (becoming::counted(events), 0..events.len());
+        let ticks = numbers.clone().filter(|&number| calls[number] == Call::Tick).collect();
+        let sends: Vec<Option<usize>> = numbers.map(|number| frame_sent(events, &calls, number)).collect::<Result<_, _>>()?;
         let mut sent_at = vec![None; events.len()];
         for (number, frame) in sends.iter().enumerate() {
             let Some(frame) = *frame else { continue };
@@ -108,12 +110,30 @@ impl<'a> Told<'a> {
                 return broken(number, &format!("it sends the frame of call {frame} again"));
             }
         }
-        Ok(Told { events, share: link - KEPT_FROM_SHARE, ticks, sends, sent_at })
+        Ok(Told { events, calls, share: link - KEPT_FROM_SHARE, ticks, sends, sent_at })
+    }
+
+    /// Whether a call brought a reserved frame that was accepted.
+    fn is_accepted(&self, number: usize) -> bool {
+        matches!(self.calls[number], Call::Arrive { .. }) && self.events[number].reply.refusal == 0
+    }
+
+    /// The accepted reserved frames.
+    fn accepted(&self) -> impl Iterator<Item = usize> + '_ {
+        (0..self.events.len()).filter(|&number| self.is_accepted(number))
+    }
+
+    /// How many Frames count as an Arrive, and how many as a Best effort.
+    fn frames(&self) -> [u64; 2] {
+        let frames = self.events.iter().zip(&self.calls).filter(|(event, _)| matches!(event.call, Call::Frame { .. }));
+        let arrivals = frames.clone().filter(|(_, call)| matches!(call, Call::Arrive { .. })).count();
+        let best_efforts = frames.filter(|(_, call)| matches!(call, Call::BestEffort { .. })).count();
+        [arrivals as u64, best_efforts as u64]
     }
 
     /// The charge of the reserved frame, one "that an Arrive brought", that a call sends.
     fn reserved_sent(&self, number: usize) -> Option<u32> {
-        match self.events[self.sends[number]?].call {
+        match self.calls[self.sends[number]?] {
             Call::Arrive { charge, .. } => Some(charge),
             _ => None,
         }
@@ -124,7 +144,7 @@ impl<'a> Told<'a> {
     fn link(&self) -> Link {
         let (mut by_octets, mut by_idle) = (false, false);
         for between in self.ticks.windows(2) {
-            let transmits = (between[0]..between[1]).filter(|&number| self.events[number].call == Call::Transmit);
+            let transmits = (between[0]..between[1]).filter(|&number| self.calls[number] == Call::Transmit);
             let sent: Vec<Option<u32>> = transmits.map(|number| self.reserved_sent(number)).collect();
             let enough = sent.iter().flatten().sum::<u32>() >= self.share;
             let idle = sent.contains(&None);
@@ -146,8 +166,8 @@ impl<'a> Told<'a> {
     fn twins(&self) -> u64 {
         let mut sent: HashMap<Call, Vec<(usize, usize)>> = HashMap::new();
         for (transmit, frame) in self.sends.iter().enumerate().rev() {
-            let Some(frame) = frame.filter(|&frame| is_accepted(&self.events[frame])) else { continue };
-            sent.entry(self.events[frame].call).or_default().push((transmit, frame));
+            let Some(frame) = frame.filter(|&frame| self.is_accepted(frame)) else { continue };
+            sent.entry(self.calls[frame].clone()).or_default().push((transmit, frame));
         }
         sent.values().map(|sent| sent_beside_another(sent)).sum()
     }
@@ -174,7 +194,7 @@ impl<'a> Told<'a> {
 
     /// "every accepted reserved frame is sent before the fourth tick after it".
     fn accepted_are_sent(&self, found: &mut Found) -> Result<(), Broken> {
-        for number in (0..self.events.len()).filter(|&number| is_accepted(&self.events[number])) {
+        for number in self.accepted() {
             match self.sent_before(number, 4) {
                 Some(true) => found.sent_in_time += 1,
                 Some(false) => return broken(number, "its frame is not sent before the fourth tick after it"),
@@ -187,8 +207,7 @@ impl<'a> Told<'a> {
 
     /// Beyond the demand: each accepted frame is sent as early as the queue of its reply promises.
     fn accepted_are_sent_as_replied(&self, found: &mut Found) -> Result<(), Broken> {
-        let mut accepted = (0..self.events.len()).filter(|&number| is_accepted(&self.events[number]));
-        accepted.try_for_each(|number| self.sent_as_replied(number, found))
+        self.accepted().try_for_each(|number| self.sent_as_replied(number, found))
     }
 
     /// An accepted frame whose reply says queue k is sent before tick k + 1 after it.
@@ -213,9 +232,9 @@ impl<'a> Told<'a> {
     /// tick after it"; so has every stream for as long as its offers are no more than that.
     fn conforming_are_current(&self, found: &mut Found) -> Result<(), Broken> {
         for (grant, event) in self.events.iter().enumerate() {
-            let (Call::Reserve { stream, permitted }, 0) = (event.call, event.reply.refusal) else { continue };
-            let offers = self.offers(stream, grant);
-            let within = self.within(&offers, permitted);
+            let (Call::Reserve { stream, permitted }, 0) = (&event.call, event.reply.refusal) else { continue };
+            let offers = self.offers(*stream, grant);
+            let within = self.within(&offers, *permitted);
             let counts = if within == offers.len() { &mut found.conforming } else { &mut found.beginning };
             for (number, _) in &offers[..within] {
                 self.current_and_sent(*number, counts)?;
@@ -226,7 +245,7 @@ impl<'a> Told<'a> {
 
     /// A stream's offers: "each arrival of a charge from 84 to 1,542 after its grant", with its charge.
     fn offers(&self, named: u8, grant: usize) -> Vec<(usize, u32)> {
-        let offer = |number: usize| match self.events[number].call {
+        let offer = |number: usize| match self.calls[number] {
             Call::Arrive { stream, charge, .. } if stream == named && CHARGES.contains(&charge) => Some((number, charge)),
             _ => None,
         };

@@ -32,6 +32,9 @@ pub struct Found {
     pub purging: u64,
     /// Reserved frames that were sent while another waited that differs from them in nothing but its mark.
     pub twins: u64,
+    /// Frames that count as an Arrive, and Frames that count as a Best effort.
+    pub frame_arrivals: u64,
+    pub frame_best_efforts: u64,
     /// Accepted reserved frames that were sent before the fourth tick after them, and those of them that were not before the third.
     pub sent_in_time: u64,
     pub sent_after_third: u64,
@@ -63,6 +66,8 @@ impl Found {
             link,
             purging: 0,
             twins: 0,
+            frame_arrivals: 0,
+            frame_best_efforts: 0,
             sent_in_time: 0,
             sent_after_third: 0,
             sent_as_replied,
@@ -73,13 +78,15 @@ impl Found {
     }
 
     /// The counts by what they show.
-    pub fn shown(&self) -> [(Shown, u64); 17] {
+    pub fn shown(&self) -> [(Shown, u64); 19] {
         let [as_current, as_next, as_last] = self.sent_as_replied;
         [
             (Shown::Link(self.link), 1),
             (Shown::Purging, self.purging),
             (Shown::TwinsList, u64::from(self.twins > 0)),
             (Shown::Twin, self.twins),
+            (Shown::FrameArrival, self.frame_arrivals),
+            (Shown::FrameBestEffort, self.frame_best_efforts),
             (Shown::SentInTime, self.sent_in_time),
             (Shown::SentAfterThird, self.sent_after_third),
             (Shown::SentAsCurrent, as_current),
@@ -108,6 +115,10 @@ pub enum Shown {
     TwinsList,
     /// A reserved frame that was sent while another waited that differs from it in nothing but its mark.
     Twin,
+    /// A Frame that counts as an Arrive.
+    FrameArrival,
+    /// A Frame that counts as a Best effort.
+    FrameBestEffort,
     /// An accepted frame that was sent before the fourth tick after it.
     SentInTime,
     /// One of these that was not sent before the third.
@@ -140,6 +151,15 @@ pub enum Shown {
     PairApart,
     /// An arrival that got the same reply in both lists of a pair.
     ArrivalCompared,
+    /// One of these that is a Frame in one list and an Arrive in the other.
+    FrameCompared,
+}
+
+/// Two lists that are alike: how many arrivals were compared, and how many of these are a Frame in one list and an Arrive in the other.
+#[derive(Clone, Copy, Debug, PartialEq, Eq)]
+pub struct Alike {
+    pub arrivals: u64,
+    pub frames: u64,
 }
 
 impl fmt::Display for Shown {
@@ -153,6 +173,8 @@ impl fmt::Display for Shown {
             Shown::Purging => "ticks that purged",
             Shown::TwinsList => "lists with frames that marks alone tell apart",
             Shown::Twin => "such frames sent",
+            Shown::FrameArrival => "frames that count as arrivals",
+            Shown::FrameBestEffort => "frames that count as best effort",
             Shown::SentInTime => "accepted frames sent before the 4th tick",
             Shown::SentAfterThird => "of these not before the 3rd",
             Shown::SentAsCurrent => "accepted as current and sent before the 2nd tick",
@@ -169,6 +191,7 @@ impl fmt::Display for Shown {
             Shown::Pair => "pairs of lists",
             Shown::PairApart => "pairs apart in grants",
             Shown::ArrivalCompared => "arrivals compared",
+            Shown::FrameCompared => "of these a frame in one list alone",
         })
     }
 }

@@ -1,12 +1,12 @@
 //! A list of calls as it is played: twice at a time, as it is and with every frame marked by its call's number, which tells frames apart whose
 //! stream, charge and tag are the same.
 
-use crate::call::{Call, Reply};
+use crate::call::{Call, Given, Reply};
 use crate::comparing::fit::Octets;
 use crate::comparing::sides::Play;
 
 /// A call of a list, its reply, its reply in the marked play, and the first octet, if any, in which the plays' records differ after it.
-#[derive(Clone, Copy, Debug, PartialEq, Eq)]
+#[derive(Clone, Debug, PartialEq, Eq)]
 pub struct Event {
     pub call: Call,
     pub reply: Reply,
@@ -31,10 +31,10 @@ impl Playing {
     /// Plays the next call of the list in both plays.
     pub fn call(&mut self, call: Call) -> Event {
         let number = self.events.len() as u32;
-        let reply = (self.play)(&call, &mut self.plain.record, &mut self.plain.memory);
-        let marked = (self.play)(&with_tag(call, number), &mut self.marked.record, &mut self.marked.memory);
+        let reply = (self.play)(&call.given(), &mut self.plain.record, &mut self.plain.memory);
+        let marked = (self.play)(&with_tag(call.given(), number), &mut self.marked.record, &mut self.marked.memory);
         let event = Event { call, reply, marked, apart: first_apart(&self.plain.record, &self.marked.record) };
-        self.events.push(event);
+        self.events.push(event.clone());
         event
     }
 
@@ -53,10 +53,11 @@ fn first_apart(one: &[u8], other: &[u8]) -> Option<usize> {
 }
 
 /// The call with another tag, where it has one.
-fn with_tag(call: Call, tag: u32) -> Call {
+fn with_tag(call: Given, tag: u32) -> Given {
     match call {
         Call::Arrive { stream, charge, .. } => Call::Arrive { stream, charge, tag },
         Call::BestEffort { charge, .. } => Call::BestEffort { charge, tag },
+        Call::Frame { octets, .. } => Call::Frame { octets, tag },
         other => other,
     }
 }

@@ -1,14 +1,15 @@
-//! The checkers' own tests: lists with replies that no port need ever have given, each of which breaks one claim, or just does not.
+//! The checkers' own tests: lists with replies that no port need ever have given, each of which breaks one claim, or just does not. Those with
+//! Frames are in `frame_tests`.
 
-use crate::call::{Call, Reply};
+use crate::call::{Call, Given, Reply};
 use crate::comparing::fit::Octets;
-use crate::guarantee::found::{Found, Link, Prompt};
+use crate::guarantee::found::{Alike, Found, Link, Prompt};
 use crate::guarantee::list::{Event, Playing};
 use crate::guarantee::{claims, pairs};
 use crate::model;
 
 /// The stream of these tests, and the share at the L that they open with.
-const STREAM: u8 = 5;
+pub const STREAM: u8 = 5;
 const LINK: u32 = 2_142;
 const SHARE: u32 = 600;
 
@@ -16,8 +17,8 @@ const SHARE: u32 = 600;
 const CONFORMED: &str = "though its stream had not offered more than P up to it";
 
 /// A list that is written by hand.
-struct Hand {
-    events: Vec<Event>,
+pub struct Hand {
+    pub events: Vec<Event>,
 }
 
 impl Hand {
@@ -29,35 +30,35 @@ impl Hand {
     }
 
     /// A list after a granted Open and a granted Reserve.
-    fn reserved(permitted: u32) -> Hand {
+    pub fn reserved(permitted: u32) -> Hand {
         let mut hand = Hand::opened();
         hand.put(Call::Reserve { stream: STREAM, permitted }, Reply::granted(SHARE - permitted, 0));
         hand
     }
 
     /// A call with its reply, the same in both plays; its number.
-    fn put(&mut self, call: Call, reply: Reply) -> usize {
+    pub fn put(&mut self, call: Call, reply: Reply) -> usize {
         self.put_marked(call, reply, reply)
     }
 
     /// A call with its reply in each play, both with the same record after it; its number.
-    fn put_marked(&mut self, call: Call, reply: Reply, marked: Reply) -> usize {
+    pub fn put_marked(&mut self, call: Call, reply: Reply, marked: Reply) -> usize {
         self.events.push(Event { call, reply, marked, apart: None });
         self.events.len() - 1
     }
 
     /// An Arrive that replies as said.
-    fn arrive(&mut self, charge: u32, reply: Reply) -> usize {
+    pub fn arrive(&mut self, charge: u32, reply: Reply) -> usize {
         self.put(Call::Arrive { stream: STREAM, charge, tag: 7 }, reply)
     }
 
     /// An Arrive that is accepted as current.
-    fn current(&mut self, charge: u32) -> usize {
+    pub fn current(&mut self, charge: u32) -> usize {
         self.arrive(charge, Reply::granted(1, 0))
     }
 
     /// A Transmit that sends the frame of a call.
-    fn send(&mut self, frame: usize) {
+    pub fn send(&mut self, frame: usize) {
         self.put_marked(Call::Transmit, Reply::granted(STREAM.into(), 7), Reply::granted(STREAM.into(), frame as u32));
     }
 
@@ -72,7 +73,7 @@ impl Hand {
     }
 
     /// So many of these, with an idle transmit before each.
-    fn ticks(&mut self, ticks: usize) {
+    pub fn ticks(&mut self, ticks: usize) {
         for _ in 0..ticks {
             self.idle();
             self.tick();
@@ -80,7 +81,7 @@ impl Hand {
     }
 
     /// What is found, or the number of the call that breaks the claim.
-    fn check(&self) -> Result<Found, usize> {
+    pub fn check(&self) -> Result<Found, usize> {
         claims::check(&self.events).map_err(|broken| broken.call)
     }
 
@@ -151,14 +152,14 @@ fn plays_are_compared() {
     let calls = [Call::Open { link: LINK, delay: 1 }, Call::BestEffort { charge: 84, tag: 7 }, Call::Tick];
     let apart = |play| {
         let mut playing = Playing::new(play, &Octets::zero());
-        calls.map(|call| playing.call(call).apart)
+        calls.clone().map(|call| playing.call(call).apart)
     };
     assert_eq!(apart(model::call), [None; 3]);
     assert_eq!(apart(keeps_the_tag), [None, Some(12), Some(12)]);
 }
 
 /// A port that keeps an octet of the tag in a spare octet of its record.
-fn keeps_the_tag(call: &Call, record: &mut [u8], memory: &mut [u8]) -> Reply {
+fn keeps_the_tag(call: &Given, record: &mut [u8], memory: &mut [u8]) -> Reply {
     if let Call::BestEffort { tag, .. } = *call {
         record[12] = tag as u8;
     }
@@ -453,11 +454,11 @@ fn pairs_of_lists() {
     other.tick();
     other.arrive(300, Reply::refused(14));
     other.put(Call::BestEffort { charge: 84, tag: 0 }, Reply::granted(84, 0));
-    assert_eq!(pairs::check(&one.events, &other.events, STREAM), Ok(Some(2)));
+    assert_eq!(pairs::check(&one.events, &other.events, STREAM), Ok(Some(Alike { arrivals: 2, frames: 0 })));
     for reply in [Reply::granted(1, 1), Reply::granted(2, 0), Reply::refused(14)] {
         one.events[2].reply = reply;
         assert!(pairs::check(&one.events, &other.events, STREAM).is_err());
-        assert_eq!(pairs::check(&one.events, &other.events, 7), Ok(Some(0)));
+        assert_eq!(pairs::check(&one.events, &other.events, 7), Ok(Some(Alike { arrivals: 0, frames: 0 })));
     }
     one.events[1].reply = Reply::refused(8);
     assert_eq!(pairs::check(&one.events, &other.events, STREAM), Ok(None));

@@ -4,9 +4,10 @@
 use std::ops::RangeInclusive;
 
 use crate::call::Call;
-use crate::comparing::calls::Profile;
+use crate::comparing::calls::{Profile, ORDINARY};
 use crate::comparing::compared::Step;
 use crate::comparing::fit::Octets;
+use crate::comparing::frames::{any_header, any_untagged, arrival, arrival_of};
 use crate::comparing::random::Random;
 use crate::comparing::sides::Play;
 use crate::guarantee::list::{Event, Playing};
@@ -14,6 +15,10 @@ use crate::layout::{self, two};
 use crate::model::port::{
     CHARGES, CURRENT, DELAYS, LARGEST_CHARGE, LAST, LEAST_CHARGE, LEAST_PERMITTED, LINKS, QUEUES, QUEUE_PLACES, RESERVED_QUEUES, STREAMS,
 };
+
+/// How many reserved streams in a hundred are bound, and how many arrivals in a hundred on a bound stream are Frames.
+const BOUND: usize = 75;
+const FRAMES: usize = 60;
 
 /// How the link serves a port before a tick.
 #[derive(Clone, Copy, PartialEq, Eq)]
@@ -123,15 +128,16 @@ impl<'a> Writer<'a> {
     /// Plays a call, and keeps what the link sent and what a stream offered.
     fn call(&mut self, call: Call) {
         let event = self.playing.call(call);
-        match call {
-            Call::Transmit => match self.charge_sent(&event) {
+        if event.call == Call::Transmit {
+            match self.charge_sent(&event) {
                 Some(charge) => self.sent += charge,
                 None => self.idle = true,
-            },
-            Call::Arrive { stream, charge, .. } if CHARGES.contains(&charge) && self.is_reserved(usize::from(stream)) => {
-                self.offered[usize::from(stream)] += charge;
             }
-            _ => (),
+        }
+        if let Some((stream, charge)) = arrival_of(&self.playing.octets().record, &event.call) {
+            if CHARGES.contains(&charge) && self.is_reserved(stream) {
+                self.offered[stream] += charge;
+            }
         }
     }
 
@@ -142,10 +148,9 @@ impl<'a> Writer<'a> {
 
     /// The charge of the reserved frame that a Transmit sent, by its mark.
     fn charge_sent(&self, event: &Event) -> Option<u32> {
-        match self.playing.events.get(event.marked.second as usize)?.call {
-            Call::Arrive { charge, .. } if event.reply.first < STREAMS as u32 => Some(charge),
-            _ => None,
-        }
+        let brought = self.playing.events.get(event.marked.second as usize)?;
+        let (_, charge) = arrival_of(&self.playing.octets().record, &brought.call)?;
+        (event.reply.first < STREAMS as u32).then_some(charge)
     }
 
     /// Plays a Tick.
@@ -195,10 +200,14 @@ impl<'a> Writer<'a> {
         }
     }
 
-    /// Reserves the next stream that is to be reserved.
+    /// Reserves the next stream that is to be reserved, and most often binds a stream.
     fn reserve_later(&mut self) {
         if let Some((stream, permitted)) = self.later.pop() {
             self.call(Call::Reserve { stream, permitted });
+        }
+        if self.random.chance(BOUND) {
+            let bind = ORDINARY.bind(self.random, &self.playing.octets().record, false);
+            self.call(bind);
         }
     }
 
@@ -267,7 +276,8 @@ impl<'a> Writer<'a> {
         let charge = self.charge(manner, room);
         let tag = self.random.number();
         let tag = if manner.one_tag { 0 } else { self.random.pick(&[0, 1, u32::MAX, tag]) };
-        self.call(Call::Arrive { stream: stream as u8, charge, tag });
+        let call = arrival(self.random, &self.playing.octets().record, FRAMES, stream as u8, charge, tag);
+        self.call(call);
         self.playing.events.last().is_some_and(|event| event.reply.refusal == 0)
     }
 
@@ -284,23 +294,34 @@ impl<'a> Writer<'a> {
         self.random.between(LEAST_CHARGE..=if exact { most.min(room - LEAST_CHARGE) } else { most })
     }
 
-    /// A best-effort frame.
+    /// A best-effort frame, by its charge or by its octets.
     fn best_effort(&mut self) {
         let (charge, tag) = (self.random.between(CHARGES), self.random.number());
-        self.call(Call::BestEffort { charge, tag });
+        let framed = any_untagged(self.random).frame(self.random, charge, tag);
+        let call = self.random.pick(&[Call::BestEffort { charge, tag }, framed]);
+        self.call(call);
     }
 
     /// A call that is refused, or changes nothing that a stream can see.
     fn refused_call(&mut self) {
         let (stream, number) = (self.random.octet(), self.random.number());
         let reserved = self.is_reserved(usize::from(stream));
-        let call = match self.random.below(4) {
+        let call = match self.random.below(6) {
             0 => Call::Open { link: self.random.between(LINKS), delay: 1 },
+            4 => ORDINARY.bind(self.random, &self.playing.octets().record, true),
+            5 => self.frame_outside(),
             1 => Call::BestEffort { charge: number % LEAST_CHARGE, tag: number },
             2 if !reserved => Call::Arrive { stream, charge: LEAST_CHARGE, tag: number },
             _ => Call::Arrive { stream, charge: LARGEST_CHARGE + 1 + number % 100, tag: number },
         };
         self.call(call);
+    }
+
+    /// A Frame of a length outside its range.
+    fn frame_outside(&mut self) -> Call {
+        let header = any_header(self.random, &self.playing.octets().record);
+        let length = self.random.pick(&[0, 59, 1_519]);
+        Call::Frame { octets: header.octets(self.random, length), tag: self.random.number() }
     }
 
     /// The charge of the frame that the next Transmit sends, if one waits in prior or current.

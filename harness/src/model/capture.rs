@@ -130,5 +130,6 @@ pub fn kind(event: &Call) -> u8 {
         Call::BestEffort { .. } => BEST_EFFORT,
         Call::Tick => TICK,
         Call::Transmit => TRANSMIT,
+        Call::Bind { .. } | Call::Frame { .. } => unreachable!("no kind of event is a Bind or a Frame"),
     }
 }

@@ -2,7 +2,8 @@
 
 use std::ops::RangeInclusive;
 
-use super::port::ADDRESS_OCTETS;
+use super::octets::{number, TWO};
+use crate::call::ADDRESS_OCTETS;
 
 /// "17 frame outside 60 to 1,518 octets": the length is without check sequence.
 pub const FRAME_LENGTHS: RangeInclusive<usize> = 60..=1_518;
@@ -15,13 +16,13 @@ const TAG_AT: usize = 12;
 const TAG: [u8; 2] = [0x81, 0x00];
 /// "the VID is the low 12 bits of octets 14 and 15, high octet first".
 const VID_AT: usize = 14;
-const VID_BITS: u16 = 0x0fff;
+const VID_BITS: u32 = 0x0fff;
 
 /// What Bind gives a stream: "a destination address of six octets and a VLAN id".
 #[derive(Clone, Copy, Debug, PartialEq, Eq, Hash)]
 pub struct Pair {
     pub address: [u8; ADDRESS_OCTETS],
-    pub vid: u16,
+    pub vid: u32,
 }
 
 /// "A charge is the octets that a frame costs on the wire: its length without check sequence, plus 4 for the check sequence, plus 20 for preamble
@@ -36,6 +37,6 @@ pub fn pair(octets: &[u8]) -> Option<Pair> {
         return None;
     }
     let address = octets[..ADDRESS_OCTETS].try_into().expect("six octets");
-    let vid = u16::from_be_bytes([octets[VID_AT], octets[VID_AT + 1]]) & VID_BITS;
+    let vid = number(octets, VID_AT, TWO) & VID_BITS;
     Some(Pair { address, vid })
 }

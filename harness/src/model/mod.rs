@@ -7,6 +7,8 @@
 pub mod capture;
 pub mod fitness;
 pub mod frame;
+#[cfg(test)]
+mod frame_tests;
 pub mod octets;
 pub mod port;
 pub mod refusal;
@@ -15,10 +17,10 @@ pub mod rule;
 #[cfg(test)]
 mod tests;
 
-use crate::call::{Call, Reply};
+use crate::call::{Given, Reply};
 
 /// Plays one call on a lent record and memory of any length and content: "Checks run 18, 19", then the call's own, then its rule.
-pub fn call(call: &Call, record: &mut [u8], memory: &mut [u8]) -> Reply {
+pub fn call(call: &Given, record: &mut [u8], memory: &mut [u8]) -> Reply {
     if fitness::memory_short(memory) {
         return Reply::refused(refusal::MEMORY_SHORT);
     }

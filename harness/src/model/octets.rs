@@ -2,7 +2,8 @@
 
 use std::collections::VecDeque;
 
-use super::port::{Frame, Port, Queue, Stream, ADDRESS_OCTETS, QUEUES, QUEUE_PLACES, STREAMS};
+use super::port::{Frame, Port, Queue, Stream, QUEUES, QUEUE_PLACES, STREAMS};
+use crate::call::ADDRESS_OCTETS;
 
 /// A record is at least this long; octets past it are never read or written.
 pub const RECORD_OCTETS: usize = 1_088;

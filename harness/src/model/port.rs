@@ -3,6 +3,8 @@
 use std::collections::VecDeque;
 use std::ops::RangeInclusive;
 
+use crate::call::ADDRESS_OCTETS;
+
 /// "Queues prior, current, next, last and best effort": five.
 pub const QUEUES: usize = 5;
 /// "One port has four queues for reserved traffic": queues 0 to 3.
@@ -45,9 +47,6 @@ pub const CURRENT: u8 = 1;
 pub const NEXT: u8 = 2;
 /// The place last of a stream, and "3 last" in Arrive's reply.
 pub const LAST: u8 = 3;
-
-/// The octets of a destination address: "a destination address of six octets".
-pub const ADDRESS_OCTETS: usize = 6;
 
 /// "A frame is (stream, charge, tag)".
 #[derive(Clone, Copy, Debug, PartialEq, Eq)]

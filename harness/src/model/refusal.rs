@@ -16,6 +16,12 @@ pub const RESERVED_ALREADY: u8 = 6;
 pub const PERMITTED_BELOW: u8 = 7;
 /// "8 sum of P above the share".
 pub const SHARE_EXCEEDED: u8 = 8;
+/// "9 VID outside 1 to 4,094".
+pub const VID_OUTSIDE: u8 = 9;
+/// "10 stream bound already".
+pub const BOUND_ALREADY: u8 = 10;
+/// "11 pair bound already".
+pub const PAIR_BOUND_ALREADY: u8 = 11;
 /// "12 stream not reserved".
 pub const NOT_RESERVED: u8 = 12;
 /// "13 charge outside 84 to 1,542".
@@ -26,6 +32,8 @@ pub const DISCARD: u8 = 14;
 pub const BEST_EFFORT_FULL: u8 = 15;
 /// "16 W + a above K × (L − R)".
 pub const BEST_EFFORT_EXCEEDED: u8 = 16;
+/// "17 frame outside 60 to 1,518 octets".
+pub const FRAME_LENGTH: u8 = 17;
 /// "18 lent memory under 1,280 places".
 pub const MEMORY_SHORT: u8 = 18;
 /// "19 port record unfit".

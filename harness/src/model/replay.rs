@@ -36,7 +36,7 @@ fn played(ports: &[Vec<Call>]) -> String {
 /// Plays the events of the port of a number, and adds their lines.
 fn play(lines: &mut String, number: usize, events: &[Call], port: &mut Port) {
     for (before, event) in events.iter().enumerate() {
-        let reply = rule::step(event, port);
+        let reply = rule::step(&event.given(), port);
         writeln!(lines, "{number} {} {} {reply}", before + 1, capture::kind(event)).expect("a string takes every line");
     }
 }

@@ -1,14 +1,15 @@
 //! The steps of document 01 on a port that is fit: each call's checks in their order, then its rule in the document's words.
 
+use super::frame::{self, Pair, FRAME_LENGTHS};
 use super::port::{
     permitted_sum, share, Frame, Port, Stream, BEST_EFFORT, BEST_EFFORT_STREAM, CHARGES, CURRENT, DELAYS, LAST, LEAST_PERMITTED, LINKS,
-    MARK_NO, MARK_YES, NEXT, NOTHING, QUEUE_PLACES, RESERVED_QUEUES, STREAMS,
+    MARK_NO, MARK_YES, NEXT, NOTHING, QUEUE_PLACES, RESERVED_QUEUES, STREAMS, VIDS,
 };
 use super::refusal;
-use crate::call::{Call, Reply};
+use crate::call::{Call, Given, Reply, ADDRESS_OCTETS};
 
 /// Runs a call on a port that has passed 18 and 19; a refusal leaves the port as it was, but for 14.
-pub fn step(call: &Call, port: &mut Port) -> Reply {
+pub fn step(call: &Given, port: &mut Port) -> Reply {
     match *call {
         Call::Open { link, delay } => open(port, link, delay),
         Call::Reserve { stream, permitted } => reserve(port, usize::from(stream), permitted),
@@ -16,6 +17,8 @@ pub fn step(call: &Call, port: &mut Port) -> Reply {
         Call::Tick => tick(port),
         Call::Transmit => transmit(port),
         Call::BestEffort { charge, tag } => best_effort(port, charge, tag),
+        Call::Bind { stream, address, vid } => bind(port, usize::from(stream), *address, vid),
+        Call::Frame { octets, tag } => frame(port, octets, tag),
     }
 }
 
@@ -182,4 +185,52 @@ fn best_effort(port: &mut Port, charge: u32, tag: u32) -> Reply {
     port.queues[BEST_EFFORT].join(Frame { stream: BEST_EFFORT_STREAM, charge, tag });
     port.waits = waits;
     Reply::granted(waits, 0)
+}
+
+/// "Bind(s, address, VID) gives a stream a destination address of six octets and a VLAN id"; it replies two zeros.
+fn bind(port: &mut Port, number: usize, address: [u8; ADDRESS_OCTETS], vid: u32) -> Reply {
+    if !port.is_open() {
+        return Reply::refused(refusal::PORT_CLOSED);
+    }
+    if number >= STREAMS {
+        return Reply::refused(refusal::STREAM_ABOVE);
+    }
+    if !port.streams[number].is_reserved() {
+        return Reply::refused(refusal::NOT_RESERVED);
+    }
+    if !VIDS.contains(&vid) {
+        return Reply::refused(refusal::VID_OUTSIDE);
+    }
+    if port.streams[number].is_bound() {
+        return Reply::refused(refusal::BOUND_ALREADY);
+    }
+    if bound_to(port, &Pair { address, vid }).is_some() {
+        return Reply::refused(refusal::PAIR_BOUND_ALREADY);
+    }
+    let stream = &mut port.streams[number];
+    stream.bound = MARK_YES;
+    stream.vid = vid;
+    stream.address = address;
+    Reply::granted(0, 0)
+}
+
+/// The stream that is bound to a pair, if there is one: a port that is fit has no second.
+fn bound_to(port: &Port, pair: &Pair) -> Option<usize> {
+    port.streams.iter().position(|stream| stream.is_bound() && stream.address == pair.address && stream.vid == pair.vid)
+}
+
+/// "Frame(octets, tag)": "A bound pair is an Arrive on its stream; all else is best effort."
+fn frame(port: &mut Port, octets: &[u8], tag: u32) -> Reply {
+    if !port.is_open() {
+        return Reply::refused(refusal::PORT_CLOSED);
+    }
+    if !FRAME_LENGTHS.contains(&octets.len()) {
+        return Reply::refused(refusal::FRAME_LENGTH);
+    }
+    let charge = frame::charge(octets);
+    let bound = frame::pair(octets).and_then(|pair| bound_to(port, &pair));
+    match bound {
+        Some(number) => arrive(port, number, charge, tag),
+        None => best_effort(port, charge, tag),
+    }
 }

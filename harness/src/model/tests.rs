@@ -1,22 +1,23 @@
 //! The model's own tests: cases of document 01 with what they leave in the record, its refusals, and which octets each call writes. The sample and
-//! all cases are played in `comparing::tests::sample`.
+//! all cases are played in `comparing::tests::sample`; the tests of Bind and Frame are in `frame_tests`.
 
 use super::fitness::{unfit, Clause};
 use super::*;
+use crate::call::Call;
 
 /// The octets of a record in these tests.
 const RECORD: usize = 1_088;
 /// The octets of a memory in these tests.
 const MEMORY: usize = 10_240;
 /// The stream that most tests speak of.
-const STREAM: u8 = 5;
+pub const STREAM: u8 = 5;
 /// Where the entry of that stream stands in the record.
-const ENTRY: usize = 64 + 16 * STREAM as usize;
+pub const ENTRY: usize = 64 + 16 * STREAM as usize;
 
 /// A record and a memory as a caller lends them.
 #[derive(Clone, Debug, PartialEq)]
-struct Lent {
-    record: Vec<u8>,
+pub struct Lent {
+    pub record: Vec<u8>,
     memory: Vec<u8>,
 }
 
@@ -27,7 +28,7 @@ impl Lent {
     }
 
     /// The port of the cases: "Stream P = 200, L = 2,142, K = 1, unless said otherwise".
-    fn of_the_cases() -> Lent {
+    pub fn of_the_cases() -> Lent {
         let mut lent = Lent::zeroed();
         assert_eq!(lent.open(2_142, 1), (0, 600, 0));
         assert_eq!(lent.reserve(STREAM, 200), (0, 400, 0));
@@ -35,23 +36,23 @@ impl Lent {
     }
 
     /// Plays a call; the reply as refusal, first and second number.
-    fn play(&mut self, the_call: Call) -> (u8, u32, u32) {
-        let reply = call(&the_call, &mut self.record, &mut self.memory);
+    pub fn play(&mut self, the_call: Call) -> (u8, u32, u32) {
+        let reply = call(&the_call.given(), &mut self.record, &mut self.memory);
         (reply.refusal, reply.first, reply.second)
     }
 
     /// Plays an Open.
-    fn open(&mut self, link: u32, delay: u32) -> (u8, u32, u32) {
+    pub fn open(&mut self, link: u32, delay: u32) -> (u8, u32, u32) {
         self.play(Call::Open { link, delay })
     }
 
     /// Plays a Reserve.
-    fn reserve(&mut self, stream: u8, permitted: u32) -> (u8, u32, u32) {
+    pub fn reserve(&mut self, stream: u8, permitted: u32) -> (u8, u32, u32) {
         self.play(Call::Reserve { stream, permitted })
     }
 
     /// Plays an Arrive on the stream of the tests.
-    fn arrive(&mut self, charge: u32, tag: u32) -> (u8, u32, u32) {
+    pub fn arrive(&mut self, charge: u32, tag: u32) -> (u8, u32, u32) {
         self.play(Call::Arrive { stream: STREAM, charge, tag })
     }
 
@@ -61,12 +62,12 @@ impl Lent {
     }
 
     /// Plays a Transmit.
-    fn transmit(&mut self) -> (u8, u32, u32) {
+    pub fn transmit(&mut self) -> (u8, u32, u32) {
         self.play(Call::Transmit)
     }
 
     /// Plays a Best effort.
-    fn best_effort(&mut self, charge: u32, tag: u32) -> (u8, u32, u32) {
+    pub fn best_effort(&mut self, charge: u32, tag: u32) -> (u8, u32, u32) {
         self.play(Call::BestEffort { charge, tag })
     }
 
@@ -84,7 +85,7 @@ impl Lent {
     }
 
     /// Gives a queue the most frames that it can hold, from the given start on, tagged by their order.
-    fn fill(&mut self, queue: usize, start: u16) {
+    pub fn fill(&mut self, queue: usize, start: u16) {
         self.put(16 + 4 * queue, start);
         self.put(18 + 4 * queue, 256);
         for waiting in 0..256 {
@@ -93,7 +94,7 @@ impl Lent {
     }
 
     /// Gives best effort so many frames of 84 octets, from the given start on, tagged by their order.
-    fn fill_best_effort(&mut self, start: u16, count: usize) {
+    pub fn fill_best_effort(&mut self, start: u16, count: usize) {
         self.put(32, start);
         self.put(34, count as u16);
         for waiting in 0..count {
@@ -108,13 +109,13 @@ impl Lent {
     }
 
     /// Gives the stream of the tests a place and a left.
-    fn put_place(&mut self, place: u8, left: u16) {
+    pub fn put_place(&mut self, place: u8, left: u16) {
         self.record[ENTRY + 1] = place;
         self.put(ENTRY + 2, left);
     }
 
     /// The place and left of the stream of the tests.
-    fn place(&self) -> (u8, u16) {
+    pub fn place(&self) -> (u8, u16) {
         (self.record[ENTRY + 1], u16::from_be_bytes([self.record[ENTRY + 2], self.record[ENTRY + 3]]))
     }
 
@@ -130,7 +131,7 @@ impl Lent {
     }
 
     /// The clauses of 19 that the record breaks; the call agrees with them.
-    fn unfit(&self) -> Vec<Clause> {
+    pub fn unfit(&self) -> Vec<Clause> {
         let broken = unfit(&self.record, &self.memory);
         let mut after = self.clone();
         let reply = after.tick();
@@ -633,14 +634,25 @@ fn draw(seed: &mut u64) -> u32 {
 /// One call of any kind, most of them with arguments that are near their ranges.
 fn any_call(seed: &mut u64) -> Call {
     let stream = (draw(seed) % 3) as u8 * 63;
-    match draw(seed) % 10 {
+    match draw(seed) % 14 {
         0 => Call::Open { link: 1_600 + draw(seed) % 22_000, delay: draw(seed) % 18 },
         1 => Call::Reserve { stream, permitted: draw(seed) % 2_000 },
         2 => Call::Tick,
         3 => Call::Transmit,
         4 | 5 => Call::BestEffort { charge: draw(seed) % 1_600, tag: draw(seed) },
+        6 => Call::Bind { stream, address: [0; 6], vid: draw(seed) % 3 },
+        7..=9 => any_frame(seed),
         _ => Call::Arrive { stream, charge: draw(seed) % 1_600, tag: draw(seed) },
     }
+}
+
+/// A Frame of zeros, tagged or not, with VID 1 or 2, near its range of lengths.
+fn any_frame(seed: &mut u64) -> Call {
+    let mut octets = vec![0; draw(seed) as usize % 1_600];
+    if let [_, _, _, _, _, _, _, _, _, _, _, _, tagged, _, _, vid, ..] = &mut octets[..] {
+        (*tagged, *vid) = (0x81 * (draw(seed) % 2) as u8, 1 + (draw(seed) % 2) as u8);
+    }
+    Call::Frame { octets: octets.into(), tag: draw(seed) }
 }
 
 /// From opening, no call meets 18, 19 or 20, and a refusal other than 14 keeps all contents.

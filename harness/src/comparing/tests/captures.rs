@@ -101,7 +101,7 @@ fn captures_with_purges(run: &mut Run) -> Result<(), String> {
 
 /// Best effort to its limit, below it after a reservation, and to 256 frames.
 fn captures_of_best_effort(run: &mut Run) -> Result<(), String> {
-    let weights = |transmit| Weights { open: 0, reserve: 1, arrive: 5, tick: 3, transmit, best_effort: 90, close: 0 };
+    let weights = |transmit| Weights { open: 0, reserve: 1, arrive: 5, tick: 3, transmit, best_effort: 90, bind: 0, frame: 0, close: 0 };
     let pressed = |random: &mut Random| Profile { weights: weights(random.pick(&[2, 30])), edges: 2, ..ORDINARY };
     play(run, 250, 50..=600, pressed)?;
     run.demand(&[(Seen::Refused(BEST_EFFORT_EXCEEDED), 2_000), (Seen::LimitBelowWaits, 50), (Seen::BestEffortAtLimit, 500)])?;

@@ -2,12 +2,13 @@
 
 use crate::comparing::compared::Compared;
 use crate::comparing::coverage::Seen;
-use crate::comparing::fenced::{lend_pair, Edge, EDGES};
+use crate::comparing::fenced::{lend_given, lend_pair, Edge, EDGES};
 use crate::comparing::lent::Lend;
 use crate::comparing::sides::Side;
 use crate::comparing::test::{Kind, Run, Test};
 use crate::comparing::tests::each_call::try_lengths;
 use crate::model::octets::{MEMORY_OCTETS, RECORD_OCTETS};
+use crate::model::refusal::FRAME_LENGTH;
 
 /// The tests between fences.
 pub const TESTS: [Test; 3] = [
@@ -16,24 +17,26 @@ pub const TESTS: [Test; 3] = [
     Test { kind: Kind::Quick, name: "quick_calls_between_fences", body: quick_calls_between_fences },
 ];
 
-/// A read right outside a slice is noticed at either edge, of record and memory.
+/// A read right outside a slice is noticed at either edge, of record and memory and of what a call is given to read.
 fn fences_notice_a_touch(run: &mut Run) -> Result<(), String> {
     for length in [0, 1, RECORD_OCTETS, MEMORY_OCTETS] {
         for edge in EDGES {
-            run.records += 2;
-            let noticed = [false, true].map(|in_memory| touch_is_noticed(length, edge, in_memory));
-            if noticed != [true; 2] {
-                return Err(format!("a read outside {length} octets at their {edge:?} is noticed: record, memory {noticed:?}"));
+            run.records += 3;
+            let noticed = [0, 1, 2].map(|slice| touch_is_noticed(length, edge, slice));
+            if noticed != [true; 3] {
+                return Err(format!("a read outside {length} octets at their {edge:?} is noticed: record, memory, given {noticed:?}"));
             }
         }
     }
     Ok(())
 }
 
-/// Whether a read right outside one of two lent slices is noticed, and nothing before it.
-fn touch_is_noticed(length: usize, edge: Edge, in_memory: bool) -> bool {
-    let (record, memory) = lend_pair(&vec![0; length], &vec![0; length], [edge; 2]);
-    let touched = if in_memory { &memory } else { &record };
+/// Whether a read right outside one of three lent slices is noticed, and nothing before it.
+fn touch_is_noticed(length: usize, edge: Edge, slice: usize) -> bool {
+    let octets = vec![0; length];
+    let (record, memory) = lend_pair(&octets, &octets, [edge; 2]);
+    let given = lend_given(&octets, edge);
+    let touched = [&record, &memory, &given][slice];
     let kept_before = touched.outside_kept();
     touched.touch_outside(edge);
     kept_before && !touched.outside_kept()
@@ -52,8 +55,9 @@ fn quick_calls_between_fences(run: &mut Run) -> Result<(), String> {
 /// Each call on records of every shape at every pair of lengths, against fences before and after.
 fn between_fences(run: &mut Run, side: Side) -> Result<(), String> {
     try_lengths(run, 12, |run, random, octets| {
-        let edges = [random.pick(&EDGES), random.pick(&EDGES)];
+        let edges = [(); 3].map(|()| random.pick(&EDGES));
         Compared::fenced(side, run, &octets.record, &octets.memory, edges)
     })?;
-    run.demand(&[(Seen::FitRecord, 100), (Seen::UnfitRecord, 500), (Seen::Ticked, 40), (Seen::Opened, 40), (Seen::BestEffort, 40)])
+    run.demand(&[(Seen::FitRecord, 100), (Seen::UnfitRecord, 500), (Seen::Ticked, 40), (Seen::Opened, 40), (Seen::BestEffort, 40)])?;
+    run.demand(&[(Seen::Bound, 20), (Seen::FrameArrived, 20), (Seen::FrameBestEffort, 40), (Seen::FrameRefused(FRAME_LENGTH), 20)])
 }

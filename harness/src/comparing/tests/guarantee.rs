@@ -5,17 +5,18 @@ use crate::call::Call;
 use crate::comparing::calls::Profile;
 use crate::comparing::coverage::Seen;
 use crate::comparing::fit::{no_mark, Octets};
+use crate::comparing::frames::Header;
 use crate::comparing::profiles::any_profile;
 use crate::comparing::random::Random;
 use crate::comparing::sides::{Play, Side};
 use crate::comparing::test::{Kind, Run, Test};
 use crate::comparing::tests::lists::a_closed_port;
-use crate::guarantee::alike;
 use crate::guarantee::found::Link::{ByBoth, ByIdle, ByOctets, Failed};
 use crate::guarantee::found::Shown::{self, *};
-use crate::guarantee::found::{Broken, Found, Prompt};
+use crate::guarantee::found::{Alike, Broken, Found, Prompt};
 use crate::guarantee::list::{Event, Playing};
 use crate::guarantee::writing::{write, write_any, Manner, Service};
+use crate::guarantee::{alike, becoming};
 use crate::layout;
 use crate::model::port::{LINKS, STREAMS};
 
@@ -119,7 +120,8 @@ fn lists_of_any_calls(run: &mut Run) -> Result<(), String> {
     demand(run, &[(SentInTime, 50_000), (Conforming, 30_000), (ConformingSent, 20_000)])?;
     demand(run, &[(SentAsCurrent, 50_000), (SentAsNext, 7_000), (SentAsLast, 5_000), (SentAsRepliedLate, 6_000)])?;
     demand(run, &[(BeginningList, 900), (Beginning, 8_000), (BeginningSent, 6_000), (BeginningAfterFirst, 1_000)])?;
-    demand(run, &[(TwinsList, 1_000), (Twin, 5_000), (Pair, 4_000), (ArrivalCompared, 80_000)])
+    demand(run, &[(TwinsList, 1_000), (Twin, 5_000), (Pair, 4_000), (ArrivalCompared, 80_000)])?;
+    demand(run, &[(FrameArrival, 30_000), (FrameBestEffort, 60_000), (FrameCompared, 40_000)])
 }
 
 /// Conforming streams beside streams that overfill.
@@ -130,7 +132,7 @@ fn beside_overfilled_streams(run: &mut Run) -> Result<(), String> {
     demand(run, &[(SentAsCurrent, 50_000), (SentAsNext, 6_000), (SentAsLast, 30_000), (SentAsRepliedLate, 20_000)])?;
     demand(run, &[(Conforming, 50_000), (ConformingSent, 40_000), (ConformingAfterFirst, 10_000)])?;
     demand(run, &[(BeginningList, 1_000), (Beginning, 6_000), (BeginningSent, 6_000), (BeginningAfterFirst, 4_000)])?;
-    demand(run, &[(Pair, 2_000), (ArrivalCompared, 50_000)])
+    demand(run, &[(Pair, 2_000), (ArrivalCompared, 50_000), (FrameArrival, 70_000), (FrameBestEffort, 9_000), (FrameCompared, 25_000)])
 }
 
 /// Streams that conform for a while, then overfill, beside a few that conform to the end.
@@ -139,7 +141,7 @@ fn of_streams_that_conform_for_a_while(run: &mut Run) -> Result<(), String> {
     run.demand_none(Seen::Shown(Link(Failed)))?;
     demand(run, &[(BeginningList, 1_200), (Beginning, 30_000), (BeginningSent, 30_000), (BeginningAfterFirst, 10_000)])?;
     demand(run, &[(Conforming, 8_000), (ConformingSent, 6_000), (ConformingAfterFirst, 2_000)])?;
-    demand(run, &[(Pair, 1_500), (ArrivalCompared, 40_000)])
+    demand(run, &[(Pair, 1_500), (ArrivalCompared, 40_000), (FrameArrival, 60_000), (FrameCompared, 20_000)])
 }
 
 /// Frames that wait together and have the same stream, charge and tag.
@@ -149,7 +151,7 @@ fn where_marks_alone_tell_frames_apart(run: &mut Run) -> Result<(), String> {
     demand(run, &[(TwinsList, 950), (Twin, 200_000), (SentInTime, 150_000), (SentAfterThird, 5_000)])?;
     demand(run, &[(SentAsCurrent, 100_000), (SentAsNext, 12_000), (SentAsLast, 60_000), (SentAsRepliedLate, 40_000)])?;
     demand(run, &[(Conforming, 100_000), (ConformingAfterFirst, 15_000), (Beginning, 10_000), (BeginningAfterFirst, 6_000)])?;
-    demand(run, &[(Pair, 1_000), (ArrivalCompared, 200_000)])
+    demand(run, &[(Pair, 1_000), (ArrivalCompared, 200_000), (FrameArrival, 150_000), (FrameCompared, 150_000)])
 }
 
 /// A link that sends the share, or just above it, and is idle only where less than that waits.
@@ -160,13 +162,14 @@ fn where_just_the_share_is_sent(run: &mut Run) -> Result<(), String> {
     demand(run, &[(SentAsCurrent, 25_000), (SentAsNext, 10_000), (SentAsLast, 50_000), (SentAsRepliedLate, 40_000)])?;
     demand(run, &[(Conforming, 20_000), (ConformingSent, 15_000), (ConformingAfterFirst, 8_000)])?;
     demand(run, &[(BeginningList, 1_500), (Beginning, 8_000), (BeginningSent, 8_000), (BeginningAfterFirst, 6_000)])?;
-    demand(run, &[(Pair, 3_000), (ArrivalCompared, 80_000)])
+    demand(run, &[(Pair, 3_000), (ArrivalCompared, 80_000), (FrameArrival, 70_000), (FrameCompared, 40_000)])
 }
 
 /// A link that sends one frame too few, so that ticks purge; the last sentence of the demand holds all the same.
 fn where_one_frame_too_few_is_sent(run: &mut Run) -> Result<(), String> {
     hold(run, &PROVED, 2_000, in_manner(&ONE_FRAME_SHORT))?;
-    demand(run, &[(Link(Failed), 1_000), (Purging, 800), (Pair, 2_000), (ArrivalCompared, 60_000)])
+    demand(run, &[(Link(Failed), 1_000), (Purging, 800), (Pair, 2_000), (ArrivalCompared, 60_000)])?;
+    demand(run, &[(FrameArrival, 50_000), (FrameCompared, 30_000)])
 }
 
 /// A link with time left: between any two ticks a transmit sends nothing, or best effort.
@@ -177,7 +180,7 @@ fn where_the_link_is_idle(run: &mut Run) -> Result<(), String> {
     demand(run, &[(SentAsCurrent, 80_000), (SentAsNext, 5_000), (SentAsLast, 3_000), (SentAsRepliedLate, 12_000)])?;
     demand(run, &[(Conforming, 80_000), (ConformingSent, 60_000), (ConformingAfterFirst, 10_000)])?;
     demand(run, &[(BeginningList, 1_200), (Beginning, 8_000), (BeginningSent, 7_000), (BeginningAfterFirst, 2_000)])?;
-    demand(run, &[(Pair, 3_000), (ArrivalCompared, 40_000)])
+    demand(run, &[(Pair, 3_000), (ArrivalCompared, 40_000), (FrameArrival, 60_000), (FrameBestEffort, 60_000), (FrameCompared, 20_000)])
 }
 
 /// Queues of 256 frames, which no list from an opening finds full.
@@ -186,7 +189,7 @@ fn in_full_queues(run: &mut Run) -> Result<(), String> {
     run.demand_none(Seen::Shown(Link(Failed)))?;
     demand(run, &[(SentInTime, 80_000), (SentAfterThird, 100), (Conforming, 10_000), (ConformingAfterFirst, 300)])?;
     demand(run, &[(SentAsNext, 6_000), (SentAsLast, 20_000), (Beginning, 6_000), (TwinsList, 150), (Twin, 60_000)])?;
-    demand(run, &[(Pair, 150), (ArrivalCompared, 60_000)])
+    demand(run, &[(Pair, 150), (ArrivalCompared, 60_000), (FrameArrival, 70_000), (FrameCompared, 50_000)])
 }
 
 /// All 64 streams over many ticks.
@@ -195,7 +198,7 @@ fn of_many_streams_in_long_lists(run: &mut Run) -> Result<(), String> {
     run.demand_none(Seen::Shown(Link(Failed)))?;
     demand(run, &[(SentInTime, 100_000), (Conforming, 60_000), (ConformingAfterFirst, 2_000)])?;
     demand(run, &[(SentAsNext, 3_000), (SentAsLast, 40_000), (Beginning, 1_500), (BeginningAfterFirst, 500)])?;
-    demand(run, &[(Pair, 80), (ArrivalCompared, 2_000)])
+    demand(run, &[(Pair, 80), (ArrivalCompared, 2_000), (FrameArrival, 60_000), (FrameCompared, 1_500)])
 }
 
 /// The model keeps the demand too; faults that cannot be seeded in the exports are seeded there.
@@ -207,7 +210,8 @@ fn of_the_model(run: &mut Run) -> Result<(), String> {
     hold(run, &[Side::Model], 10, in_manner(&FULL))?;
     demand(run, &[(Link(ByOctets), 10), (Link(ByIdle), 20), (Link(Failed), 20), (Purging, 10)])?;
     demand(run, &[(SentAsCurrent, 4_000), (SentAsNext, 800), (SentAsLast, 2_000), (Beginning, 800), (Twin, 1_000)])?;
-    demand(run, &[(SentInTime, 5_000), (Conforming, 3_000), (Pair, 100), (ArrivalCompared, 5_000)])
+    demand(run, &[(SentInTime, 5_000), (Conforming, 3_000), (Pair, 100), (ArrivalCompared, 5_000)])?;
+    demand(run, &[(FrameArrival, 10_000), (FrameBestEffort, 2_500), (FrameCompared, 8_000)])
 }
 
 /// Fails if lists showed a thing less often than is asked at full size.
@@ -272,23 +276,24 @@ fn hold_pair(run: &mut Run, random: &mut Random, side: Side, events: &[Event]) -
     (run.sides.check)(&other).map_err(|broken| report(run, side, &other, &broken))?;
     run.calls += other.len() as u64;
     match (run.sides.pair)(events, &other, stream).map_err(|words| format!("{}, {side}: {words}", run.place))? {
-        Some(arrivals) => {
+        Some(Alike { arrivals, frames }) => {
             run.coverage.count(Seen::Shown(Pair));
             run.coverage.add(Seen::Shown(ArrivalCompared), arrivals);
+            run.coverage.add(Seen::Shown(FrameCompared), frames);
         }
         None => run.coverage.count(Seen::Shown(PairApart)),
     }
     Ok(())
 }
 
-/// A stream that a call of the list names, or any.
+/// A stream on which a frame of the list arrives, or any.
 fn a_stream_of(random: &mut Random, events: &[Event]) -> u8 {
     let any = random.below(STREAMS) as u8;
-    let named = |event: &Event| match event.call {
+    let named = |call: Call| match call {
         Call::Arrive { stream, .. } => Some(stream),
         _ => None,
     };
-    let streams: Vec<u8> = events.iter().filter_map(named).collect();
+    let streams: Vec<u8> = becoming::counted(events).into_iter().filter_map(named).collect();
     match streams.is_empty() || random.chance(5) {
         true => any,
         false => random.pick(&streams),
@@ -334,10 +339,23 @@ fn is_tight(run: &mut Run) -> Result<(), String> {
         expect(run, side, &just_served, Found { beginning: late, ..sent })?;
         expect(run, side, &one_too_few, Found { link: Failed, purging: 1, twins: 4, ..none })?;
         expect(run, side, &one_octet_too_few, Found { link: Failed, ..none })?;
+        expect(run, side, &by_frames(&just_served), Found { beginning: late, frame_arrivals: 6, ..sent })?;
         let sent = Found { sent_as_replied: [2, 0, 0], sent_as_replied_late: 2, conforming: late, ..none };
         expect(run, side, &conforming, Found { link: ByBoth, twins: 1, ..sent })?;
+        expect(run, side, &by_frames(&conforming), Found { link: ByBoth, twins: 1, frame_arrivals: 2, ..sent })?;
     }
     Ok(())
+}
+
+/// A list of one stream with a Bind after its Reserve, and its arrivals by frames.
+fn by_frames(calls: &[Call]) -> Vec<Call> {
+    let bind = Call::Bind { stream: 5, address: [0; 6], vid: 1 };
+    let header = Header::tagged([0; 6], 1);
+    let by_frame = |call: &Call| match *call {
+        Call::Arrive { charge, tag, .. } => header.frame(&mut Random::of(1, "by frames", 0), charge, tag),
+        _ => call.clone(),
+    };
+    calls[..2].iter().cloned().chain([bind]).chain(calls[2..].iter().map(by_frame)).collect()
 }
 
 /// Just this is found in a list.
@@ -345,7 +363,7 @@ fn expect(run: &mut Run, side: Side, calls: &[Call], expected: Found) -> Result<
     let mut random = run.next_list();
     let mut playing = Playing::new(run.sides.play(side), &a_port_to_open(&mut random, side));
     for call in calls {
-        playing.call(*call);
+        playing.call(call.clone());
     }
     match hold_one(run, side, &playing.events)? {
         found if found == expected => Ok(()),

@@ -56,14 +56,15 @@ fn few_streams_pressed(run: &mut Run) -> Result<(), String> {
     never_met_from_opening(run)?;
     run.demand(&at_each_place(Seen::JoinedAt, 5_000))?;
     run.demand(&at_each_place(Seen::ExactFitAt, 1_000))?;
-    run.demand(&[(Seen::Refused(DISCARD), 5_000)])
+    run.demand(&[(Seen::Refused(DISCARD), 5_000), (Seen::FrameRefused(DISCARD), 2_000), (Seen::FrameArrived, 5_000)])
 }
 
 /// All 64 streams, with reservations up to the share and past it.
 fn many_streams_pressed_to_the_share(run: &mut Run) -> Result<(), String> {
     play(run, SIDES, &Plan { lists: 150, calls: 800, begin: a_closed_port }, |_| MANY_STREAMS)?;
     never_met_from_opening(run)?;
-    run.demand(&[(Seen::Refused(SHARE_EXCEEDED), 2_000), (Seen::ShareFilled, 40), (Seen::AllReserved, 30), (Seen::Reserved, 5_000)])
+    run.demand(&[(Seen::Refused(SHARE_EXCEEDED), 2_000), (Seen::ShareFilled, 40), (Seen::AllReserved, 30), (Seen::Reserved, 5_000)])?;
+    run.demand(&[(Seen::Bound, 3_000), (Seen::FrameArrived, 2_000), (Seen::Refused(PAIR_BOUND_ALREADY), 500)])
 }
 
 /// Queues of 256 frames, each of the least charge: one stream with all of the share, or 64 with an equal part.
@@ -85,14 +86,15 @@ fn ring_starts_anywhere(run: &mut Run) -> Result<(), String> {
     play(run, SIDES, &Plan { lists: 500, calls: 300, begin: an_open_port }, few_ticks)?;
     run.demand(&[(Seen::Refused(QUEUE_FULL), 1_500), (Seen::JoinedWrapped, 800), (Seen::SentFromBestEffort, 800)])?;
     run.demand(&[(Seen::SentFromPrior, 3_000), (Seen::SentFromCurrent, 3_000), (Seen::SentNothing, 500)])?;
-    run.demand(&[(Seen::BestEffortWrapped, 100), (Seen::BestEffortFullAndAbove, 50)])
+    run.demand(&[(Seen::BestEffortWrapped, 100), (Seen::BestEffortFullAndAbove, 50)])?;
+    run.demand(&[QUEUE_FULL, BEST_EFFORT_FULL].map(|refusal| (Seen::FrameRefused(refusal), 500)))
 }
 
 /// Best effort of 256 frames and one more, from any start: a limit that K raises far above them, or that reservations lower.
 fn long_best_effort_queues(run: &mut Run) -> Result<(), String> {
     let profile = |random: &mut Random| {
         let (transmit, reserve) = (random.pick(&[1, 20, 40]), random.pick(&[0, 0, 2]));
-        let weights = Weights { open: 0, reserve, arrive: 2, tick: 2, transmit, best_effort: 100, close: 0 };
+        let weights = Weights { open: 0, reserve, arrive: 2, tick: 2, transmit, best_effort: 100, bind: 0, frame: 10, close: 0 };
         Profile { weights, links: FULL_LINK..=FULL_LINK, charges: Charges::Least, edges: 2, ..ORDINARY }
     };
     play(run, SIDES, &Plan { lists: 80, calls: 700, begin: a_closed_port }, profile)?;
@@ -140,7 +142,7 @@ fn to_the_limit(run: &mut Run, delay: u32) -> Result<(), String> {
 
 /// Best effort that presses its limit while transmits lower W.
 fn best_effort_between_transmits(run: &mut Run) -> Result<(), String> {
-    let weights = Weights { open: 0, reserve: 1, arrive: 5, tick: 5, transmit: 60, best_effort: 90, close: 0 };
+    let weights = Weights { open: 0, reserve: 1, arrive: 5, tick: 5, transmit: 60, best_effort: 90, bind: 1, frame: 20, close: 0 };
     let profile = Profile { weights, streams: 8, permitted: Permitted::UpTo(1_000), ..ORDINARY };
     play(run, SIDES, &Plan { lists: 150, calls: 600, begin: a_closed_port }, |_| profile.clone())?;
     never_met_from_opening(run)?;
@@ -150,7 +152,7 @@ fn best_effort_between_transmits(run: &mut Run) -> Result<(), String> {
 
 /// Reservations that are granted while frames wait in best effort, so that its limit falls, also below W.
 fn reservations_after_best_effort(run: &mut Run) -> Result<(), String> {
-    let weights = Weights { open: 0, reserve: 10, arrive: 10, tick: 5, transmit: 15, best_effort: 60, close: 0 };
+    let weights = Weights { open: 0, reserve: 10, arrive: 10, tick: 5, transmit: 15, best_effort: 60, bind: 2, frame: 10, close: 0 };
     let profile = Profile { weights, ..ORDINARY };
     play(run, SIDES, &Plan { lists: 400, calls: 150, begin: a_closed_port }, |_| profile.clone())?;
     never_met_from_opening(run)?;
@@ -159,10 +161,10 @@ fn reservations_after_best_effort(run: &mut Run) -> Result<(), String> {
 
 /// Ports that are opened though open, and used records that the host closes and opens again.
 fn opened_again(run: &mut Run) -> Result<(), String> {
-    let weights = Weights { open: 6, reserve: 12, arrive: 60, tick: 8, transmit: 15, best_effort: 10, close: 2 };
+    let weights = Weights { open: 6, reserve: 12, arrive: 60, tick: 8, transmit: 15, best_effort: 10, bind: 6, frame: 30, close: 2 };
     let profile = Profile { weights, streams: 24, edges: 5, ..ORDINARY };
     play(run, SIDES, &Plan { lists: 250, calls: 600, begin: an_open_port }, |_| profile.clone())?;
-    run.demand(&[(Seen::Opened, 1_500), (Seen::Closed, 1_500)])?;
+    run.demand(&[(Seen::Opened, 1_500), (Seen::Closed, 1_500), (Seen::Bound, 1_000), (Seen::FrameArrived, 1_500)])?;
     run.demand(&[(Seen::Refused(OPEN_ALREADY), 4_000), (Seen::Refused(PORT_CLOSED), 800)])
 }
 
@@ -171,7 +173,9 @@ fn arguments_out_of_range(run: &mut Run) -> Result<(), String> {
     play(run, SIDES, &Plan { lists: 200, calls: 600, begin: a_closed_port }, |_| WRONG_ARGUMENTS)?;
     never_met_from_opening(run)?;
     run.demand(&OF_PLANNER.map(|refusal| (Seen::Refused(refusal), 500)))?;
-    run.demand(&OF_SENDER.map(|refusal| (Seen::Refused(refusal), 500)))
+    run.demand(&OF_SENDER.map(|refusal| (Seen::Refused(refusal), 500)))?;
+    run.demand(&[(Seen::Refused(VID_OUTSIDE), 500), (Seen::Refused(BOUND_ALREADY), 50), (Seen::Refused(PAIR_BOUND_ALREADY), 200)])?;
+    run.demand(&[(Seen::FrameRefused(FRAME_LENGTH), 2_000), (Seen::FrameRefused(PORT_CLOSED), 200)])
 }
 
 /// Everything, with other weights in each list.
@@ -181,7 +185,8 @@ fn mixture(run: &mut Run) -> Result<(), String> {
     run.demand(&at_each_place(Seen::ExactFitAt, 200))?;
     run.demand(&[(Seen::PurgedFrame, 5_000), (Seen::SentFromPrior, 2_000), (Seen::SentFromCurrent, 2_000), (Seen::SentNothing, 500)])?;
     run.demand(&[(Seen::Opened, 500), (Seen::Reserved, 1_500), (Seen::Ticked, 5_000), (Seen::Refused(DISCARD), 1_000)])?;
-    run.demand(&[(Seen::BestEffort, 3_000), (Seen::SentFromBestEffort, 1_000), (Seen::Refused(BEST_EFFORT_EXCEEDED), 1_000)])
+    run.demand(&[(Seen::BestEffort, 3_000), (Seen::SentFromBestEffort, 1_000), (Seen::Refused(BEST_EFFORT_EXCEEDED), 1_000)])?;
+    run.demand(&[(Seen::Bound, 1_000), (Seen::FrameArrived, 2_000), (Seen::FrameBestEffort, 5_000)])
 }
 
 /// A demand for each of the three places.

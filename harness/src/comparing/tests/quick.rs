@@ -4,7 +4,7 @@ use crate::comparing::broken;
 use crate::comparing::compared::Compared;
 use crate::comparing::coverage::Seen;
 use crate::comparing::profiles::{any_profile, few_ticks};
-use crate::comparing::shapes::{any_fit, any_open, extreme, SHAPES};
+use crate::comparing::shapes::{any_fit, any_open, bindings_of_every_sort, extreme, SHAPES};
 use crate::comparing::sides::Side;
 use crate::comparing::test::{Kind, Run, Test};
 use crate::comparing::tests::each_call::{try_each_call, try_lengths, try_shape};
@@ -37,7 +37,12 @@ fn as_the_call_on_fit_records(run: &mut Run) -> Result<(), String> {
     run.demand_none(Seen::UnfitRecord)?;
     run.demand(&[DISCARD, QUEUE_FULL, SHARE_EXCEEDED, PORT_CLOSED].map(|refusal| (Seen::Refused(refusal), 1_000)))?;
     run.demand(&[BEST_EFFORT_FULL, BEST_EFFORT_EXCEEDED].map(|refusal| (Seen::Refused(refusal), 1_000)))?;
-    run.demand(&[(Seen::BestEffort, 5_000), (Seen::BestEffortAtLimit, 200)])
+    run.demand(&[(Seen::BestEffort, 5_000), (Seen::BestEffortAtLimit, 200)])?;
+    run.demand(&[VID_OUTSIDE, BOUND_ALREADY, PAIR_BOUND_ALREADY].map(|refusal| (Seen::Refused(refusal), 300)))?;
+    run.demand(
+        &[DISCARD, BEST_EFFORT_FULL, BEST_EFFORT_EXCEEDED, FRAME_LENGTH, QUEUE_FULL].map(|refusal| (Seen::FrameRefused(refusal), 300)),
+    )?;
+    run.demand(&[(Seen::Bound, 3_000), (Seen::FrameArrived, 3_000), (Seen::FrameBestEffort, 5_000)])
 }
 
 /// In lists from fit records the quick calls are the calls.
@@ -46,7 +51,8 @@ fn as_the_call_in_lists(run: &mut Run) -> Result<(), String> {
     play(run, WITH_CALLS, &Plan { lists: 500, calls: 300, begin: an_open_port }, few_ticks)?;
     run.demand(&[(Seen::PurgedFrame, 10_000), (Seen::SentFromBestEffort, 500)])?;
     run.demand(&[(Seen::JoinedWrapped, 800), (Seen::Refused(QUEUE_FULL), 1_500)])?;
-    run.demand(&[(Seen::BestEffort, 10_000), (Seen::BestEffortWrapped, 500), (Seen::Refused(BEST_EFFORT_EXCEEDED), 5_000)])
+    run.demand(&[(Seen::BestEffort, 10_000), (Seen::BestEffortWrapped, 500), (Seen::Refused(BEST_EFFORT_EXCEEDED), 5_000)])?;
+    run.demand(&[(Seen::Bound, 3_000), (Seen::FrameArrived, 8_000), (Seen::FrameBestEffort, 10_000)])
 }
 
 /// On records of every shape, fit or far from it, the quick calls are what is defined.
@@ -56,15 +62,19 @@ fn as_defined_on_every_shape(run: &mut Run) -> Result<(), String> {
     }
     run.demand(&[(Seen::UnfitRecord, 10_000), (Seen::JoinedElsewhere, 500), (Seen::PurgedFrame, 10_000)])?;
     run.demand(&[BEST_EFFORT_FULL, BEST_EFFORT_EXCEEDED].map(|refusal| (Seen::Refused(refusal), 1_000)))?;
-    run.demand(&[(Seen::BestEffort, 5_000), (Seen::BestEffortAtLimit, 200), (Seen::BestEffortWrapped, 500)])
+    run.demand(&[(Seen::BestEffort, 5_000), (Seen::BestEffortAtLimit, 200), (Seen::BestEffortWrapped, 500)])?;
+    run.demand(&[(Seen::FrameRefused(NOT_RESERVED), 2_000), (Seen::Refused(PAIR_BOUND_ALREADY), 500), (Seen::AllBound, 10)])?;
+    run.demand(&[(Seen::Bound, 5_000), (Seen::FrameArrived, 3_000), (Seen::FrameBestEffort, 5_000)])
 }
 
 /// In lists that begin on an open record far outside what is fit, the quick calls are what is defined.
 fn as_defined_in_lists(run: &mut Run) -> Result<(), String> {
     play(run, WITH_DEFINITION, &Plan { lists: 1_000, calls: 300, begin: extreme }, any_profile)?;
     play(run, WITH_DEFINITION, &Plan { lists: 500, calls: 300, begin: any_open }, any_profile)?;
+    play(run, WITH_DEFINITION, &Plan { lists: 300, calls: 150, begin: bindings_of_every_sort }, any_profile)?;
     run.demand(&[(Seen::JoinedElsewhere, 500), (Seen::SentFromBestEffort, 500), (Seen::Refused(QUEUE_FULL), 500)])?;
-    run.demand(&[(Seen::BestEffort, 1_000), (Seen::Refused(BEST_EFFORT_FULL), 500), (Seen::Refused(BEST_EFFORT_EXCEEDED), 1_000)])
+    run.demand(&[(Seen::BestEffort, 1_000), (Seen::Refused(BEST_EFFORT_FULL), 500), (Seen::Refused(BEST_EFFORT_EXCEEDED), 1_000)])?;
+    run.demand(&[(Seen::Bound, 2_000), (Seen::FrameArrived, 4_000), (Seen::FrameRefused(NOT_RESERVED), 500)])
 }
 
 /// On records with one broken clause the quick calls are what is defined.

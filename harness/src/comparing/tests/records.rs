@@ -6,7 +6,7 @@ use crate::comparing::calls::each_call;
 use crate::comparing::compared::Compared;
 use crate::comparing::coverage::Seen;
 use crate::comparing::fit::Octets;
-use crate::comparing::shapes::{any_fit, any_open, near_fit, sparse, zeros_and_ones};
+use crate::comparing::shapes::{any_fit, any_open, bindings_of_every_sort, near_fit, sparse, zeros_and_ones};
 use crate::comparing::sides::Side;
 use crate::comparing::test::{Kind, Run, Test};
 use crate::comparing::tests::each_call::{try_lengths, try_shape};
@@ -14,12 +14,13 @@ use crate::model::fitness::unfit;
 use crate::model::refusal::*;
 
 /// The tests of this kind.
-pub const TESTS: [Test; 11] = [
+pub const TESTS: [Test; 12] = [
     test("fit_records", fit_records),
     test("any_octets", any_octets),
     test("sparse_octets", sparse_octets),
     test("zeros_and_ones", records_of_zeros_and_ones),
     test("near_fit_records", near_fit_records),
+    test("records_with_bindings_of_every_sort", records_with_bindings_of_every_sort),
     test("clauses_of_queues", clauses_of_queues),
     test("clauses_of_streams", clauses_of_streams),
     test("clauses_of_bindings", clauses_of_bindings),
@@ -49,7 +50,12 @@ fn fit_records(run: &mut Run) -> Result<(), String> {
         (Seen::BestEffortAtLimit, 50),
         (Seen::BestEffortFullAndAbove, 100),
         (Seen::BestEffortWrapped, 50),
-    ])
+    ])?;
+    run.demand(&[VID_OUTSIDE, BOUND_ALREADY, PAIR_BOUND_ALREADY].map(|refusal| (Seen::Refused(refusal), 50)))?;
+    run.demand(
+        &[DISCARD, BEST_EFFORT_FULL, BEST_EFFORT_EXCEEDED, FRAME_LENGTH, QUEUE_FULL].map(|refusal| (Seen::FrameRefused(refusal), 50)),
+    )?;
+    run.demand(&[(Seen::Bound, 500), (Seen::FrameArrived, 400), (Seen::FrameBestEffort, 1_000)])
 }
 
 /// Records of any octets, and such with the mark of an open port.
@@ -75,6 +81,12 @@ fn records_of_zeros_and_ones(run: &mut Run) -> Result<(), String> {
 fn near_fit_records(run: &mut Run) -> Result<(), String> {
     try_shape(run, SIDES, ("near fit", near_fit), 5_000)?;
     run.demand(&[(Seen::FitRecord, 500), (Seen::UnfitRecord, 500)])
+}
+
+/// Records that are fit but for their bindings, or are fit with them.
+fn records_with_bindings_of_every_sort(run: &mut Run) -> Result<(), String> {
+    try_shape(run, SIDES, ("bindings of every sort", bindings_of_every_sort), 3_000)?;
+    run.demand(&[(Seen::FitRecord, 30), (Seen::UnfitRecord, 2_000)])
 }
 
 /// All lengths of record and memory, with fit and unfit content.

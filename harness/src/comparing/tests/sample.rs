@@ -76,19 +76,10 @@ const CASES: [(&str, &[Stated]); 14] = [
             arrive(84, 4, Reply::granted(3, 116)),
         ],
     ),
-    ("C8", &[OPEN, RESERVE, THRICE[0], THRICE[1], THRICE[2], arrive(84, 4, Reply::refused(DISCARD))]),
+    ("C8", &[OPEN, RESERVE, TO_CURRENT, TO_NEXT, TO_LAST, arrive(84, 4, Reply::refused(DISCARD))]),
     (
         "C9",
-        &[
-            OPEN,
-            RESERVE,
-            THRICE[0],
-            THRICE[1],
-            THRICE[2],
-            arrive(84, 4, Reply::refused(DISCARD)),
-            TICK,
-            arrive(84, 5, Reply::granted(3, 116)),
-        ],
+        &[OPEN, RESERVE, TO_CURRENT, TO_NEXT, TO_LAST, arrive(84, 4, Reply::refused(DISCARD)), TICK, arrive(84, 5, Reply::granted(3, 116))],
     ),
     ("C10", &[OPEN, RESERVE, arrive(201, 1, Reply::refused(DISCARD)), arrive(84, 2, Reply::refused(DISCARD))]),
     ("C11", &[OPEN, RESERVE, arrive(83, 1, Reply::refused(CHARGE_OUTSIDE)), arrive(1_543, 2, Reply::refused(CHARGE_OUTSIDE))]),
@@ -105,8 +96,9 @@ const CASES: [(&str, &[Stated]); 14] = [
 ];
 
 /// "200 three times: current, next, last".
-const THRICE: [Stated; 3] =
-    [arrive(200, 1, Reply::granted(1, 200)), arrive(200, 2, Reply::granted(2, 200)), arrive(200, 3, Reply::granted(3, 0))];
+const TO_CURRENT: Stated = arrive(200, 1, Reply::granted(1, 200));
+const TO_NEXT: Stated = arrive(200, 2, Reply::granted(2, 200));
+const TO_LAST: Stated = arrive(200, 3, Reply::granted(3, 0));
 
 /// The sample output of document 01.
 fn document_sample(run: &mut Run) -> Result<(), String> {

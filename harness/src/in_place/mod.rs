@@ -1,0 +1,91 @@
+//! The quick calls as plain Rust in place, on the layout of the record and the memory: what the quick calls are held against on records of any
+//! content, and what the benchmark measures them beside. Written from their definition (`crates/port/specs/Quick.antt` and the steps below it), which
+//! is total: the queue in a role is (prior + role) modulo 4 for every prior, a ring's place is taken modulo 256 for every start, a place that
+//! is none of the three goes by the same sentences, W falls to no less than 0, and so does what L leaves beside R; of streams that are bound to
+//! one pair the first counts, reserved or not.
+
+mod bindings;
+mod fields;
+mod traffic;
+
+use crate::call::{Call, Given, Reply};
+use crate::layout::{self, entry, BOUND, DELAY, LEFT, LINK, OPEN, PERMITTED, PLACE, PRIOR, RESERVED, WAITS};
+use crate::model::octets::{MEMORY_OCTETS, RECORD_OCTETS};
+use crate::model::port::{BEST_EFFORT, CURRENT, DELAYS, LEAST_PERMITTED, LINKS, MARK_NO, MARK_YES, STREAMS};
+use bindings::bind;
+use fields::{permitted_sum, put_four, put_two, share, two};
+use traffic::{arrive, best_effort, frame, tick, transmit};
+
+/// The octets of a record and a memory that are long enough.
+type Record = [u8; RECORD_OCTETS];
+type Memory = [u8; MEMORY_OCTETS];
+
+/// The quick call.
+#[inline(always)]
+pub fn call(call: &Given, port: &mut [u8], memory: &mut [u8]) -> Reply {
+    match played(call, port, memory) {
+        Ok(reply) => reply,
+        Err(refusal) => Reply::refused(refusal),
+    }
+}
+
+/// The quick call: its reply, or the number of its refusal; 18 for a memory that is too short comes first, then 19 for a record that is.
+#[inline(always)]
+fn played(call: &Given, port: &mut [u8], memory: &mut [u8]) -> Result<Reply, u8> {
+    let memory = memory.first_chunk_mut().ok_or(18)?;
+    let record = port.first_chunk_mut().ok_or(19)?;
+    match *call {
+        Call::Open { link, delay } => open(record, link, delay),
+        Call::Reserve { stream, permitted } => reserve(record, stream, permitted),
+        Call::Arrive { stream, charge, tag } => arrive(record, memory, stream, charge, tag),
+        Call::Tick => tick(record, memory),
+        Call::Transmit => transmit(record, memory),
+        Call::BestEffort { charge, tag } => best_effort(record, memory, charge, tag),
+        Call::Bind { stream, address, vid } => bind(record, stream, address, vid),
+        Call::Frame { octets, tag } => frame(record, memory, octets, tag),
+    }
+}
+
+/// Refuses with a number where a test says so.
+#[inline(always)]
+fn refuse(number: u8, refused: bool) -> Result<(), u8> {
+    if refused {
+        return Err(number);
+    }
+    Ok(())
+}
+
+/// Open(L, K): 2, 3, 4, then the step.
+fn open(record: &mut Record, link: u32, delay: u32) -> Result<Reply, u8> {
+    refuse(2, record[OPEN] == MARK_YES)?;
+    refuse(3, !LINKS.contains(&link))?;
+    refuse(4, !DELAYS.contains(&delay))?;
+    record[OPEN] = MARK_YES;
+    record[PRIOR] = 0;
+    record[DELAY] = delay as u8;
+    put_two(record, LINK, link as u16);
+    put_four(record, WAITS, 0);
+    record[layout::start(0)..layout::start(BEST_EFFORT + 1)].fill(0);
+    for at in (0..STREAMS).map(entry) {
+        record[at + RESERVED] = MARK_NO;
+        record[at + BOUND] = MARK_NO;
+    }
+    Ok(Reply::granted(share(link as u16), 0))
+}
+
+/// Reserve(s, P): 1, 5, 6, 7, 8, then the step.
+fn reserve(record: &mut Record, stream: u8, permitted: u32) -> Result<Reply, u8> {
+    refuse(1, record[OPEN] != MARK_YES)?;
+    refuse(5, stream as usize >= STREAMS)?;
+    let at = entry(stream as usize);
+    refuse(6, record[at + RESERVED] == MARK_YES)?;
+    refuse(7, permitted < LEAST_PERMITTED)?;
+    let free = share(two(record, LINK)) as u64;
+    let sum = permitted_sum(record) as u64 + permitted as u64;
+    refuse(8, sum > free)?;
+    record[at + RESERVED] = MARK_YES;
+    record[at + PLACE] = CURRENT;
+    put_two(record, at + LEFT, permitted as u16);
+    put_two(record, at + PERMITTED, permitted as u16);
+    Ok(Reply::granted((free - sum) as u32, 0))
+}
