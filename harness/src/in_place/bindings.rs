@@ -30,6 +30,6 @@ pub fn bind(record: &mut Record, stream: u8, address: &[u8; ADDRESS_OCTETS], vid
 pub fn bound_to(record: &Record, binding: &Binding) -> Option<usize> {
     (0..STREAMS).find(|&stream| {
         let at = entry(stream);
-        record[at + BOUND] == MARK_YES && record[at + VID..at + BINDING_END] == *binding
+        record[at + BOUND] == MARK_YES && record[at + VID..].first_chunk() == Some(binding)
     })
 }
