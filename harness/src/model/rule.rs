@@ -227,10 +227,15 @@ fn frame(port: &mut Port, octets: &[u8], tag: u32) -> Reply {
     if !FRAME_LENGTHS.contains(&octets.len()) {
         return Reply::refused(refusal::FRAME_LENGTH);
     }
+    step(&becomes(port, octets, tag).given(), port)
+}
+
+/// What a frame whose length is in its range becomes: "A bound pair is an Arrive on its stream; all else is best effort."
+pub fn becomes(port: &Port, octets: &[u8], tag: u32) -> Call {
     let charge = frame::charge(octets);
     let bound = frame::pair(octets).and_then(|pair| bound_to(port, &pair));
     match bound {
-        Some(number) => arrive(port, number, charge, tag),
-        None => best_effort(port, charge, tag),
+        Some(number) => Call::Arrive { stream: number as u8, charge, tag },
+        None => Call::BestEffort { charge, tag },
     }
 }

@@ -116,8 +116,8 @@ impl Link {
         if self.events.len() == MOST_RECORDS {
             return Err(Full);
         }
-        self.events.push(*call);
-        rule::step(call, &mut self.port);
+        self.events.push(call.clone());
+        rule::step(&call.given(), &mut self.port);
         Ok(())
     }
 

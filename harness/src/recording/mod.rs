@@ -2,11 +2,9 @@
 //! packets' times. captures/README.md says what the tool is given and what it tells.
 //!
 //! The pcap file is the recording, the port's file is the capture, and the text that gives L, K, the reservations, the bindings and the epoch's
-//! length is the plan. `header` and `pcap` read the recording, `plan` the plan, `frames` makes a packet the frame that the port would get, `bindings`
-//! finds the call that it becomes, `link` puts ticks and transmits between the calls, `turning` makes the capture, `report` says what became of the
-//! packets.
+//! length is the plan. `header` and `pcap` read the recording, `plan` the plan, `frames` makes a packet the frame that the port would get, `link` puts
+//! ticks and transmits between the calls that frames become, `turning` makes the capture, `report` says what became of the packets.
 
-pub mod bindings;
 pub mod frames;
 pub mod header;
 pub mod link;

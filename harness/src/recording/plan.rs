@@ -1,16 +1,16 @@
 //! Reads a plan: the text that gives the epoch's length, L and K, the reservations and the bindings. What Open, Reserve or Bind would refuse is told
 //! with its line and number.
 
-use crate::call::{Call, Reply};
+use crate::call::{Call, Reply, ADDRESS_OCTETS};
 use crate::capture::lines::{self, BadText};
 use crate::capture::words::Words;
 use crate::capture::writing::event;
-use crate::model::port::{Port, ADDRESS_OCTETS};
+use crate::model::port::Port;
 use crate::model::refusal::{
-    DELAY_OUTSIDE, LINK_OUTSIDE, NOT_RESERVED, OPEN_ALREADY, PERMITTED_BELOW, PORT_CLOSED, RESERVED_ALREADY, SHARE_EXCEEDED, STREAM_ABOVE,
+    BOUND_ALREADY, DELAY_OUTSIDE, LINK_OUTSIDE, NOT_RESERVED, OPEN_ALREADY, PAIR_BOUND_ALREADY, PERMITTED_BELOW, PORT_CLOSED,
+    RESERVED_ALREADY, SHARE_EXCEEDED, STREAM_ABOVE, VID_OUTSIDE,
 };
 use crate::model::rule;
-use crate::recording::bindings::{bind, PAIR_BOUND, STREAM_BOUND, VID_OUTSIDE};
 
 /// Begins the line with the epoch's length.
 const EPOCH: &str = "epoch";
@@ -37,8 +37,8 @@ const REFUSALS: [(u8, &str); 12] = [
     (PERMITTED_BELOW, "P below 84"),
     (SHARE_EXCEEDED, "sum of P above the share, which is L less 1,542"),
     (VID_OUTSIDE, "VID outside 1 to 4,094"),
-    (STREAM_BOUND, "stream bound already"),
-    (PAIR_BOUND, "pair bound already"),
+    (BOUND_ALREADY, "stream bound already"),
+    (PAIR_BOUND_ALREADY, "pair bound already"),
     (NOT_RESERVED, "stream not reserved"),
 ];
 
@@ -95,7 +95,7 @@ impl Reading {
 
     /// An Open or a Reserve.
     fn call(&mut self, call: Call) -> Result<(), String> {
-        granted(rule::step(&call, &mut self.port))?;
+        self.granted(&call)?;
         self.calls.push(call);
         Ok(())
     }
@@ -105,7 +105,12 @@ impl Reading {
         let stream = words.number("a stream", u8::MAX.into())? as u8;
         let address = address(words.word().ok_or("an address is missing")?)?;
         let vid = words.number("a VID", u32::MAX)?;
-        granted(bind(&mut self.port, stream, address, vid))
+        self.granted(&Call::Bind { stream, address, vid })
+    }
+
+    /// Plays a call, which fails where it is refused.
+    fn granted(&mut self, call: &Call) -> Result<(), String> {
+        granted(rule::step(&call.given(), &mut self.port))
     }
 
     /// The plan, once no line follows.

@@ -5,7 +5,7 @@ use std::io::Read;
 use crate::call::Call;
 use crate::capture::file;
 use crate::model::capture::PORTS;
-use crate::recording::bindings;
+use crate::model::rule;
 use crate::recording::frames::{frame, Frame};
 use crate::recording::link::{Full, Link};
 use crate::recording::pcap::{BadRecording, Packet, Recording};
@@ -61,14 +61,15 @@ impl Turning {
 
     /// Brings the frame of a packet to the port at its time; the tag is the packet's number, its low 32 bits.
     fn frame(&mut self, number: u64, time: u64, frame: &Frame) {
-        let call = bindings::call(self.link.port(), &frame.octets, number as u32);
+        let call = rule::becomes(self.link.port(), &frame.octets, number as u32);
+        let arrives = matches!(call, Call::Arrive { .. });
         if self.link.bring(time, call) == Err(Full) {
             self.full = true;
             return self.report.left_out.add(number);
         }
-        match call {
-            Call::Arrive { .. } => self.report.arrivals += 1,
-            _ => self.report.best_effort += 1,
+        match arrives {
+            true => self.report.arrivals += 1,
+            false => self.report.best_effort += 1,
         }
         if frame.padded {
             self.report.padded.add(number);

@@ -35,7 +35,7 @@ fn any_frame(random: &mut Random, pairs: &[(u8, Pair)], most: u32) -> Vec<u8> {
     match random.weighted(&[70, 10, 15, 5]) {
         0 if !pairs.is_empty() && length >= 16 => {
             let pair = random.pick(pairs).1;
-            tagged(pair.address, pair.vid | (random.number() as u16) << 12, length)
+            tagged(pair.address, pair.vid as u16 | (random.number() as u16) << 12, length)
         }
         1 if length >= 16 => tagged(any_address(random), random.number() as u16, length),
         2 => typed(any_address(random), vec![0x88, 0xa8, 0, 1], length),
@@ -68,7 +68,7 @@ fn any_plan(random: &mut Random, epoch: u32, link: u32) -> (String, Vec<(u8, Pai
         let permitted = random.between(LEAST_PERMITTED..=free);
         free -= permitted;
         text.push_str(&format!("reserve {stream} {permitted}\n"));
-        let pair = Pair { address: any_address(random), vid: random.between(1..=4) as u16 };
+        let pair = Pair { address: any_address(random), vid: random.between(1..=4) };
         if random.chance(90) && pairs.iter().all(|(_, other)| *other != pair) {
             let [a, b, c, d, e, f] = pair.address;
             text.push_str(&format!("bind {stream} {a:02x}:{b:02x}:{c:02x}:{d:02x}:{e:02x}:{f:02x} {}\n", pair.vid));
@@ -121,7 +121,7 @@ fn decided(pairs: &[(u8, Pair)], number: usize, octets: &[u8]) -> Option<Call> {
 fn packets_become_what_frame_decides() {
     let full = hold(|made| {
         let brought = made.events.iter().filter(|call| matches!(call, Call::Arrive { .. } | Call::BestEffort { .. }));
-        let brought: Vec<Call> = brought.copied().collect();
+        let brought: Vec<Call> = brought.cloned().collect();
         let in_capture = made.packets.len() - made.report.left_out.count as usize;
         let packets = made.packets[..in_capture].iter().enumerate();
         let expected: Vec<Call> = packets.filter_map(|(number, (_, octets))| decided(&made.pairs, number, octets)).collect();
@@ -158,7 +158,7 @@ fn ticks_stand_where_epochs_end() {
 fn captures_replay_without_other_refusals() {
     let discarding = hold(|made| {
         let mut port = Port::closed();
-        let refusals: Vec<u8> = made.events.iter().map(|call| rule::step(call, &mut port).refusal).collect();
+        let refusals: Vec<u8> = made.events.iter().map(|call| rule::step(&call.given(), &mut port).refusal).collect();
         assert!(refusals.iter().all(|refusal| [0, 14, 15, 16].contains(refusal)), "{refusals:?}");
         let waiting: usize = port.queues.iter().map(|queue| queue.frames.len()).sum();
         assert!(made.report.left_out.count > 0 || waiting == made.report.waiting);
@@ -172,7 +172,7 @@ fn captures_replay_without_other_refusals() {
 fn played(events: &[Call]) -> Vec<Event> {
     let mut playing = Playing::new(model::call, &Octets::zero());
     for call in events {
-        playing.call(*call);
+        playing.call(call.clone());
     }
     playing.events
 }
@@ -197,7 +197,7 @@ fn sent(events: &[Call]) -> Vec<Option<u32>> {
     let mut sent = Vec::new();
     for call in events {
         let waited: u32 = port.queues.iter().map(|queue| queue.octets()).sum();
-        let reply = rule::step(call, &mut port);
+        let reply = rule::step(&call.given(), &mut port);
         match call {
             Call::Tick => sent.push(None),
             Call::Transmit if reply.first == NOTHING => sent.push(Some(0)),

@@ -7,7 +7,7 @@ use crate::recording::report::Packets;
 
 /// The call that one packet becomes under the plan, or none.
 fn becomes(octets: Vec<u8>) -> Option<Call> {
-    events_of(PLAN, &[(0, octets)]).0.get(2).copied()
+    events_of(PLAN, &[(0, octets)]).0.get(2).cloned()
 }
 
 /// An arrival of packet 1 on the plan's stream.
