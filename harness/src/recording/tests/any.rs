@@ -1,9 +1,10 @@
 //! Random recordings under random plans: what holds of every capture that the tool makes.
 
 use super::made::{events_of, tagged, typed, untagged};
-use crate::call::Call;
+use crate::call::{Call, Reply};
 use crate::comparing::fit::Octets;
 use crate::comparing::random::Random;
+use crate::exports;
 use crate::guarantee::claims;
 use crate::guarantee::found::Link;
 use crate::guarantee::list::{Event, Playing};
@@ -102,10 +103,16 @@ fn hold(claim: impl Fn(&Made) -> bool) -> usize {
     (0..400).filter(|&number| claim(&any_made(number))).count()
 }
 
-/// The call that a frame becomes as the model reads its octets, padded; none where its length is outside.
-fn decided(pairs: &[(u8, Pair)], number: usize, octets: &[u8]) -> Option<Call> {
+/// The octets of a packet, with zeros up to 60.
+fn padded(octets: &[u8]) -> Vec<u8> {
     let mut octets = octets.to_vec();
     octets.resize(octets.len().max(60), 0);
+    octets
+}
+
+/// The call that a frame becomes as the model reads its octets, padded; none where its length is outside.
+fn decided(pairs: &[(u8, Pair)], number: usize, octets: &[u8]) -> Option<Call> {
+    let octets = padded(octets);
     if !FRAME_LENGTHS.contains(&octets.len()) {
         return None;
     }
@@ -166,6 +173,35 @@ fn captures_replay_without_other_refusals() {
         refusals.contains(&14)
     });
     assert!(discarding >= 100, "{discarding} captures discard");
+}
+
+/// The call of an event as a driver makes it: a packet is given to Frame with its octets.
+fn driven(made: &Made, event: &Call) -> Call {
+    match *event {
+        Call::Arrive { tag, .. } | Call::BestEffort { tag, .. } => {
+            Call::Frame { octets: padded(&made.packets[tag as usize - 1].1).into(), tag }
+        }
+        ref other => other.clone(),
+    }
+}
+
+/// The proved port, with the bindings of the plan, replies to the packets given to Frame what it replies to the events of the capture.
+#[test]
+fn the_proved_frame_replies_as_the_capture_does() {
+    let bound = hold(|made| {
+        let (mut plain, mut driver) = (Octets::zero(), Octets::zero());
+        for event in &made.events {
+            let reply = exports::unscanned(&event.given(), &mut plain.record, &mut plain.memory);
+            assert_eq!(exports::unscanned(&driven(made, event).given(), &mut driver.record, &mut driver.memory), reply, "{event}");
+            let Call::Reserve { stream, .. } = *event else { continue };
+            let Some((_, Pair { address, vid })) = made.pairs.iter().find(|(bound, _)| *bound == stream) else { continue };
+            let bind = Call::Bind { stream, address, vid: *vid };
+            assert_eq!(exports::unscanned(&bind, &mut driver.record, &mut driver.memory), Reply::granted(0, 0));
+        }
+        assert!(plain.memory == driver.memory);
+        !made.pairs.is_empty()
+    });
+    assert!(bound >= 200, "{bound} captures have bindings");
 }
 
 /// The events as the model plays them on record and memory.
