@@ -10,7 +10,8 @@ use Rattle.port_laws.specs.Lists.{Call, opening, called}
 use Rattle.guarantee.specs.Events.{Event, events}
 use Rattle.guarantee.specs.Claims.{LinkCondition, PurgesNothing, SaysWhatItSends, AlikeMarked, AllSentBefore, ConformingPrompt, Alike, NotByHost}
 
--- "The first is a granted Open, whatever record and memory it was given": these two, the Open's L and K, and the calls after it
+-- "The first is a granted Open, whatever record and memory it was given": these two, the Open's L and K, and the calls after it; "lists hold [Bind and
+-- Frame] too, each Frame with its octets"
 pub record CallList : Type 0 where
   pub port : List ℕ
   pub memory : List ℕ

@@ -30,8 +30,9 @@ pub record Event : Type 0 where
   pub shown : Reply
   pub sent : Sent
 
--- what a call on record p counts as: a Frame "that is not refused with 17 and becomes an Arrive in its list counts there as that Arrive", and one that
--- becomes Best effort as that; any other call, a refused Frame among them, as itself
+-- what a call on record p counts as: of Frames, "one that is not refused with 17 and becomes an Arrive in its list counts there as that Arrive", and one
+-- that becomes Best effort as that; any other call as itself. On an open port 17 is replied just where the length is outside its range
+-- (`frame-refused`, `frame-not-17`)
 abbrev pub countsAs : List ℕ → Call → Call
 countsAs p (opening link delay) = opening link delay
 countsAs p (reserving s permitted) = reserving s permitted

@@ -1,20 +1,38 @@
 -- A Frame is the call that it becomes. Assumes nothing.
-use Prim.Native.Nat.{ℕ}
-use mathlib.Core.Path.{_≡_, refl, ap, _∙_}
+use Prim.Native.Nat.{ℕ, _+_}
+use mathlib.Core.Path.{_≡_, refl, sym, ap, subst, _∙_}
 use mathlib.Core.Bool.{Bool, true, false, not, cond}
+use mathlib.Core.Logic.{⊎-elim}
 use mathlib.Core.List.{List}
-use Rattle.record.specs.Head.{openAt}
+use native.Mathlib.Omega.{arith}
+use lib.ListN.{length}
+use lib.Dec.{leb, ltb}
+use Rattle.lists.proofs.Order.{eq-or-not}
+use Rattle.stream.specs.declared.Arrival.{Arrival}
+use Rattle.stream.specs.declared.Arrival.the-variants.{Joined, Discarded}
+use Rattle.stream.specs.State.{lastPlace}
+use Rattle.stream.specs.Steps.{arriveOf}
+use Rattle.stream.specs.Replies.{granted, replyOf}
+use Rattle.queue.specs.declared.Frame.{Frame}
+use Rattle.queue.specs.Ring.{placeCount, joinedMemory, joinedQueue}
+use Rattle.record.specs.Layout.{bestEffort, streamCount, memoryLength}
+use Rattle.record.specs.Head.{openAt, waitsAt, queueAt, withQueue}
+use Rattle.record.specs.Entry.{streamAt}
+use Rattle.ranges.specs.Ranges.{chargeFits}
 use Rattle.header.specs.Header.{chargeOf, lengthFits}
-use Rattle.fitness.specs.Fit.{lentRefusal}
-use Rattle.steps.specs.Outcome.{Outcome, refused}
-use Rattle.arriving.specs.Arriving.{arriveStep}
+use Rattle.fitness.specs.Fit.{recordFits, lentRefusal}
+use Rattle.steps.specs.Outcome.{Outcome, outcome, refused}
+use Rattle.steps.specs.Roles.{roleAt}
+use Rattle.steps.specs.Moves.{moved}
+use Rattle.arriving.specs.Arriving.{arrived, arriveStep}
 use Rattle.best_effort.specs.BestEffort.{bestEffortStep}
 use Rattle.binding.specs.declared.Lookup.{Lookup}
 use Rattle.binding.specs.declared.Lookup.the-variants.{Bound, Unbound}
 use Rattle.binding.specs.Finding.{frameLookup}
-use Rattle.gates.specs.Refusals.{arriveRefusal, bestEffortRefusal}
+use Rattle.gates.specs.Refusals.{arriveRefusal, bestEffortLimit, bestEffortRefusal}
 use Rattle.gates.specs.FrameRefusals.{frameRefusal}
 use Rattle.gates.specs.Gated.{gated, becomes, frames}
+use Rattle.gates.proofs.GateLaws.{grants, refuses}
 use Rattle.port_laws.specs.Lists.{framing, called, becoming}
 
 -- a closed port refuses with 1 what a frame becomes
@@ -48,3 +66,55 @@ frame-becomes p m octets tag fits =
 pub frame-refused : (p octets : List ℕ) → openAt p ≡ true → lengthFits octets ≡ false → frameRefusal p octets ≡ 17
 unfolding frameRefusal
 frame-refused p octets opened short = rw (opened, short)
+
+-- what a frame becomes is not refused with 17, so 17 tells of the length alone: the numbers that it may reply
+abbrev Not17 : ℕ → Type 0
+Not17 number = number ≡ 17 → ⊥
+
+by-test : (b : Bool) (number rest : ℕ) → Not17 number → Not17 rest → Not17 (cond b number rest)
+by-test true number rest h i = h
+by-test false number rest h i = i
+
+gated-other : (g : ℕ) (p m : List ℕ) (done : Outcome) → Not17 g → Not17 (done .reply .refusal) → Not17 (gated g p m done .reply .refusal)
+gated-other g p m done h i =
+    ⊎-elim
+    (λ (zero : g ≡ 0). subst (λ (o : Outcome). Not17 (o .reply .refusal)) (sym (grants g p m done zero)) i)
+    (λ (some : g ≡ 0 → ⊥). subst (λ (o : Outcome). Not17 (o .reply .refusal)) (sym (refuses g p m done some)) h)
+    (eq-or-not g 0)
+
+arrived-other : (p m : List ℕ) (s : ℕ) (f : Frame) (answer : Arrival) → Not17 (arrived p m s f (replyOf answer) answer .reply .refusal)
+arrived-other p m s f (Joined place next) = told (leb placeCount (queueAt p (roleAt p place) .count))
+  where
+    told : (full : Bool)
+        → Not17
+        (cond full (refused 20 p m)
+        (outcome
+        (granted place (next .left))
+        (withQueue (moved p s next) (roleAt p place) (joinedQueue (queueAt p (roleAt p place))))
+        (joinedMemory m (roleAt p place) (queueAt p (roleAt p place)) f)) .reply .refusal)
+    told true e = omega arith
+    told false e = omega arith
+arrived-other p m s f (Discarded spent) = λ e. omega arith
+
+becomes-other : (p m : List ℕ) (charge tag : ℕ) (found : Lookup) → Not17 (becomes p m charge tag found .reply .refusal)
+unfolding arriveRefusal bestEffortRefusal arriveStep bestEffortStep
+becomes-other p m charge tag (Bound s) =
+    gated-other (arriveRefusal p s charge) p m (arriveStep p m s charge tag)
+    (by-test (not (openAt p)) 1 _ (λ e. omega arith)
+    (by-test (leb streamCount s) 5 _ (λ e. omega arith)
+    (by-test (not (streamAt p s .reserved)) 12 _ (λ e. omega arith) (by-test (not (chargeFits charge)) 13 0 (λ e. omega arith) (λ e. omega arith)))))
+    (arrived-other p m s (record { stream = s; charge = charge; tag = tag }) (arriveOf lastPlace (streamAt p s) charge))
+becomes-other p m charge tag Unbound =
+    gated-other (bestEffortRefusal p charge) p m (bestEffortStep p m charge tag)
+    (by-test (not (openAt p)) 1 _ (λ e. omega arith)
+    (by-test (not (chargeFits charge)) 13 _ (λ e. omega arith)
+    (by-test (leb placeCount (queueAt p bestEffort .count)) 15 _ (λ e. omega arith)
+    (by-test (ltb (bestEffortLimit p) (waitsAt p + charge)) 16 0 (λ e. omega arith) (λ e. omega arith)))))
+    (λ e. omega arith)
+
+pub frame-not-17 : (p m octets : List ℕ) (tag : ℕ) → lengthFits octets ≡ true → called (framing octets tag) p m .reply .refusal ≡ 17 → ⊥
+unfolding lentRefusal
+frame-not-17 p m octets tag fits =
+    gated-other (lentRefusal p m) p m (frames p m octets tag)
+    (by-test (ltb (length m) memoryLength) 18 _ (λ e. omega arith) (by-test (recordFits p m) 0 19 (λ e. omega arith) (λ e. omega arith)))
+    (subst (λ (o : Outcome). Not17 (o .reply .refusal)) (sym (frames-becomes p m octets tag fits)) (becomes-other p m (chargeOf octets) tag (frameLookup p octets)))
