@@ -75,15 +75,15 @@ by-test : (b : Bool) (number rest : ℕ) → Not17 number → Not17 rest → Not
 by-test true number rest h i = h
 by-test false number rest h i = i
 
-gated-other : (g : ℕ) (p m : List ℕ) (done : Outcome) → Not17 g → Not17 (done .reply .refusal) → Not17 (gated g p m done .reply .refusal)
-gated-other g p m done h i =
+gated-not-17 : (g : ℕ) (p m : List ℕ) (done : Outcome) → Not17 g → Not17 (done .reply .refusal) → Not17 (gated g p m done .reply .refusal)
+gated-not-17 g p m done h i =
     ⊎-elim
     (λ (zero : g ≡ 0). subst (λ (o : Outcome). Not17 (o .reply .refusal)) (sym (grants g p m done zero)) i)
     (λ (some : g ≡ 0 → ⊥). subst (λ (o : Outcome). Not17 (o .reply .refusal)) (sym (refuses g p m done some)) h)
     (eq-or-not g 0)
 
-arrived-other : (p m : List ℕ) (s : ℕ) (f : Frame) (answer : Arrival) → Not17 (arrived p m s f (replyOf answer) answer .reply .refusal)
-arrived-other p m s f (Joined place next) = told (leb placeCount (queueAt p (roleAt p place) .count))
+arrived-not-17 : (p m : List ℕ) (s : ℕ) (f : Frame) (answer : Arrival) → Not17 (arrived p m s f (replyOf answer) answer .reply .refusal)
+arrived-not-17 p m s f (Joined place next) = told (leb placeCount (queueAt p (roleAt p place) .count))
   where
     told : (full : Bool)
         → Not17
@@ -94,18 +94,18 @@ arrived-other p m s f (Joined place next) = told (leb placeCount (queueAt p (rol
         (joinedMemory m (roleAt p place) (queueAt p (roleAt p place)) f)) .reply .refusal)
     told true e = omega arith
     told false e = omega arith
-arrived-other p m s f (Discarded spent) = λ e. omega arith
+arrived-not-17 p m s f (Discarded spent) = λ e. omega arith
 
-becomes-other : (p m : List ℕ) (charge tag : ℕ) (found : Lookup) → Not17 (becomes p m charge tag found .reply .refusal)
+becomes-not-17 : (p m : List ℕ) (charge tag : ℕ) (found : Lookup) → Not17 (becomes p m charge tag found .reply .refusal)
 unfolding arriveRefusal bestEffortRefusal arriveStep bestEffortStep
-becomes-other p m charge tag (Bound s) =
-    gated-other (arriveRefusal p s charge) p m (arriveStep p m s charge tag)
+becomes-not-17 p m charge tag (Bound s) =
+    gated-not-17 (arriveRefusal p s charge) p m (arriveStep p m s charge tag)
     (by-test (not (openAt p)) 1 _ (λ e. omega arith)
     (by-test (leb streamCount s) 5 _ (λ e. omega arith)
     (by-test (not (streamAt p s .reserved)) 12 _ (λ e. omega arith) (by-test (not (chargeFits charge)) 13 0 (λ e. omega arith) (λ e. omega arith)))))
-    (arrived-other p m s (record { stream = s; charge = charge; tag = tag }) (arriveOf lastPlace (streamAt p s) charge))
-becomes-other p m charge tag Unbound =
-    gated-other (bestEffortRefusal p charge) p m (bestEffortStep p m charge tag)
+    (arrived-not-17 p m s (record { stream = s; charge = charge; tag = tag }) (arriveOf lastPlace (streamAt p s) charge))
+becomes-not-17 p m charge tag Unbound =
+    gated-not-17 (bestEffortRefusal p charge) p m (bestEffortStep p m charge tag)
     (by-test (not (openAt p)) 1 _ (λ e. omega arith)
     (by-test (not (chargeFits charge)) 13 _ (λ e. omega arith)
     (by-test (leb placeCount (queueAt p bestEffort .count)) 15 _ (λ e. omega arith)
@@ -115,6 +115,6 @@ becomes-other p m charge tag Unbound =
 pub frame-not-17 : (p m octets : List ℕ) (tag : ℕ) → lengthFits octets ≡ true → called (framing octets tag) p m .reply .refusal ≡ 17 → ⊥
 unfolding lentRefusal
 frame-not-17 p m octets tag fits =
-    gated-other (lentRefusal p m) p m (frames p m octets tag)
+    gated-not-17 (lentRefusal p m) p m (frames p m octets tag)
     (by-test (ltb (length m) memoryLength) 18 _ (λ e. omega arith) (by-test (recordFits p m) 0 19 (λ e. omega arith) (λ e. omega arith)))
-    (subst (λ (o : Outcome). Not17 (o .reply .refusal)) (sym (frames-becomes p m octets tag fits)) (becomes-other p m (chargeOf octets) tag (frameLookup p octets)))
+    (subst (λ (o : Outcome). Not17 (o .reply .refusal)) (sym (frames-becomes p m octets tag fits)) (becomes-not-17 p m (chargeOf octets) tag (frameLookup p octets)))
