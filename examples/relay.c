@@ -1,10 +1,12 @@
 /*
- * A host that relays two frames over an epoch's end: it opens a port, reserves a stream, takes two frames of which the second has to wait for the
- * next epoch, and sends them. The set-up goes through the calls that test the whole record. After the granted Open nothing but these calls writes
- * the record and the memory, so the traffic goes through the calls that scan nothing, whose replies are then the same.
+ * A host that relays two frames over an epoch's end: it opens a port, reserves a stream and binds it to an address and a VID, takes two frames of
+ * which the second has to wait for the next epoch, and sends them. Of the first it knows the stream and the charge; the second it gives with its
+ * octets, and the port finds both. The set-up goes through the calls that test the whole record. After the granted Open nothing but these calls
+ * writes the record and the memory, so the traffic goes through the calls that scan nothing, whose replies are then the same.
  */
 #include <stdio.h>
 #include <stdlib.h>
+#include <string.h>
 
 #include "bunnysolder.h"
 
@@ -21,13 +23,34 @@ static void granted(const char *call, uint8_t refusal)
     }
 }
 
-/* A frame of stream 5 arrives. */
-static void arrive(uint32_t charge, uint32_t tag)
+/* The destination address to which stream 5 is bound, and the VLAN tag of its frames: VID 100, with the priority bits set. */
+static const uint8_t address[BUNNYSOLDER_ADDRESS_LENGTH] = { 0x01, 0x00, 0x5E, 0x00, 0x00, 0x05 };
+static const uint8_t vlan_tag[] = { 0x81, 0x00, 0xE0, 0x64 };
+
+/* Where a frame of stream 5 has joined. */
+static void joined(const char *call, uint32_t tag)
 {
     static const char *const places[] = { "", "current", "next", "last" };
 
+    printf("%s: frame %u joins %s, and its stream has %u octets left at its place\n", call, tag, places[first], second);
+}
+
+/* A frame of stream 5 arrives. */
+static void arrive(uint32_t charge, uint32_t tag)
+{
     granted("arrive", bunnysolder_arrive_unscanned(port, sizeof port, memory, sizeof memory, 5, charge, tag, &first, &second));
-    printf("arrive: frame %u joins %s, and its stream has %u octets left at its place\n", tag, places[first], second);
+    joined("arrive", tag);
+}
+
+/* A frame of a length comes from the wire: by its header it is one of stream 5. */
+static void frame(size_t length, uint32_t tag)
+{
+    static uint8_t octets[1518];
+
+    memcpy(octets, address, sizeof address);
+    memcpy(octets + 12, vlan_tag, sizeof vlan_tag);
+    granted("frame", bunnysolder_frame_unscanned(port, sizeof port, memory, sizeof memory, octets, length, tag, &first, &second));
+    joined("frame", tag);
 }
 
 /* The link can send. */
@@ -53,8 +76,10 @@ int main(void)
     printf("open: the share is %u octets\n", first);
     granted("reserve", bunnysolder_reserve(port, sizeof port, memory, sizeof memory, 5, 200, &first, &second));
     printf("reserve: stream 5 has 200 octets per epoch, %u are still free\n", first);
+    granted("bind", bunnysolder_bind(port, sizeof port, memory, sizeof memory, 5, address, 100, &first, &second));
+    printf("bind: stream 5 has an address and VID 100\n");
     arrive(120, 7);
-    arrive(100, 8);
+    frame(76, 8);
     transmit();
     transmit();
     tick();
