@@ -1,4 +1,5 @@
-//! A list of Binds, Frames and other calls whose replies are written down from document 01, played on two sides.
+//! A list of Binds, Frames and other calls whose replies are written down, from document 01 or for records that are not fit from the quick calls'
+//! definition, played on two sides.
 
 use crate::call::{Call, Reply, ADDRESS_OCTETS};
 use crate::comparing::compared::Compared;
@@ -34,8 +35,10 @@ impl<'a, 'r> Stated<'a, 'r> {
 
     /// A list that begins with Open(L, K) on a used record that is closed, and reserves streams, each with its P.
     pub fn opened(run: &'a mut Run<'r>, sides: [Side; 2], link: u32, delay: u32, streams: &[(u8, u32)]) -> Result<Stated<'a, 'r>, String> {
-        let used = Octets::fit(&mut run.next_list(), false);
-        let mut list = Stated::on(run, sides, &used);
+        let mut random = run.next_list();
+        let used = Octets::fit(&mut random, false);
+        let compared = Compared::guarded(sides, run, &used.record, &used.memory);
+        let mut list = Stated { run, compared, random };
         list.call(Call::Open { link, delay }, Reply::granted(link - 1_542, 0))?;
         let mut free = link - 1_542;
         for &(stream, permitted) in streams {
@@ -45,9 +48,9 @@ impl<'a, 'r> Stated<'a, 'r> {
         Ok(list)
     }
 
-    /// A call that must reply as document 01 says.
+    /// A call that must reply as is written down.
     pub fn call(&mut self, call: Call, reply: Reply) -> Result<(), String> {
-        self.compared.expect(self.run, &call, |got| *got == reply, &format!("{reply} by document 01"))
+        self.compared.expect(self.run, &call, |got| *got == reply, &reply.to_string())
     }
 
     /// A Bind.

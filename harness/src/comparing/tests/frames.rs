@@ -202,7 +202,8 @@ fn frames_refused_as_what_they_become(run: &mut Run) -> Result<(), String> {
     [DISCARD, BEST_EFFORT_FULL, QUEUE_FULL].iter().try_for_each(|&refusal| demand_met(run, Seen::FrameRefused(refusal)))
 }
 
-/// On a record that is not fit the quick Frame takes the first stream whose mark and pair are the frame's, and is 12 where that is not reserved.
+/// On a record that is not fit the quick Frame takes the first stream whose mark and pair are the frame's, and is 12 where that is not reserved;
+/// the quick Bind is 12 before 10, and 9 before 11, which never hold together on one that is fit.
 fn frames_of_the_first_that_is_bound(run: &mut Run) -> Result<(), String> {
     let sides = [Side::Quick, Side::InPlace];
     let mut list = Stated::opened(run, sides, 23_046, 1, &[(5, 168), (9, 168), (63, 168)])?;
@@ -218,6 +219,10 @@ fn frames_of_the_first_that_is_bound(run: &mut Run) -> Result<(), String> {
     octets.put_binding(8, &binding);
     list.lend_again(&octets);
     list.frame(&HEADER, 60, 1, Reply::refused(NOT_RESERVED))?;
+    list.bind(8, (UNBOUND, 1), Reply::refused(NOT_RESERVED))?;
+    layout::put_two(&mut octets.record, layout::entry(63) + layout::VID, 4_095);
+    list.lend_again(&octets);
+    list.bind(5, (BOUND, 4_095), Reply::refused(VID_OUTSIDE))?;
     demand_met(run, Seen::FrameRefused(NOT_RESERVED))?;
     run.demand(&[(Seen::FrameArrived, 2)])
 }
