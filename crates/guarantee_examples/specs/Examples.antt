@@ -7,6 +7,7 @@ use lib.ListN.{replicate}
 use Rattle.octets.specs.Numbers.{twoOctets}
 use Rattle.stream.specs.declared.Reply.{Reply}
 use Rattle.stream.specs.Replies.{granted, refusedBy}
+use Rattle.header.specs.Header.{vlanTag}
 use Rattle.fitness.specs.Clauses.{bestEffortStream}
 use Rattle.steps.specs.Outcome.{Outcome, outcome}
 use Rattle.sending.specs.Sending.{nothing}
@@ -89,7 +90,7 @@ abbrev pub address : List ℕ
 address = 1 ∷ 0 ∷ 94 ∷ 0 ∷ 0 ∷ 5 ∷ []
 
 abbrev pub taggedTo : ℕ → ℕ → List ℕ
-taggedTo vid length = (address ++ replicate {A = ℕ} 6 0) ++ ((129 ∷ 0 ∷ twoOctets (57344 + vid)) ++ replicate {A = ℕ} (length - 16) 0)
+taggedTo vid length = (address ++ replicate {A = ℕ} 6 0) ++ ((vlanTag ++ twoOctets (57344 + vid)) ++ replicate {A = ℕ} (length - 16) 0)
 
 abbrev pub untagged : ℕ → List ℕ
 untagged length = address ++ replicate {A = ℕ} (length - 6) 0

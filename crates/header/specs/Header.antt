@@ -26,8 +26,11 @@ abbrev pub headerLength : ℕ
 headerLength = 16
 
 -- "If octets 12 and 13 are 81 00 (hexadecimal)": whether the frame has a VLAN tag
+abbrev pub vlanTag : List ℕ
+vlanTag = 129 ∷ 0 ∷ []
+
 unfoldable pub taggedFrame : List ℕ → Bool
-taggedFrame f = octetsEqual (get f 12 2) (129 ∷ 0 ∷ [])
+taggedFrame f = octetsEqual (get f 12 2) vlanTag
 
 -- "the VID is the low 12 bits of octets 14 and 15, high octet first"
 unfoldable pub vidOf : List ℕ → ℕ

@@ -34,7 +34,7 @@ cast-bind : tie.Need-cast-bind
 cast-bind c =
     let a = c .before .before .before .before .before .before .before .args in
     let allowed = bind-allowed (a .port .now) (a .stream) (a .address .now) (a .vid) (sym (c .before .before .bind .ensures) ∙ c .before .if1 .left) in
-    omega (arith, within-bounds 1 4094 (a .vid) (allowed .vid-fits) .1)
+    omega (arith, within-bounds _ _ (a .vid) (allowed .vid-fits) .1)
 
 bind-requires-2 : tie.Need-bind-requires-2
 bind-requires-2 c κs =

@@ -1,10 +1,10 @@
 -- `header::is_tagged` meets its contract. The part of the frame that is compared is octets 12 and 13. Assumes nothing.
 use Prim.Native.Nat.{ℕ}
-use mathlib.Core.List.{List, [], _∷_}
+use mathlib.Core.List.{List}
 use mathlib.Core.Path.{ap, _∙_}
 use native.Mathlib.Omega.{arith}
 use borrow.Author.Needs.{needs}
-use Rattle.header.specs.Header.{taggedFrame}
+use Rattle.header.specs.Header.{vlanTag, taggedFrame}
 use Rattle.lists.specs.Equal.{octetsEqual}
 use Rattle.lists.proofs.EqualLaws.{same-is}
 use Rattle.lists.proofs.WindowLaws.{mid-get}
@@ -28,7 +28,7 @@ same-requires c κs = search needs
 
 returns : tie.Need-returns
 unfolding taggedFrame
-returns c = same-is (c .same .result) _ _ (c .same .ensures) ∙ ap (λ (l : List ℕ). octetsEqual l (129 ∷ 0 ∷ [])) (mid-get (c .before .before .before .before .args .frame .now) 12 2 (omega arith))
+returns c = same-is (c .same .result) _ _ (c .same .ensures) ∙ ap (λ (l : List ℕ). octetsEqual l vlanTag) (mid-get (c .before .before .before .before .args .frame .now) 12 2 (omega arith))
 
 pub is-tagged-spec : {M : Type 1} → statement M
 is-tagged-spec =

@@ -79,7 +79,7 @@ returns-5 c =
     simp (opened, stream, reserved, vid, bound)
 
 cast-of-pair : tie.Need-cast-of-pair
-cast-of-pair c = omega (arith, within-bounds 1 4094 (c .before .before .before .before .before .before .before .before .before .before .before .before .args .vid) (sym (c .before .before .before .vid-fits .ensures) ∙ not-false _ (c .before .before .if4 .left)) .1)
+cast-of-pair c = omega (arith, within-bounds _ _ (c .before .before .before .before .before .before .before .before .before .before .before .before .args .vid) (sym (c .before .before .before .vid-fits .ensures) ∙ not-false _ (c .before .before .if4 .left)) .1)
 
 of-pair-requires : tie.Need-of-pair-requires
 of-pair-requires c κs = search needs
