@@ -1,4 +1,4 @@
-//! The exported calls of the proved port, as a host in Rust declares them: a slice is a pointer and a length.
+//! The exported calls of the proved port, as a host in Rust declares them: a slice is a pointer and a length; and the rule of one stream by itself.
 
 use crate::call::{Call, Given, Reply};
 
@@ -110,4 +110,28 @@ pub fn call(call: &Given, port: &mut [u8], memory: &mut [u8]) -> Reply {
 #[inline]
 pub fn unscanned(call: &Given, port: &mut [u8], memory: &mut [u8]) -> Reply {
     UNSCANNED.play(call, port, memory)
+}
+
+/// The record of one stream, for a caller that keeps it by itself, without a port.
+#[repr(C)]
+#[derive(Clone, Copy, Debug, PartialEq, Eq)]
+pub struct Stream {
+    pub reserved: bool,
+    /// P.
+    pub permitted: u16,
+    pub place: u8,
+    pub left: u16,
+}
+
+extern "C" {
+    fn bunnysolder_stream_arrive(stream: &mut Stream, charge: u16, first: &mut u32, second: &mut u32) -> u8;
+}
+
+/// A frame of this charge arrives on a stream that is kept by itself.
+#[inline]
+pub fn stream_arrive(stream: &mut Stream, charge: u16) -> Reply {
+    let (mut first, mut second) = (UNWRITTEN, UNWRITTEN);
+    // The stream is lent whole, with a mark that is a bool of Rust's, and the two numbers are this function's own.
+    let refusal = unsafe { bunnysolder_stream_arrive(stream, charge, &mut first, &mut second) };
+    Reply { refusal, first, second }
 }

@@ -1,5 +1,6 @@
 // The calls of a port for a host in C or Rust, over the record and the memory that the host lends. The refusal, or 0, is returned, and the
 // two reply numbers are left in `first` and `second`. None asks anything of its caller; a contract is that of the call in `port`.
+pub mod alone;
 pub mod unscanned;
 
 ghost use mathlib.Core.Path.{_≡_};

@@ -4,7 +4,7 @@ ghost use mathlib.Core.Path.{_≡_};
 ghost use Prim.Native.Nat.{_≤_, _<_};
 ghost use Rattle.stream.specs.State.{lastPlace, atPlace, fullAt, reserveOf};
 ghost use Rattle.stream.specs.Steps.{advanced, advancedIfSpent, joined, discarded, arriveOf, tickOf};
-ghost use Rattle.stream.specs.Replies.{replyOf};
+ghost use Rattle.stream.specs.Replies.{replyOf, streamOf};
 
 // The first place, current.
 pub const CURRENT: u8 = 1;
@@ -17,6 +17,7 @@ const DISCARD: u8 = 14;
 
 // One stream: whether it is reserved, its permitted octets per epoch (P), its place, and the octets still free there (left). The methods
 // below neither read nor change whether it is reserved: that is for the port to ask.
+#[repr(C)]
 pub struct Stream {
     pub reserved: bool,
     pub permitted: u16,
@@ -132,6 +133,15 @@ impl Stream {
         self.discarded()
     }
 
+    // An arrival on a stream that the caller keeps: the record that the rule hands back is stored.
+    pub fn receive(&mut self, charge: u16) -> Arrival
+        ensures { λ r. ⌜ (r ≡ arriveOf lastPlace (now (self .entry)) charge) × (now (self .exit) ≡ streamOf (arriveOf lastPlace (now (self .entry)) charge)) ⌝ }
+    {
+        let arrival = (*self).arrive(charge);
+        *self = arrival.stream();
+        arrival
+    }
+
     // A tick: at current the stream has all of P again; from a later place it comes one place nearer.
     pub fn tick(self) -> Stream
         ensures { λ r. ⌜ r ≡ tickOf self ⌝ }
@@ -144,6 +154,16 @@ impl Stream {
 }
 
 impl Arrival {
+    // The stream's record after the arrival.
+    pub fn stream(self) -> Stream
+        ensures { λ r. ⌜ r ≡ streamOf self ⌝ }
+    {
+        match self {
+            Arrival::Joined(_, stream) => stream,
+            Arrival::Discarded(stream) => stream,
+        }
+    }
+
     // The reply to the arrival.
     pub fn reply(self) -> Reply
         ensures { λ r. ⌜ r ≡ replyOf self ⌝ }

@@ -42,7 +42,7 @@ struct Part {
 const PARTS: [Part; 5] = [
     Part { copied: "model", module: "model", plays: &[("model", "call"), ("replay", "replay::replay")] },
     Part { copied: "in_place", module: "in_place", plays: &[("in_place", "call")] },
-    Part { copied: "exports.rs", module: "exports", plays: &[("exports", "call"), ("quick", "unscanned")] },
+    Part { copied: "exports.rs", module: "exports", plays: &[("exports", "call"), ("quick", "unscanned"), ("stream", "stream_arrive")] },
     Part { copied: "guarantee/claims.rs", module: "claims", plays: &[("check", "check")] },
     Part { copied: "guarantee/pairs.rs", module: "pairs", plays: &[("pair", "check")] },
 ];

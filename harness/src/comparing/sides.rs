@@ -3,6 +3,7 @@
 use std::fmt;
 
 use crate::call::{Given, Reply};
+use crate::exports::Stream;
 use crate::guarantee::found::{Alike, Broken, Found};
 use crate::guarantee::list::Event;
 use crate::guarantee::{claims, pairs};
@@ -10,6 +11,9 @@ use crate::{exports, in_place, model};
 
 /// How a call is played on a lent record and memory.
 pub type Play = fn(&Given, &mut [u8], &mut [u8]) -> Reply;
+
+/// How a frame of a charge arrives on a stream that is kept by itself.
+pub type Receive = fn(&mut Stream, u16) -> Reply;
 
 /// What `replay` prints of a capture.
 pub type Replay = fn(&[u8]) -> String;
@@ -38,6 +42,8 @@ pub enum Side {
 pub struct Sides {
     pub exports: Play,
     pub quick: Play,
+    /// The proved rule of one stream by itself.
+    pub stream: Receive,
     pub model: Play,
     pub in_place: Play,
     /// The outside program's `replay`.
@@ -51,6 +57,7 @@ impl Sides {
     pub const SOUND: Sides = Sides {
         exports: exports::call,
         quick: exports::unscanned,
+        stream: exports::stream_arrive,
         model: model::call,
         in_place: in_place::call,
         replay: model::replay::replay,

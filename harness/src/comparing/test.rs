@@ -11,6 +11,7 @@ use crate::comparing::sides::Sides;
 /// The kinds of tests.
 #[derive(Clone, Copy, Debug, PartialEq, Eq)]
 pub enum Kind {
+    Streams,
     Lists,
     Records,
     Quick,
@@ -20,7 +21,8 @@ pub enum Kind {
 }
 
 /// Each kind with the word that names it on the command line.
-pub const KINDS: [(&str, Kind); 6] = [
+pub const KINDS: [(&str, Kind); 7] = [
+    ("streams", Kind::Streams),
     ("lists", Kind::Lists),
     ("records", Kind::Records),
     ("quick", Kind::Quick),

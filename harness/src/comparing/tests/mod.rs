@@ -1,4 +1,4 @@
-//! The tests of each kind: `lists` and `sample` hold the calls against the model on lists of calls, `records` on records of any content, and `quick`
+//! The tests of each kind: `streams` holds the rule of one stream by itself against the model; `lists` and `sample` hold the calls against the model on lists of calls, `records` on records of any content, and `quick`
 //! and `fences` are about the quick calls and about octets outside the lent ones; `bindings` and `frames` are about Bind and Frame; `guarantee`
 //! holds lists of calls against demand 3; `captures` and `damaged` hold the program `replay` against the outside program's, and `failing` is about
 //! its input and output themselves.
@@ -15,12 +15,13 @@ pub mod lists;
 pub mod quick;
 pub mod records;
 pub mod sample;
+pub mod streams;
 
 use crate::comparing::test::Test;
 
 /// All tests, in the order in which they are run.
 pub fn all() -> Vec<Test> {
-    let of_calls = [&sample::TESTS[..], &lists::TESTS, &records::TESTS, &quick::TESTS, &fences::TESTS];
+    let of_calls = [&streams::TESTS[..], &sample::TESTS, &lists::TESTS, &records::TESTS, &quick::TESTS, &fences::TESTS];
     let of_frames = [&bindings::TESTS[..], &frames::TESTS];
     let of_captures = [&captures::TESTS[..], &damaged::TESTS, &failing::TESTS];
     [of_calls.concat(), of_frames.concat(), guarantee::TESTS.to_vec(), of_captures.concat()].concat()
