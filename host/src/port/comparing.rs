@@ -1,0 +1,201 @@
+//! Random lists of calls through a port, held against the independent model: each reply in document 01's numbers, and after each call every octet of
+//! record and memory.
+
+use std::path::Path;
+
+use harness::call::{Call, Reply};
+use harness::comparing::calls::{Charges, Profile, Weights, ORDINARY};
+use harness::comparing::compared::Step;
+use harness::comparing::coverage::{prior_waits, Seen};
+use harness::comparing::fit::Octets;
+use harness::comparing::profiles::{self, any_profile, FEW_STREAMS, FULL_LINK, HARDLY_ANY_TRANSMITS, MANY_STREAMS, WRONG_ARGUMENTS};
+use harness::comparing::random::Random;
+use harness::comparing::sides::Sides;
+use harness::comparing::test::Run;
+use harness::comparing::tests::lists::at_each_place;
+use harness::model;
+
+use super::Port;
+use crate::{Framed, Joined, Queue, Refusal, Sent};
+
+/// The seed of the lists.
+const SEED: u64 = 1;
+/// The refusals that no port meets once it is open.
+const NEVER_MET: [u8; 5] = [1, 2, 18, 19, 20];
+
+/// L and K at the ends of their ranges and outside them.
+#[test]
+fn opened_at_the_ends() -> Result<(), String> {
+    let mut run = run("opened_at_the_ends");
+    let mut random = run.next_list();
+    for _ in 0..400 {
+        Both::open(&mut run, &ORDINARY.open(&mut random, true));
+    }
+    run.demand(&[(Seen::Opened, 100), (Seen::Refused(3), 50), (Seen::Refused(4), 50)])
+}
+
+/// Few streams, which arrivals press at every place.
+#[test]
+fn few_streams_pressed() -> Result<(), String> {
+    let run = play("few_streams_pressed", 8, 400, |_| FEW_STREAMS)?;
+    run.demand(&at_each_place(Seen::JoinedAt, 100))?;
+    run.demand(&at_each_place(Seen::ExactFitAt, 25))?;
+    run.demand(&[(Seen::Refused(14), 300), (Seen::FrameRefused(14), 50), (Seen::FrameArrived, 50)])
+}
+
+/// All 64 streams, with reservations up to the share and past it.
+#[test]
+fn many_streams_pressed_to_the_share() -> Result<(), String> {
+    let run = play("many_streams_pressed_to_the_share", 8, 500, |_| MANY_STREAMS)?;
+    run.demand(&[(Seen::Refused(8), 100), (Seen::ShareFilled, 1), (Seen::AllReserved, 1), (Seen::Reserved, 100), (Seen::Bound, 100)])
+}
+
+/// Queues of 256 frames.
+#[test]
+fn full_queues() -> Result<(), String> {
+    let run = play("full_queues", 2, 2_500, profiles::full_queues)?;
+    run.demand(&[(Seen::QueueFilled, 1), (Seen::Refused(14), 100), (Seen::PurgedFrame, 200)])
+}
+
+/// Hardly any transmits, so that ticks purge.
+#[test]
+fn withheld_transmits() -> Result<(), String> {
+    let run = play("withheld_transmits", 8, 400, |_| HARDLY_ANY_TRANSMITS)?;
+    run.demand(&[(Seen::PurgedFrame, 500), (Seen::SentFromPrior, 25), (Seen::Ticked, 400)])
+}
+
+/// Best effort of 256 frames and one more.
+#[test]
+fn best_effort_filled() -> Result<(), String> {
+    let weights = Weights { open: 0, reserve: 0, arrive: 0, tick: 1, transmit: 20, best_effort: 100, bind: 0, frame: 10, close: 0 };
+    let profile = Profile { weights, links: FULL_LINK..=FULL_LINK, charges: Charges::Least, ..ORDINARY };
+    let run = play("best_effort_filled", 2, 700, |_| profile.clone())?;
+    run.demand(&[(Seen::BestEffortFilled, 20), (Seen::Refused(15), 200), (Seen::FrameRefused(15), 10), (Seen::SentFromBestEffort, 100)])
+}
+
+/// Every argument outside its range, at its ends and where fewer bits would hide it.
+#[test]
+fn arguments_out_of_range() -> Result<(), String> {
+    let run = play("arguments_out_of_range", 12, 400, |_| WRONG_ARGUMENTS)?;
+    run.demand(&[5, 6, 7, 8, 9, 10, 11, 12, 13, 16, 17].map(|refusal| (Seen::Refused(refusal), 3)))
+}
+
+/// Everything, with other weights in each list.
+#[test]
+fn mixture() -> Result<(), String> {
+    let run = play("mixture", 20, 250, any_profile)?;
+    run.demand(&[Seen::SentFromPrior, Seen::SentFromCurrent, Seen::SentFromBestEffort, Seen::SentNothing].map(|seen| (seen, 25)))?;
+    run.demand(&[(Seen::Ticked, 200), (Seen::PurgedFrame, 200), (Seen::Bound, 25), (Seen::FrameArrived, 75), (Seen::FrameBestEffort, 200)])
+}
+
+/// A run of a test, in which only the model and a port are played.
+fn run(test: &'static str) -> Run<'static> {
+    Run::new(test, SEED, 100, Sides::SOUND, Path::new(""))
+}
+
+/// Plays lists of calls, each from a granted Open on; none is refused for what a host lends, or as on a closed port.
+fn play(test: &'static str, lists: usize, calls: usize, profile: impl Fn(&mut Random) -> Profile) -> Result<Run<'static>, String> {
+    let mut run = run(test);
+    for _ in 0..lists {
+        let mut random = run.next_list();
+        let profile = once_opened(profile(&mut random));
+        let mut both = Both::open(&mut run, &profile.open(&mut random, false)).expect("L and K are in their ranges");
+        both.play_list(&mut run, &mut random, &profile, calls);
+    }
+    NEVER_MET.iter().try_for_each(|&refusal| run.demand_none(Seen::Refused(refusal)))?;
+    Ok(run)
+}
+
+/// The profile with the steps of a host that owns a port: it opens it once, and writes none of its octets.
+fn once_opened(profile: Profile) -> Profile {
+    Profile { weights: Weights { open: 0, close: 0, ..profile.weights }, ..profile }
+}
+
+/// A port, and the octets that the model leaves of the same calls.
+struct Both {
+    port: Port,
+    octets: Octets,
+}
+
+impl Both {
+    /// Opens both, the model's on octets of zeros, which must do the same; nothing where the Open is refused.
+    fn open(run: &mut Run, call: &Call) -> Option<Both> {
+        let Call::Open { link, delay } = *call else { unreachable!("a list begins with an Open") };
+        let mut octets = Octets::zero();
+        let reply = model::call(&call.given(), &mut octets.record, &mut octets.memory);
+        run.count_call(call, &reply, &octets.record, false);
+        let opened = Port::open(link, delay);
+        let share = opened.as_ref().map(Port::share).map_err(|refusal| *refusal);
+        assert_eq!(numbers(share, |share| (share, 0)), reply, "{}: {call}", run.place);
+        let both = Both { port: opened.ok()?, octets };
+        both.assert_same_octets(run, call);
+        Some(both)
+    }
+
+    /// Plays the calls of one list.
+    fn play_list(&mut self, run: &mut Run, random: &mut Random, profile: &Profile, calls: usize) {
+        for _ in 0..calls {
+            let Step::Call(call) = profile.step(random, &self.octets.record) else { unreachable!("the host writes no octet") };
+            self.play(run, &call);
+        }
+    }
+
+    /// Plays a call on both, which must do the same.
+    fn play(&mut self, run: &mut Run, call: &Call) {
+        let prior_waited = prior_waits(&self.octets.record);
+        let reply = model::call(&call.given(), &mut self.octets.record, &mut self.octets.memory);
+        assert_eq!(through(&mut self.port, call), reply, "{}, call {}: {call}", run.place, run.calls);
+        self.assert_same_octets(run, call);
+        run.count_call(call, &reply, &self.octets.record, prior_waited);
+    }
+
+    /// The port's record and memory are the model's, octet for octet.
+    fn assert_same_octets(&self, run: &Run, call: &Call) {
+        assert!(self.port.record[..] == self.octets.record, "{}, call {}: {call}: the records differ", run.place, run.calls);
+        assert!(self.port.memory[..] == self.octets.memory, "{}, call {}: {call}: the memories differ", run.place, run.calls);
+    }
+}
+
+/// Calls the port's method for a call; its reply in document 01's numbers.
+fn through(port: &mut Port, call: &Call) -> Reply {
+    match *call {
+        Call::Open { .. } => unreachable!("a port is opened once"),
+        Call::Reserve { stream, permitted } => numbers(port.reserve(stream, permitted), |reserved| (reserved.free, 0)),
+        Call::Arrive { stream, charge, tag } => numbers(port.arrive(stream, charge, tag), of_arrival),
+        Call::Tick => numbers(port.tick(), |purged| (purged.frames, purged.octets)),
+        Call::Transmit => numbers(port.transmit(), of_sent),
+        Call::BestEffort { charge, tag } => numbers(port.best_effort(charge, tag), |waiting| (waiting.octets, 0)),
+        Call::Bind { stream, ref address, vid } => numbers(port.bind(stream, address, vid), |()| (0, 0)),
+        Call::Frame { ref octets, tag } => numbers(port.frame(octets, tag), |framed| match framed {
+            Framed::Arrived(joined) => of_arrival(joined),
+            Framed::BestEffort(waiting) => (waiting.octets, 0),
+        }),
+    }
+}
+
+/// A method's reply in document 01's numbers, those of a grant as given.
+fn numbers<T>(reply: Result<T, Refusal>, granted: impl FnOnce(T) -> (u32, u32)) -> Reply {
+    match reply.map(granted) {
+        Ok((first, second)) => Reply::granted(first, second),
+        Err(refusal) => Reply::refused(refusal.number()),
+    }
+}
+
+/// "queue joined (1 current, 2 next, 3 last), left after the step".
+fn of_arrival(joined: Joined) -> (u32, u32) {
+    let queue = match joined.queue {
+        Queue::Current => 1,
+        Queue::Next => 2,
+        Queue::Last => 3,
+    };
+    (queue, joined.left)
+}
+
+/// "stream (255 best effort, 254 nothing), tag (0 for nothing)".
+fn of_sent(sent: Sent) -> (u32, u32) {
+    match sent {
+        Sent::Reserved { stream, tag } => (u32::from(stream), tag),
+        Sent::BestEffort { tag } => (255, tag),
+        Sent::Nothing => (254, 0),
+    }
+}
