@@ -8,10 +8,10 @@
 //!
 //! The library is built, with its proofs, by `bash examples/run` in the repository.
 //!
-//! # Example: a stream that passes two ports
+//! # Example: two ports of a node relay a stream over an epoch's end
 //!
-//! What one port transmits arrives at the other. Their ticks are not synchronized: an epoch of the second port ends between the two frames, so the
-//! second frame joins current there, where it had joined next at the first port.
+//! Each frame of the stream goes out by both ports, to a neighbour each. The ports' ticks are not synchronized: an epoch of the second port ends
+//! between two frames, so the second frame waits for the next epoch at the first port, and not at the second.
 //!
 //! ```
 //! use bunnysolder::{Joined, Port, Purged, Queue, Refusal, Reserved, Sent};
@@ -23,30 +23,32 @@
 //! assert_eq!(first.reserve(5, 200)?, Reserved { free: 400 });
 //! assert_eq!(second.reserve(5, 200)?, Reserved { free: 400 });
 //!
-//! // Two frames come in one epoch of the first port. Frame 7: 120 ≤ 200, so it joins current, and 200 − 120 = 80 are left. Frame 8: 100 > 80, so the
-//! // stream advances to next with all 200 left; 100 ≤ 200, so it joins next, and 200 − 100 = 100 are left.
+//! // Frame 7: 120 ≤ 200, so it joins current at both ports, and 200 − 120 = 80 are left.
 //! assert_eq!(first.arrive(5, 120, 7)?, Joined { queue: Queue::Current, left: 80 });
-//! assert_eq!(first.arrive(5, 100, 8)?, Joined { queue: Queue::Next, left: 100 });
-//!
-//! // Prior is empty, so frame 7 is sent from current. It arrives at the second port, and joins current there too. Now prior and current are empty at
-//! // the first port, and no best effort waits: nothing is sent, though frame 8 waits in next.
-//! assert_eq!(first.transmit()?, Sent::Reserved { stream: 5, tag: 7 });
 //! assert_eq!(second.arrive(5, 120, 7)?, Joined { queue: Queue::Current, left: 80 });
-//! assert_eq!(first.transmit()?, Sent::Nothing);
 //!
-//! // An epoch of the first port ends. Prior was empty, so nothing is purged. Next becomes current, and frame 8 is sent from there.
+//! // An epoch of the second port ends. Prior was empty, so nothing is purged; frame 7 is in prior now, and the stream is at current with 200 again.
+//! assert_eq!(second.tick()?, Purged { frames: 0, octets: 0 });
+//!
+//! // Frame 8. At the first port 100 > 80, so the stream advances to next with all 200 left, and the frame joins next. At the second 100 ≤ 200.
+//! assert_eq!(first.arrive(5, 100, 8)?, Joined { queue: Queue::Next, left: 100 });
+//! assert_eq!(second.arrive(5, 100, 8)?, Joined { queue: Queue::Current, left: 100 });
+//!
+//! // The first port sends frame 7 from current, and then nothing: frame 8 waits in next. The second sends 7 from prior and 8 from current.
+//! assert_eq!(first.transmit()?, Sent::Reserved { stream: 5, tag: 7 });
+//! assert_eq!(first.transmit()?, Sent::Nothing);
+//! assert_eq!(second.transmit()?, Sent::Reserved { stream: 5, tag: 7 });
+//! assert_eq!(second.transmit()?, Sent::Reserved { stream: 5, tag: 8 });
+//!
+//! // The epoch of the first port ends: next becomes current, and frame 8 is sent from there.
 //! assert_eq!(first.tick()?, Purged { frames: 0, octets: 0 });
 //! assert_eq!(first.transmit()?, Sent::Reserved { stream: 5, tag: 8 });
 //!
-//! // Before frame 8 arrives at the second port, an epoch ends there too. Prior was empty, so nothing is purged; frame 7 is in prior now. The stream
-//! // stays at current, with left 200 again. Frame 8: 100 ≤ 200, so it joins current, and 200 − 100 = 100 are left.
+//! // Frame 9 at the second port: 84 ≤ 100, so it joins current. No transmit comes there for two epochs' ends, so the link condition fails: the first
+//! // tick makes the frame prior, the second purges it, 1 frame of 84 octets.
+//! assert_eq!(second.arrive(5, 84, 9)?, Joined { queue: Queue::Current, left: 16 });
 //! assert_eq!(second.tick()?, Purged { frames: 0, octets: 0 });
-//! assert_eq!(second.arrive(5, 100, 8)?, Joined { queue: Queue::Current, left: 100 });
-//!
-//! // No transmit comes at the second port until this epoch ends too, so the link condition fails there: frame 7 still waits in prior and is purged,
-//! // 1 frame of 120 octets. Frame 8, which was in current, is in prior now and is sent from there.
-//! assert_eq!(second.tick()?, Purged { frames: 1, octets: 120 });
-//! assert_eq!(second.transmit()?, Sent::Reserved { stream: 5, tag: 8 });
+//! assert_eq!(second.tick()?, Purged { frames: 1, octets: 84 });
 //! assert_eq!(second.transmit()?, Sent::Nothing);
 //! # Ok::<(), Refusal>(())
 //! ```
