@@ -81,7 +81,7 @@ impl fmt::Display for Call {
 }
 
 /// Octets in hexadecimal, with a space between any two.
-fn hexadecimal(octets: &[u8]) -> String {
+pub fn hexadecimal(octets: &[u8]) -> String {
     let texts: Vec<String> = octets.iter().map(|octet| format!("{octet:02x}")).collect();
     texts.join(" ")
 }

@@ -12,3 +12,4 @@ pub mod in_place;
 pub mod layout;
 pub mod model;
 pub mod recording;
+pub mod timeline;

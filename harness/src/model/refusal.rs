@@ -1,4 +1,4 @@
-//! The refusal numbers of document 01, "Who can bring a call to grief", each named once.
+//! The refusal numbers of document 01, "Who can bring a call to grief", each named once, and what the document says of each.
 
 /// "1 port closed".
 pub const PORT_CLOSED: u8 = 1;
@@ -48,3 +48,44 @@ pub const CAPTURE_HEADER: u8 = 22;
 pub const CAPTURE_INDEX: u8 = 23;
 /// "24 kind, stream octet, unused number or zero octets".
 pub const CAPTURE_RECORD: u8 = 24;
+
+/// What document 01 says of each refusal, in the order of the numbers, with the ends of a range that it names elsewhere.
+const WORDS: [(u8, &str); 24] = [
+    (PORT_CLOSED, "port closed"),
+    (OPEN_ALREADY, "open already"),
+    (LINK_OUTSIDE, "L outside its range, 1,626 to 23,046"),
+    (DELAY_OUTSIDE, "K outside its range, 1 to 16"),
+    (STREAM_ABOVE, "stream above 63"),
+    (RESERVED_ALREADY, "reserved already"),
+    (PERMITTED_BELOW, "P below 84"),
+    (SHARE_EXCEEDED, "sum of P above the share, which is L less 1,542"),
+    (VID_OUTSIDE, "VID outside 1 to 4,094"),
+    (BOUND_ALREADY, "stream bound already"),
+    (PAIR_BOUND_ALREADY, "pair bound already"),
+    (NOT_RESERVED, "stream not reserved"),
+    (CHARGE_OUTSIDE, "charge outside 84 to 1,542"),
+    (DISCARD, "discard"),
+    (BEST_EFFORT_FULL, "256 best-effort frames waiting"),
+    (BEST_EFFORT_EXCEEDED, "W + charge above K × (L − R)"),
+    (FRAME_LENGTH, "frame outside 60 to 1,518 octets"),
+    (MEMORY_SHORT, "lent memory under 1,280 places"),
+    (RECORD_UNFIT, "port record unfit"),
+    (QUEUE_FULL, "the chosen queue holds 256"),
+    (CAPTURE_LENGTH, "file length not a multiple of 16, under 16 or over 65,536"),
+    (CAPTURE_HEADER, "header letters or zero octets"),
+    (CAPTURE_INDEX, "first or next index"),
+    (CAPTURE_RECORD, "kind, stream octet, unused number or zero octets"),
+];
+
+/// What document 01 says of a refusal; of a number that is none, nothing.
+pub fn words(refusal: u8) -> Option<&'static str> {
+    WORDS.iter().find(|(number, _)| *number == refusal).map(|&(_, words)| words)
+}
+
+/// A refusal in words: its number, and what document 01 says of it.
+pub fn told(refusal: u8) -> String {
+    match words(refusal) {
+        Some(words) => format!("refused with {refusal}: {words}"),
+        None => format!("refused with {refusal}, which is no refusal's number"),
+    }
+}

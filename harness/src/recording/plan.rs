@@ -6,11 +6,7 @@ use crate::capture::lines::{self, BadText};
 use crate::capture::words::Words;
 use crate::capture::writing::event;
 use crate::model::port::Port;
-use crate::model::refusal::{
-    BOUND_ALREADY, DELAY_OUTSIDE, LINK_OUTSIDE, NOT_RESERVED, OPEN_ALREADY, PAIR_BOUND_ALREADY, PERMITTED_BELOW, PORT_CLOSED,
-    RESERVED_ALREADY, SHARE_EXCEEDED, STREAM_ABOVE, VID_OUTSIDE,
-};
-use crate::model::rule;
+use crate::model::{refusal, rule};
 
 /// Begins the line with the epoch's length.
 const EPOCH: &str = "epoch";
@@ -25,22 +21,6 @@ const BETWEEN_OCTETS: char = ':';
 /// The base of an octet's digits, and how many it has.
 const HEXADECIMAL: u32 = 16;
 const DIGITS: usize = 2;
-
-/// What document 01 says of the refusals that a plan can meet.
-const REFUSALS: [(u8, &str); 12] = [
-    (PORT_CLOSED, "port closed"),
-    (OPEN_ALREADY, "open already"),
-    (LINK_OUTSIDE, "L outside its range, 1,626 to 23,046"),
-    (DELAY_OUTSIDE, "K outside its range, 1 to 16"),
-    (STREAM_ABOVE, "stream above 63"),
-    (RESERVED_ALREADY, "reserved already"),
-    (PERMITTED_BELOW, "P below 84"),
-    (SHARE_EXCEEDED, "sum of P above the share, which is L less 1,542"),
-    (VID_OUTSIDE, "VID outside 1 to 4,094"),
-    (BOUND_ALREADY, "stream bound already"),
-    (PAIR_BOUND_ALREADY, "pair bound already"),
-    (NOT_RESERVED, "stream not reserved"),
-];
 
 /// A plan without fault.
 #[derive(Debug, PartialEq, Eq)]
@@ -125,9 +105,9 @@ impl Reading {
 
 /// Fails where a call is refused, with the number and what document 01 says of it.
 fn granted(reply: Reply) -> Result<(), String> {
-    match REFUSALS.iter().find(|(refusal, _)| *refusal == reply.refusal) {
-        None => Ok(()),
-        Some((refusal, what)) => Err(format!("refused with {refusal}: {what}")),
+    match reply.refusal {
+        0 => Ok(()),
+        refusal => Err(refusal::told(refusal)),
     }
 }
 
