@@ -7,7 +7,20 @@ use std::ops::RangeInclusive;
 use crate::call::{Call, Reply};
 use crate::model::port::Port;
 use crate::model::rule;
+use crate::timeline::page::Part;
 
+pub mod bands;
+pub mod drawing;
+pub mod following;
+pub mod frames;
+pub mod headings;
+pub mod legend;
+pub mod look;
+pub mod page;
+pub mod svg;
+#[cfg(test)]
+mod tests;
+pub mod tool;
 pub mod words;
 
 /// How many events of a port a picture shows at most, and how many frames that wait in one queue at once.
@@ -18,8 +31,8 @@ pub const MOST: usize = 64;
 pub enum TooMany {
     /// Events of the port that were to be shown.
     Events { port: usize, shown: RangeInclusive<usize> },
-    /// Frames that wait in a queue at an event.
-    Frames { port: usize, event: usize, role: &'static str, waiting: usize },
+    /// Frames that wait in the queue of a role at an event.
+    Frames { port: usize, event: usize, role: &'static str },
 }
 
 impl fmt::Display for TooMany {
@@ -27,11 +40,14 @@ impl fmt::Display for TooMany {
         match self {
             TooMany::Events { port, shown } => {
                 let (first, last) = (shown.start(), shown.end());
-                let count = last + 1 - first;
-                write!(f, "port {port} has {count} events from {first} to {last}, and a picture shows at most {MOST}")
+                write!(
+                    f,
+                    "{} events of port {port}, {first} to {last}, are to be drawn, and a picture shows at most {MOST}",
+                    last + 1 - first
+                )
             }
-            TooMany::Frames { port, event, role, waiting } => {
-                write!(f, "after event {event} of port {port} {waiting} frames wait in {role}, and a picture shows at most {MOST}")
+            TooMany::Frames { port, event, role } => {
+                write!(f, "at event {event} of port {port} more than {MOST} frames wait in {role}, and a picture shows at most {MOST}")
             }
         }
     }
@@ -44,13 +60,9 @@ pub fn replied(events: &[Call]) -> Vec<(Call, Reply)> {
 }
 
 /// The picture, as the text of an SVG file, of those events of a port that are shown by their numbers. The events are all that the port had, from its
-/// first on, with their replies, since what waits when the first one that is shown comes depends on those before it.
+/// first on, with their replies, since what waits when the first one that is shown comes depends on those before it. They are events of a capture, so
+/// none is a Bind or a Frame.
 pub fn drawn(port: usize, events: &[(Call, Reply)], shown: RangeInclusive<usize>, title: &str) -> Result<String, TooMany> {
     let shown = (*shown.start()).max(1)..=(*shown.end()).min(events.len());
-    if shown.clone().count() > MOST {
-        return Err(TooMany::Events { port, shown });
-    }
-    let lines = shown.map(|number| words::event(number, &events[number - 1].0, &events[number - 1].1));
-    let texts: String = lines.enumerate().map(|(row, line)| format!("<text x=\"10\" y=\"{}\">{line}</text>\n", 40 + 20 * row)).collect();
-    Ok(format!("<svg xmlns=\"http://www.w3.org/2000/svg\" width=\"1000\" height=\"1400\">\n<text x=\"10\" y=\"20\">{title}</text>\n{texts}</svg>\n"))
+    page::picture(&[Part { port, events, shown }], title)
 }

@@ -3,15 +3,13 @@
 
 use crate::call::{hexadecimal, Call, Reply};
 use crate::model::capture::Refused;
-use crate::model::port::{BEST_EFFORT_STREAM, CURRENT, LAST, NOTHING, STREAMS};
+use crate::model::port::{BEST_EFFORT_STREAM, CURRENT, LAST, NOTHING, QUEUES, STREAMS};
 use crate::model::refusal;
 
-/// The role of best effort's queue.
+/// The roles of the queues by name: those of the reserved queues by place, prior before current, then best effort.
+pub const ROLES: [&str; QUEUES] = ["prior", "current", "next", "last", BEST_EFFORT];
+/// The role of best effort's queue, and the call.
 pub const BEST_EFFORT: &str = "best effort";
-/// The roles of the reserved queues by place, prior first.
-pub const ROLES: [&str; 4] = ["prior", "current", "next", "last"];
-/// The place prior, before current.
-pub const PRIOR: u8 = CURRENT - 1;
 
 /// What a call asks.
 pub fn call(call: &Call) -> String {
