@@ -4,7 +4,7 @@
 use std::ops::Range;
 
 use crate::call::{Call, Reply};
-use crate::model::port::{Frame, BEST_EFFORT_STREAM, NOTHING};
+use crate::model::port::{BEST_EFFORT_STREAM, NOTHING};
 use crate::timeline::bands::{Band, Scene};
 use crate::timeline::look::{BESIDE_BOX, BESIDE_EPOCH, CROSSED, FAINT, HEADING_LINE, NAME, NONE, NOTE, RED, REFUSAL, SHADE, TICK};
 use crate::timeline::svg::{Area, Letters, Point, Side, Svg, FOOT};
@@ -129,11 +129,11 @@ pub fn put_crossed(svg: &mut Svg, area: Area) {
     svg.line(Point { x: left, y: area.bottom() }, Point { x: area.right(), y: top }, &cross);
 }
 
-/// What the box of a refused call says beside the number.
+/// What the box of a refused call says beside the number: stream and tag of a frame, where any octet may be the stream, or the call's name.
 pub fn refused_words(call: &Call) -> String {
-    match *call {
-        Call::Arrive { stream, charge, tag } => frames::label(&Frame { stream: u32::from(stream), charge, tag }),
-        Call::BestEffort { charge, tag } => frames::label(&Frame { stream: BEST_EFFORT_STREAM, charge, tag }),
-        ref other => String::from(headings::asked(other).0),
+    match call {
+        Call::Arrive { stream, tag, .. } => format!("{stream}: {tag}"),
+        Call::BestEffort { tag, .. } => tag.to_string(),
+        other => String::from(headings::asked(other).0),
     }
 }

@@ -80,7 +80,7 @@ impl Following {
     /// Follows what a granted event does to the frames.
     fn follow(&mut self, event: usize, call: &Call, reply: &Reply) {
         match *call {
-            Call::Arrive { stream, charge, tag } if (u32::from(CURRENT)..=u32::from(LAST)).contains(&reply.first) => {
+            Call::Arrive { stream, charge, tag } if reply.first < RESERVED_QUEUES as u32 => {
                 self.join(event, reply.first as usize, Frame { stream: u32::from(stream), charge, tag });
             }
             Call::BestEffort { charge, tag } => self.join(event, BEST_EFFORT, Frame { stream: BEST_EFFORT_STREAM, charge, tag }),

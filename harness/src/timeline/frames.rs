@@ -102,8 +102,8 @@ fn put_way(svg: &mut Svg, scene: &Scene, band: &Band, stay: &Stay) {
 /// A red cross on a disc, where a frame is purged.
 pub fn put_purged(svg: &mut Svg, middle: Point) {
     let Point { x, y } = middle;
-    svg.disc(middle, 8, &format!("fill=\"#ffffff\" stroke=\"{RED}\" stroke-width=\"2\""));
+    svg.disc(middle, 7, &format!("fill=\"#ffffff\" stroke=\"{RED}\" stroke-width=\"2\""));
     let cross = format!("stroke=\"{RED}\" stroke-width=\"2\"");
-    svg.line(Point { x: x - 4, y: y - 4 }, Point { x: x + 4, y: y + 4 }, &cross);
-    svg.line(Point { x: x - 4, y: y + 4 }, Point { x: x + 4, y: y - 4 }, &cross);
+    svg.line(Point { x: x - 3, y: y - 3 }, Point { x: x + 3, y: y + 3 }, &cross);
+    svg.line(Point { x: x - 3, y: y + 3 }, Point { x: x + 3, y: y - 3 }, &cross);
 }

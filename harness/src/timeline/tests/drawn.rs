@@ -1,7 +1,9 @@
 //! What is seen in the pictures of small captures, derived by hand from document 01.
 
 use super::seen::Seen;
-use super::{played, SAMPLE};
+use super::{any_events, played, SAMPLE};
+use crate::call::Reply;
+use crate::comparing::random::Random;
 use crate::timeline::drawn;
 
 /// What is seen in the picture of all events of a text form.
@@ -130,4 +132,34 @@ fn a_band_that_begins_with_a_tick_shows_what_waits_before_it() {
     assert_eq!(seen.boxes(), ["8 link stream 5 tag 8", "before 7 next 5: 8", "7 current 5: 8"]);
     assert_eq!(seen.epochs(), ["epoch 0 from before 7", "epoch 1 from 7"]);
     assert_eq!(seen.ticks(), ["7"]);
+}
+
+#[test]
+fn replies_of_another_make_are_drawn_as_they_are() {
+    let mut events = played(SAMPLE);
+    events[3].1 = Reply::granted(1, 180);
+    events[5].1 = Reply::granted(5, 8);
+    events[7].1 = Reply::granted(9, 1);
+    let seen = Seen::of(&drawn(0, &events, 1..=8, "").expect("the events fit"));
+    let boxes = ["5 link stream 5 tag 7", "6 link stream 5 tag 8", "8 link stream 9 tag 1", "3 current 5: 7", "4 current 5: 8"];
+    assert_eq!(seen.boxes(), boxes);
+    assert_eq!(seen.ways(), ["5: 7 from current to link at 5", "5: 8 from current to link at 6"]);
+}
+
+/// A reply that is any, or, as often, the one that is given.
+fn any_reply(random: &mut Random, reply: Reply) -> Reply {
+    if random.chance(50) {
+        return reply;
+    }
+    let first = random.pick(&[0, 1, 3, 4, 5, 254, 255, u32::MAX]);
+    Reply { refusal: random.pick(&[0, 0, 1, 14, 255]), first, second: random.number() }
+}
+
+#[test]
+fn any_replies_can_be_drawn() {
+    for number in 0..20 {
+        let random = &mut Random::of(1, "any replies", number);
+        let events = any_events(random).into_iter().map(|(call, reply)| (call, any_reply(random, reply)));
+        Seen::of(&drawn(0, &events.collect::<Vec<_>>(), 1..=usize::MAX, "").expect("the events fit"));
+    }
 }
