@@ -115,7 +115,7 @@ impl Palette {
     }
 }
 
-/// How wide a text is at most, in the widest of the usual fonts.
+/// How wide a text is at most, in a wide one of the usual fonts without serifs.
 pub fn width(text: &str, letters: Letters) -> i32 {
     let hundredths: i32 = text.chars().map(hundredths).sum();
     let bold = if letters.bold { 113 } else { 100 };
@@ -128,8 +128,8 @@ fn hundredths(character: char) -> i32 {
         'i' | 'j' | 'l' | ' ' | '.' | ',' | ':' | '\'' => 34,
         'f' | 'r' | 't' | '(' | ')' | '-' => 42,
         'c' | 'k' | 's' | 'v' | 'x' | 'y' | 'z' => 59,
-        'm' | 'w' | 'M' | 'W' => 100,
-        'A'..='Z' => 78,
+        'm' | 'w' | 'M' | 'W' | '#' | '%' | '&' | '+' | '<' | '=' | '>' | '@' | '^' | '~' => 100,
+        'A'..='Z' => 80,
         '\0'..='~' => 64,
         _ => 100,
     }

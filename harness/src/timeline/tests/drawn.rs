@@ -135,6 +135,59 @@ fn a_band_that_begins_with_a_tick_shows_what_waits_before_it() {
 }
 
 #[test]
+fn a_stream_has_a_colour_of_its_own_and_best_effort_a_broken_edge() {
+    let seen = seen("port 0\nopen 2142 1\nreserve 5 200\nreserve 6 200\narrive 5 84 1\narrive 6 84 2\nbest effort 84 3\ntick\ntransmit\ntransmit\ntransmit\n");
+    let looks = seen.looks();
+    let fills = |labels: [&str; 3]| labels.map(|label| looks.iter().find(|[own, ..]| own == label).expect("the box is there")[1].clone());
+    let [five, six, best_effort] = fills(["5: 1", "6: 2", "3"]);
+    assert!(five != six && six != best_effort && five != best_effort);
+    assert_eq!(fills(["stream 5 tag 1", "stream 6 tag 2", "best effort tag 3"]), [five.clone(), six.clone(), best_effort.clone()]);
+    for [label, fill, edge] in &looks {
+        assert_eq!(edge.is_empty(), *fill != best_effort, "{label}");
+        assert!([&five, &six, &best_effort].contains(&fill), "{label}");
+    }
+}
+
+#[test]
+fn a_pointer_that_rests_on_something_is_told_what_it_is() {
+    let seen = seen("port 0\nopen 2142 1\nreserve 5 200\narrive 5 84 1\ntick\ntick\narrive 5 84 2\nbest effort 84 3\ntransmit\n");
+    let titles = seen.titles();
+    let told = [
+        "current",
+        "stream 5, charge 84, tag 1: in current since event 3, moved on by the tick at event 4",
+        "stream 5, charge 84, tag 1: in prior since event 4, purged by the tick at event 5",
+        "stream 5, charge 84, tag 2: in current since event 6, sent at event 8",
+        "best effort, charge 84, tag 3: in best effort since event 7, still waiting after the last event",
+        "3 arrive on stream 5, charge 84, tag 1: joins current, 116 left",
+        "5 tick: purges 1 frame, 84 octets",
+    ];
+    for title in told {
+        assert!(titles.contains(&title), "{title}");
+    }
+}
+
+#[test]
+fn the_legend_tells_what_occurs_and_no_more() {
+    let told = |text: &str| seen(text).legend().join(" ");
+    let frame = "5: 1 frame of stream 5 with tag 1: the box where it joins a queue and where a tick has moved it, the bar while it waits, a line to the link \
+        where it is sent";
+    let tick = "tick: an epoch ends, prior is purged, current becomes prior, next becomes current, last becomes next";
+    let notes = "L: link octets in an epoch; K: best-effort delay bound in epochs";
+    let reserved = format!("{notes}; P: permitted octets of the stream per epoch");
+    assert_eq!(told("port 0\nopen 2142 1\ntransmit\n"), notes);
+    assert_eq!(told("port 0\nopen 2142 1\ntick\n"), format!("{tick} {notes}"));
+    let left = "left: octets still free at the stream's place after the arrival";
+    assert_eq!(told("port 0\nopen 2142 1\nreserve 5 200\narrive 5 84 1\ntransmit\n"), format!("{frame} {reserved}; {left}"));
+    let best_effort = "2 best-effort frame with tag 2, which no tick moves a bar that reaches the right edge: the frame still waits";
+    assert_eq!(
+        told("port 0\nopen 2142 1\nbest effort 84 2\n"),
+        format!("{best_effort}; {notes}; W: sum of charges waiting in best effort")
+    );
+    let discard = "14 refused, discard: the frame joins no queue; its stream is at last with left 0";
+    assert_eq!(told("port 0\nopen 2142 1\nreserve 5 200\narrive 5 201 1\n"), format!("{discard} {reserved}"));
+}
+
+#[test]
 fn replies_of_another_make_are_drawn_as_they_are() {
     let mut events = played(SAMPLE);
     events[3].1 = Reply::granted(1, 180);

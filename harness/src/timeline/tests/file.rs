@@ -2,14 +2,13 @@
 
 use super::seen::{Seen, STRONG};
 use super::xml::{elements, Element};
-use super::{any_events, played, SAMPLE};
+use super::{any_events, letters, played, SAMPLE};
 use crate::call::{Call, Reply};
 use crate::capture::stored;
 use crate::comparing::random::Random;
 use crate::model::capture::events;
-use crate::timeline::look::{self, WIDEST};
+use crate::timeline::look::{RED, WIDEST};
 use crate::timeline::page::{picture, Part};
-use crate::timeline::svg::Letters;
 use crate::timeline::{drawn, replied, MOST};
 
 /// Events with the largest numbers that they can have.
@@ -36,11 +35,10 @@ fn pictured(ports: &[Vec<(Call, Reply)>]) -> String {
     picture(&parts.collect::<Vec<Part>>(), "A title").expect("the events fit")
 }
 
-/// Where a text stands, at most.
+/// Where a text stands.
 fn edges_of_text(text: &Element) -> Edges {
-    let size = text.number("font-size");
-    let letters = Letters { size, bold: text.attribute("font-weight").is_some(), colour: "", edge: false };
-    let (wide, x, y) = (look::width(&text.text, letters), text.number("x"), text.number("y"));
+    let (size, bold) = (text.number("font-size"), text.attribute("font-weight").is_some());
+    let (wide, x, y) = (letters::width(&text.text, size, bold), text.number("x"), text.number("y"));
     let left = match text.attribute("text-anchor") {
         Some("middle") => x - wide / 2,
         Some("end") => x - wide,
@@ -96,6 +94,37 @@ fn nothing_stands_beyond_the_edges() {
         let beyond = |[left, top, right, bottom]: Edges| left < 0 || top < 0 || right > width || bottom > height;
         assert_eq!(seen.elements.iter().find(|element| edges(element).is_some_and(beyond)), None, "{name}");
     }
+}
+
+/// The rectangles of some looks, each with its edges.
+fn rectangles(seen: &Seen, is_one: impl Fn(&Element) -> bool) -> Vec<(&Element, Edges)> {
+    let found = seen.elements.iter().filter(|element| element.name == "rect" && is_one(element));
+    found.filter_map(|element| Some((element, edges(element)?))).collect()
+}
+
+#[test]
+fn no_box_stands_over_another_and_no_bar_over_another() {
+    for (name, file) in pictures() {
+        let seen = Seen::of(&file);
+        assert_eq!(overlapping(&rectangles(&seen, |area| area.attribute("rx").is_some())), None, "{name}");
+        assert_eq!(overlapping(&rectangles(&seen, |area| area.attribute("height") == Some("10"))), None, "{name}");
+    }
+}
+
+#[test]
+fn texts_in_boxes_stand_within_them() {
+    for (name, file) in pictures() {
+        let seen = Seen::of(&file);
+        let boxes = rectangles(&seen, |area| area.attribute("rx").is_some() || area.attribute("stroke") == Some(RED));
+        let texts = seen.elements.iter().filter(|element| element.name == "text").map(|text| (&text.text, edges_of_text(text)));
+        let mut beyond = texts.filter(|(_, text)| boxes.iter().any(|(_, area)| overlap(text, area) && !within(text, area)));
+        assert_eq!(beyond.next(), None, "{name}");
+    }
+}
+
+/// Whether a box is within another.
+fn within(one: &Edges, other: &Edges) -> bool {
+    one[0] >= other[0] && one[1] >= other[1] && one[2] <= other[2] && one[3] <= other[3]
 }
 
 #[test]

@@ -4,6 +4,7 @@
 mod drawn;
 mod file;
 mod frames;
+mod letters;
 mod seen;
 mod stored;
 mod tool;

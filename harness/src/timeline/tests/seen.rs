@@ -158,6 +158,13 @@ impl Seen {
         self.named("rect").filter(|area| area.attribute("rx").is_some()).filter_map(|area| self.boxed(area)).collect()
     }
 
+    /// How the boxes of frames look, each as its label, its fill and its edge.
+    pub fn looks(&self) -> Vec<[String; 3]> {
+        let is_box = |area: &&Element| area.attribute("rx").is_some() && self.row(middle(area).y).is_some();
+        let look = |area: &Element, name| String::from(area.attribute(name).unwrap_or_default());
+        self.named("rect").filter(is_box).map(|area| [self.label(area), look(area, "fill"), look(area, "stroke-dasharray")]).collect()
+    }
+
     /// The boxes that are crossed out, each as its column, its row and its label.
     pub fn crossed(&self) -> Vec<String> {
         self.named("rect").filter(|area| area.attribute("stroke") == Some(RED)).filter_map(|area| self.boxed(area)).collect()
@@ -248,6 +255,23 @@ impl Seen {
             .map(|text| text.text.as_str())
             .filter(is_name)
             .collect()
+    }
+
+    /// What shows when a pointer rests on something, in the order in which it is drawn, without repeats.
+    pub fn titles(&self) -> Vec<&str> {
+        let mut titles: Vec<&str> = Vec::new();
+        self.named("title").for_each(|title| {
+            if !titles.contains(&title.text.as_str()) {
+                titles.push(&title.text)
+            }
+        });
+        titles
+    }
+
+    /// What the legend says: the texts below all rows.
+    pub fn legend(&self) -> Vec<&str> {
+        let bottom = self.rows.iter().map(|row| row.bottom).max().unwrap_or(0);
+        self.named("text").filter(|text| text.number("y") > bottom).map(|text| text.text.as_str()).collect()
     }
 
     /// All texts.
