@@ -11,8 +11,6 @@ pub const NARROWEST: i32 = 640;
 pub const MARGIN: i32 = 12;
 /// The room of the rows' names.
 pub const NAMES: i32 = 80;
-/// The narrowest that a column is.
-pub const NARROWEST_COLUMN: i32 = 60;
 /// The room between a column's edge and a box in it; ticks stand in it, and the lines of the frames that they move.
 pub const BESIDE_BOX: i32 = 9;
 /// The room between a column's edge and a box on the link.

@@ -9,8 +9,7 @@ use crate::timeline::drawing;
 use crate::timeline::following::{self, Came, Stay};
 use crate::timeline::legend::{self, Marks};
 use crate::timeline::look::{
-    width, wrapped, Palette, BESIDE_BOX, BESIDE_EPOCH, BESIDE_SENT, BETWEEN, LABEL, MARGIN, NAME, NARROWEST, NARROWEST_COLUMN, NOTE, PORT,
-    TITLE, WIDEST,
+    width, wrapped, Palette, BESIDE_BOX, BESIDE_EPOCH, BESIDE_SENT, BETWEEN, LABEL, MARGIN, NAME, NARROWEST, NOTE, PORT, TITLE, WIDEST,
 };
 use crate::timeline::svg::{Letters, Point, Side, Svg};
 use crate::timeline::{frames, headings, words, TooMany, MOST};
@@ -80,7 +79,7 @@ impl Part<'_> {
         let others = others.map(|(text, letters)| width(&text, letters) + 2 * BESIDE_SENT + 2);
         let epochs = headings::epochs(self.events);
         let epochs = self.shown.clone().map(|event| width(&headings::epoch_name(epochs[event - 1]), NAME) + 2 * BESIDE_EPOCH);
-        boxes.chain(others).chain(epochs).fold(NARROWEST_COLUMN, i32::max)
+        boxes.chain(others).chain(epochs).fold(0, i32::max)
     }
 
     /// The heading of the port.

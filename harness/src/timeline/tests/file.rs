@@ -11,27 +11,35 @@ use crate::timeline::look::{RED, WIDEST};
 use crate::timeline::page::{picture, Part};
 use crate::timeline::{drawn, replied, MOST};
 
-/// Events with the largest numbers that they can have.
-const LARGEST: &str =
-    "port 0\nopen 23046 16\nreserve 63 21504\nreserve 255 4294967295\narrive 63 1542 4294967295\narrive 255 4294967295 4294967295\n\
-    best effort 1542 4294967295\nbest effort 4294967295 4294967295\ntick\ntick\ntransmit\n";
+/// Events with the largest numbers that they can have; frames with large tags and small charges; and epochs of one column.
+const WIDE: [(&str, &str); 3] = [
+    (
+        "largest",
+        "port 0\nopen 23046 16\nreserve 63 21504\nreserve 255 4294967295\narrive 63 1542 4294967295\narrive 255 4294967295 4294967295\n\
+        best effort 1542 4294967295\nbest effort 4294967295 4294967295\ntick\ntick\ntransmit\n",
+    ),
+    ("labels", "port 0\nopen 2142 1\nreserve 63 200\narrive 63 84 4294967295\ntick\n"),
+    ("epochs", "port 0\ntick\nopen 2142 1\ntick\ntick\ntick\ntick\ntick\ntick\ntick\ntick\ntick\ntick\ntick\n"),
+];
 
 /// An upright box: left, top, right and bottom.
 type Edges = [i32; 4];
 
-/// Pictures by name: of the first events of every stored capture that is good, of the largest numbers, and of any events.
+/// Pictures by name: of the first events of every stored capture that is good, of wide events, and of any events, all or some.
 fn pictures() -> Vec<(String, String)> {
     let stored = stored::all().expect("the stored captures can be read");
     let stored = stored.into_iter().filter_map(|stored| Some((stored.name, events(&stored.octets).ok()?)));
-    let stored = stored.map(|(name, ports)| (name, ports.iter().map(|events| replied(events)).collect()));
-    let any = (0..10).map(|number| (format!("list {number}"), vec![any_events(&mut Random::of(1, "files", number))]));
-    let largest = [(String::from("largest"), vec![played(LARGEST)])];
-    stored.chain(any).chain(largest).map(|(name, ports)| (name, pictured(&ports))).collect()
+    let stored = stored.map(|(name, ports)| (name, pictured(&ports.iter().map(|events| replied(events)).collect::<Vec<_>>(), 1)));
+    let wide = WIDE.iter().map(|(name, text)| (String::from(*name), pictured(&[played(text)], 1)));
+    let any = |number: u64| any_events(&mut Random::of(1, "files", number));
+    let all = (0..10).map(|number| (format!("list {number}"), pictured(&[any(number)], 1)));
+    let some = (40..60).map(|from| (format!("list {from} from {from}"), pictured(&[any(from)], from as usize)));
+    stored.chain(wide).chain(all).chain(some).collect()
 }
 
-/// The picture of ports, of each the first events.
-fn pictured(ports: &[Vec<(Call, Reply)>]) -> String {
-    let parts = ports.iter().enumerate().map(|(port, events)| Part { port, events, shown: 1..=events.len().min(MOST) });
+/// The picture of ports, of each the first events from a number on.
+fn pictured(ports: &[Vec<(Call, Reply)>], from: usize) -> String {
+    let parts = ports.iter().enumerate().map(|(port, events)| Part { port, events, shown: from..=events.len().min(MOST) });
     picture(&parts.collect::<Vec<Part>>(), "A title").expect("the events fit")
 }
 
