@@ -1,6 +1,6 @@
 //! Where everything of a port stands in the picture. Each event has a column. The columns stand in bands, one below the other like lines of music; a
-//! band has the strip of the epochs, the headings of its columns, and a row for the link, for each queue's role, and for what is refused, if anything is.
-//! Where frames wait as a band begins, it has a column more, in which they stand again.
+//! band has the strip of the epochs, the headings of its columns, and a row for the link, for each queue's role, and for what is refused, if anything
+//! is. Where frames wait as a band begins, it has a column more, in which they stand again.
 
 use std::array;
 use std::ops::RangeInclusive;

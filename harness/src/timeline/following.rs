@@ -1,6 +1,6 @@
-//! Follows each frame of a port's events from its arrival to the link, by the replies alone: in which queue it waits, from which event to which. A frame
-//! stays in one role between two ticks; a tick ends the stay and begins another, one role nearer. So does the beginning of a band of the picture, in the
-//! same role.
+//! Follows each frame of a port's events from its arrival to the link, by the replies alone: in which queue it waits, from which event to which. A
+//! frame stays in one role between two ticks; a tick ends the stay and begins another, one role nearer. So does the beginning of a band of the
+//! picture, in the same role.
 
 use std::{array, mem};
 

@@ -15,6 +15,10 @@ pub const NAMES: i32 = 80;
 pub const BESIDE_BOX: i32 = 9;
 /// The room between a column's edge and a box on the link.
 pub const BESIDE_SENT: i32 = 3;
+/// The room between a box's edge and its label.
+pub const IN_BOX: i32 = 3;
+/// The room between a column's edge and any text in it.
+pub const IN_COLUMN: i32 = 4;
 /// The room between a tick and the name of the epoch after it.
 pub const BESIDE_EPOCH: i32 = 6;
 /// The height of a lane.

@@ -1,5 +1,9 @@
 //! The picture of a port's events, for a reader who looks in which epoch a frame is sent and where a tick falls between two frames; and the same in
 //! words.
+//!
+//! `following` follows each frame by the replies, `headings` says what heads an event's column, `bands` where everything stands, `drawing` and
+//! `frames` draw it, `legend` tells what the marks mean, `page` puts it together, `look` has sizes and colours, `svg` the file's elements, `words`
+//! calls and replies in words. captures/README.md says what the tool is given and what it tells.
 
 use std::fmt;
 use std::ops::RangeInclusive;

@@ -9,7 +9,8 @@ use crate::timeline::drawing;
 use crate::timeline::following::{self, Came, Stay};
 use crate::timeline::legend::{self, Marks};
 use crate::timeline::look::{
-    width, wrapped, Palette, BESIDE_BOX, BESIDE_EPOCH, BESIDE_SENT, BETWEEN, LABEL, MARGIN, NAME, NARROWEST, NOTE, PORT, TITLE, WIDEST,
+    width, wrapped, Palette, BESIDE_BOX, BESIDE_EPOCH, BETWEEN, IN_BOX, IN_COLUMN, LABEL, MARGIN, NAME, NARROWEST, NOTE, PORT, TITLE,
+    WIDEST,
 };
 use crate::timeline::svg::{Letters, Point, Side, Svg};
 use crate::timeline::{frames, headings, words, TooMany, MOST};
@@ -74,9 +75,9 @@ impl Part<'_> {
     /// How wide a column must be for all that stands in one.
     fn column(&self, stays: &[Stay]) -> i32 {
         let boxes = stays.iter().filter(|stay| self.shown.contains(&stay.from)).map(|stay| frames::label(&stay.frame));
-        let boxes = boxes.map(|label| width(&label, LABEL) + 2 * BESIDE_BOX + 6);
+        let boxes = boxes.map(|label| width(&label, LABEL) + 2 * (BESIDE_BOX + IN_BOX));
         let others = self.shown_events().iter().flat_map(|(call, reply)| texts(call, reply));
-        let others = others.map(|(text, letters)| width(&text, letters) + 2 * BESIDE_SENT + 2);
+        let others = others.map(|(text, letters)| width(&text, letters) + 2 * IN_COLUMN);
         let epochs = headings::epochs(self.events);
         let epochs = self.shown.clone().map(|event| width(&headings::epoch_name(epochs[event - 1]), NAME) + 2 * BESIDE_EPOCH);
         boxes.chain(others).chain(epochs).fold(0, i32::max)

@@ -136,7 +136,10 @@ fn a_band_that_begins_with_a_tick_shows_what_waits_before_it() {
 
 #[test]
 fn a_stream_has_a_colour_of_its_own_and_best_effort_a_broken_edge() {
-    let seen = seen("port 0\nopen 2142 1\nreserve 5 200\nreserve 6 200\narrive 5 84 1\narrive 6 84 2\nbest effort 84 3\ntick\ntransmit\ntransmit\ntransmit\n");
+    let seen = seen(
+        "port 0\nopen 2142 1\nreserve 5 200\nreserve 6 200\narrive 5 84 1\narrive 6 84 2\nbest effort 84 3\ntick\n\
+        transmit\ntransmit\ntransmit\n",
+    );
     let looks = seen.looks();
     let fills = |labels: [&str; 3]| labels.map(|label| looks.iter().find(|[own, ..]| own == label).expect("the box is there")[1].clone());
     let [five, six, best_effort] = fills(["5: 1", "6: 2", "3"]);
@@ -169,8 +172,8 @@ fn a_pointer_that_rests_on_something_is_told_what_it_is() {
 #[test]
 fn the_legend_tells_what_occurs_and_no_more() {
     let told = |text: &str| seen(text).legend().join(" ");
-    let frame = "5: 1 frame of stream 5 with tag 1: the box where it joins a queue and where a tick has moved it, the bar while it waits, a line to the link \
-        where it is sent";
+    let frame = "5: 1 frame of stream 5 with tag 1: the box where it joins a queue and where a tick has moved it, the bar while it waits, a line to \
+        the link where it is sent";
     let tick = "tick: an epoch ends, prior is purged, current becomes prior, next becomes current, last becomes next";
     let notes = "L: link octets in an epoch; K: best-effort delay bound in epochs";
     let reserved = format!("{notes}; P: permitted octets of the stream per epoch");

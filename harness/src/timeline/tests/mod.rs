@@ -1,5 +1,5 @@
-//! What a picture shows, read off where its elements stand; its file; its limits; and the tool. `xml` reads the file strictly, `seen` finds what a reader
-//! of the picture sees.
+//! What a picture shows, read off where its elements stand; its file; its limits; and the tool. `xml` reads the file strictly, `seen` finds what a
+//! reader of the picture sees, `letters` knows how wide texts are.
 
 mod drawn;
 mod file;

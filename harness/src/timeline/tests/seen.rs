@@ -202,7 +202,8 @@ impl Seen {
         self.named("line").filter(is_tick).map(|line| after(line).expect("a column is after a tick")).collect()
     }
 
-    /// The lines from the end of a bar: the frame, the row from which it goes, that to which it goes, and the column in which or before which it does.
+    /// The lines from the end of a bar: the frame, the row from which it goes, that to which it goes, and the column in which or before which it
+    /// does.
     pub fn ways(&self) -> Vec<String> {
         self.named("line").filter_map(|line| self.way(line)).collect()
     }

@@ -107,7 +107,8 @@ fn a_band_begins_with_a_tick_that_is_near() {
 
 #[test]
 fn events_are_said_in_words() {
-    let said = "port 0\n1 open with L 2142 and K 1: opens, with a share of 600\n2 reserve for stream 5, P 200: reserves, 400 of the share still free\n\
+    let said = "port 0\n1 open with L 2142 and K 1: opens, with a share of 600\n\
+        2 reserve for stream 5, P 200: reserves, 400 of the share still free\n\
         3 arrive on stream 5, charge 120, tag 7: joins current, 80 left\n4 arrive on stream 5, charge 100, tag 8: joins next, 100 left\n\
         5 transmit: sends stream 5, tag 7\n6 transmit: sends nothing\n7 tick: purges nothing\n8 transmit: sends stream 5, tag 8\n";
     let sample = capture(SAMPLE);
