@@ -3,6 +3,7 @@
 //! lists of calls, captures as a person writes and reads them, captures made of a plant's own recordings, pictures of a port's events, and the text of
 //! the rule held against what it names.
 
+pub mod batches;
 pub mod call;
 pub mod capture;
 pub mod command_line;

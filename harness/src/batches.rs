@@ -1,0 +1,217 @@
+//! Batches of calls whose cost is measured, and the ports that they start from: one with no stream, one with few, one with all streams bound and no
+//! frame, and a full one.
+
+use crate::call::{Call, Reply, ADDRESS_OCTETS};
+use crate::comparing::fit::Octets;
+use crate::comparing::frames::Header;
+use crate::comparing::random::Random;
+use crate::comparing::sides::Play;
+use crate::model::port::{BEST_EFFORT, BEST_EFFORT_STREAM, LAST, LEAST_CHARGE, LEAST_PERMITTED, LINKS, QUEUES, QUEUE_PLACES, STREAMS};
+use crate::model::refusal::DISCARD;
+use crate::{exports, in_place, layout, model};
+
+/// L and K of every port: the greatest share, 21,504 octets, is 256 frames of the least charge.
+const LINK: u32 = *LINKS.end();
+const DELAY: u32 = 16;
+
+/// How many calls a batch has, unless each purges a whole queue.
+const BATCH: usize = 64;
+
+/// The streams of a port with few.
+const FEW: u8 = 4;
+
+/// The VID to which every stream is bound.
+const VID: u16 = 1;
+
+/// One batch: what is measured, the port that it starts from, its calls, and the refusal that all of them meet, or 0.
+pub struct Batch {
+    pub what: &'static str,
+    pub port: Octets,
+    pub calls: Vec<Call>,
+    pub refusal: u8,
+}
+
+/// The batches that start from ports of one sort.
+pub struct Group {
+    pub port: &'static str,
+    pub batches: Vec<Batch>,
+}
+
+/// All batches. Where frames come and go, the first two of a group are one of arrivals and one of transmits.
+pub fn groups() -> [Group; 4] {
+    [
+        Group { port: "no stream", batches: vec![nothing_waits(opened(0))] },
+        Group { port: "4 streams", batches: few() },
+        Group { port: "64 streams, no frame", batches: without_frame() },
+        Group { port: "64 bound streams, full queues", batches: full() },
+    ]
+}
+
+impl Group {
+    /// Whether the first two batches are arrivals and transmits.
+    pub fn begins_with_arrivals(&self) -> bool {
+        matches!(self.batches[0].calls[0], Call::Arrive { .. })
+    }
+}
+
+impl Batch {
+    /// A batch whose calls are all granted.
+    fn granted(what: &'static str, port: Octets, calls: Vec<Call>) -> Batch {
+        Batch { what, port, calls, refusal: 0 }
+    }
+
+    /// Stops unless every call of the batch meets its refusal, or none, and the quick calls, Rust in place and the outside program reply the same and
+    /// leave the same octets: else they would not do the same work.
+    pub fn same_on_all_sides(&self) {
+        let by_call = self.run(exports::call);
+        assert!(by_call.0.iter().all(|reply| reply.refusal == self.refusal), "{}: a call replies another refusal", self.what);
+        assert!(by_call == self.run(exports::unscanned), "{}: the quick calls part from the calls", self.what);
+        assert!(by_call == self.run(in_place::call), "{}: Rust parts from the calls", self.what);
+        assert!(by_call == self.run(model::call), "{}: the outside program parts from the calls", self.what);
+    }
+
+    /// The replies of the batch on one side, and the record and memory after it.
+    fn run(&self, side: Play) -> (Vec<Reply>, Vec<u8>, Vec<u8>) {
+        let Octets { mut record, mut memory } = self.port.clone();
+        let replies = self.calls.iter().map(|call| side(&call.given(), &mut record, &mut memory)).collect();
+        (replies, record, memory)
+    }
+}
+
+/// The batches of a port with few streams, whose queues are nearly empty.
+fn few() -> Vec<Batch> {
+    let arrivals = arrivals(FEW.into());
+    let arrived = after(opened(FEW), &arrivals);
+    vec![
+        Batch::granted("arrive", opened(FEW), arrivals.clone()),
+        Batch::granted("transmit", arrived, vec![Call::Transmit; BATCH]),
+        Batch { refusal: DISCARD, ..Batch::granted("arrive, discarded", spent(), arrivals) },
+        Batch::granted("tick, nothing to purge", opened(FEW), vec![Call::Tick; BATCH]),
+        Batch::granted("best effort", opened(FEW), best_effort()),
+    ]
+}
+
+/// The batches of ports with all streams and without a frame.
+fn without_frame() -> Vec<Batch> {
+    let unbound = opened(STREAMS as u8);
+    vec![
+        nothing_waits(unbound.clone()),
+        Batch { what: "transmit, all streams bound", ..nothing_waits(after(unbound.clone(), &binds())) },
+        Batch::granted("bind, 0 to 63 streams bound", unbound, binds()),
+    ]
+}
+
+/// The batches of a port with all streams bound, whose queues are full or become so.
+fn full() -> Vec<Batch> {
+    let [all_full, last_fills, best_effort_fills] =
+        [QUEUES, usize::from(LAST), BEST_EFFORT].map(|not_full| filled(opened(STREAMS as u8), not_full));
+    let last_stream_fills = filled(opened_for_the_last(), usize::from(LAST));
+    let ticks = vec![Call::Tick; 4];
+    let purged = after(all_full.clone(), &ticks);
+    let tagged = Header::tagged(address(STREAMS - 1), VID);
+    let untagged = Header { protocol: [0x08, 0x00], ..tagged };
+    vec![
+        Batch::granted("arrive, 1,216 to 1,280 frames", last_fills, arrivals(STREAMS)),
+        Batch::granted("transmit, 1,280 to 1,216 frames", all_full.clone(), vec![Call::Transmit; BATCH]),
+        Batch::granted("tick, 256 frames purged", all_full, ticks),
+        Batch::granted("tick, nothing to purge", purged, vec![Call::Tick; BATCH]),
+        Batch::granted("best effort, 1,216 to 1,280", best_effort_fills.clone(), best_effort()),
+        Batch::granted("frame of stream 63, 1,216 to 1,280", last_stream_fills, frames(&tagged)),
+        Batch::granted("frame, untagged, 1,216 to 1,280", best_effort_fills, frames(&untagged)),
+    ]
+}
+
+/// A batch of transmits that find nothing to send: what they take as calls and not as quick calls is the scan of 19.
+fn nothing_waits(port: Octets) -> Batch {
+    Batch::granted("transmit, nothing waits", port, vec![Call::Transmit; BATCH])
+}
+
+/// A batch of arrivals of the least charge, on so many streams in turn.
+fn arrivals(streams: usize) -> Vec<Call> {
+    (0..BATCH).map(|i| Call::Arrive { stream: (i % streams) as u8, charge: LEAST_CHARGE, tag: i as u32 }).collect()
+}
+
+/// A batch of best-effort frames of the least charge.
+fn best_effort() -> Vec<Call> {
+    (0..BATCH).map(|i| Call::BestEffort { charge: LEAST_CHARGE, tag: i as u32 }).collect()
+}
+
+/// A batch of frames of the least charge with one header.
+fn frames(header: &Header) -> Vec<Call> {
+    let mut random = Random::of(1, "frames", 0);
+    (0..BATCH).map(|i| header.frame(&mut random, LEAST_CHARGE, i as u32)).collect()
+}
+
+/// A binding of each stream.
+fn binds() -> Vec<Call> {
+    (0..STREAMS).map(|stream| Call::Bind { stream: stream as u8, address: address(stream), vid: VID.into() }).collect()
+}
+
+/// The address to which a stream is bound.
+fn address(stream: usize) -> [u8; ADDRESS_OCTETS] {
+    [0, 0, 0, 0, 0, stream as u8]
+}
+
+/// An open port with this many streams, which share the link evenly.
+fn opened(streams: u8) -> Octets {
+    reserved(streams, |share, _| share / u32::from(streams))
+}
+
+/// An open port with all streams, of which the last has what the others leave of the share.
+fn opened_for_the_last() -> Octets {
+    let others = LEAST_PERMITTED * (STREAMS as u32 - 1);
+    reserved(STREAMS as u8, |share, stream| if usize::from(stream) + 1 < STREAMS { LEAST_PERMITTED } else { share - others })
+}
+
+/// An open port with this many streams, each with its P by the share and its number.
+fn reserved(streams: u8, permitted: impl Fn(u32, u8) -> u32) -> Octets {
+    let mut port = Octets::zero();
+    let share = exports::call(&Call::Open { link: LINK, delay: DELAY }, &mut port.record, &mut port.memory).first;
+    let reserves: Vec<Call> = (0..streams).map(|stream| Call::Reserve { stream, permitted: permitted(share, stream) }).collect();
+    after(port, &reserves)
+}
+
+/// A port with few streams, all at last with nothing left.
+fn spent() -> Octets {
+    let mut port = opened(FEW);
+    for stream in 0..FEW.into() {
+        port.record[layout::entry(stream) + layout::PLACE] = LAST;
+        layout::put_two(&mut port.record, layout::entry(stream) + layout::LEFT, 0);
+    }
+    port
+}
+
+/// The port after calls.
+fn after(mut port: Octets, calls: &[Call]) -> Octets {
+    for call in calls {
+        exports::call(&call.given(), &mut port.record, &mut port.memory);
+    }
+    port
+}
+
+/// The port with every stream bound and at last, and 256 frames in each queue, but a batch less in the one of this number, if there is one.
+fn filled(port: Octets, not_full: usize) -> Octets {
+    let mut port = after(port, &binds());
+    for stream in 0..STREAMS {
+        port.record[layout::entry(stream) + layout::PLACE] = LAST;
+    }
+    let count = |queue: usize| if queue == not_full { QUEUE_PLACES - BATCH } else { QUEUE_PLACES };
+    for queue in 0..QUEUES {
+        fill(&mut port, queue, count(queue));
+    }
+    layout::put_four(&mut port.record, layout::WAITS, count(BEST_EFFORT) as u32 * LEAST_CHARGE);
+    port
+}
+
+/// So many frames of the least charge in a queue, from a start in its middle, so that they wrap.
+fn fill(port: &mut Octets, queue: usize, count: usize) {
+    let start = QUEUE_PLACES / 2;
+    layout::put_two(&mut port.record, layout::start(queue), start as u32);
+    layout::put_two(&mut port.record, layout::count(queue), count as u32);
+    for ahead in 0..count {
+        let frame = layout::frame(queue, start, ahead);
+        let stream = if queue == BEST_EFFORT { BEST_EFFORT_STREAM } else { (ahead % STREAMS) as u32 };
+        layout::put_two(&mut port.memory, frame + layout::FRAME_STREAM, stream);
+        layout::put_two(&mut port.memory, frame + layout::FRAME_CHARGE, LEAST_CHARGE);
+    }
+}
