@@ -33,7 +33,7 @@ pub fn put_two(octets: &mut [u8], at: usize, number: u16)
 }
 
 // The number of four octets, of which each argument has two.
-pub fn four(high: u16, low: u16) -> u32
+fn four(high: u16, low: u16) -> u32
     ensures { λ r. ⌜ r ≡ high * 65536 + low ⌝ }
 {
     high as u32 * 65536 + low as u32
@@ -58,18 +58,25 @@ pub fn put_four(octets: &mut [u8], at: usize, number: u32)
     put_two(octets, low_at, (number % 65536) as u16);
 }
 
-// The number of eight octets, of which each argument has four.
-pub fn eight(high: u32, low: u32) -> u64
-    ensures { λ r. ⌜ r ≡ high * 4294967296 + low ⌝ }
+// The number of eight octets, of which each argument has two.
+pub fn eight(first: u16, second: u16, third: u16, last: u16) -> u64
+    ensures { λ r. ⌜ r ≡ (first * 65536 + second) * 4294967296 + (third * 65536 + last) ⌝ }
 {
-    high as u64 * 4294967296 + low as u64
+    first as u64 * 281474976710656 + second as u64 * 4294967296 + third as u64 * 65536 + last as u64
 }
 
-// The number in the eight octets from `at` on.
+// The number in the eight octets from `at` on. It is put together two octets at a time, so that the compiler reads all eight at once.
 pub fn eight_at(octets: &[u8], at: usize) -> u64
     requires { ⌜ at + 8 ≤ length (now octets) ⌝ }
     ensures { λ r. ⌜ r ≡ eightOf (get (now (octets .entry)) at 8) ⌝ }
 {
-    let low_at = at + 4;
-    eight(four_at(octets, at), four_at(octets, low_at))
+    let second_at = at + 2;
+    let third_at = at + 4;
+    let last_at = at + 6;
+    eight(
+        two_at(octets, at),
+        two_at(octets, second_at),
+        two_at(octets, third_at),
+        two_at(octets, last_at),
+    )
 }

@@ -25,8 +25,10 @@ const PAIR: usize = 8;
 
 const ADDRESS: usize = 10;
 
-// Where the last four octets of an address begin.
+// Where the last four octets of an address begin, and the last two.
 const LATER: usize = 2;
+
+const LAST: usize = 4;
 
 // Where the stream's entry begins.
 fn start(stream: u8) -> usize
@@ -110,8 +112,10 @@ pub fn pair_of(address: &[u8], vid: u16) -> u64
     ensures { λ r. ⌜ r ≡ pairOf (now (address .entry)) vid ⌝ }
 {
     octets::eight(
-        octets::four(vid, octets::two_at(address, 0)),
-        octets::four_at(address, LATER),
+        vid,
+        octets::two_at(address, 0),
+        octets::two_at(address, LATER),
+        octets::two_at(address, LAST),
     )
 }
 

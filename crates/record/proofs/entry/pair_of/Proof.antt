@@ -7,31 +7,29 @@ use Rattle.record.proofs.entry.pair_of.Tie as tie
 use Rattle.record.proofs.entry.pair_of.Reads as reads
 use Rattle.record.proofs.entry.pair_of.Lts as lts
 use Rattle.octets.proofs.eight.Reads as eight-reads
-use Rattle.octets.proofs.four.Reads as four-reads
-use Rattle.octets.proofs.four_at.Reads as four-at-reads
 use Rattle.octets.proofs.two_at.Reads as two-at-reads
 
--- src/entry.rt:112:37
+-- src/entry.rt:116:9
 two-at-requires : tie.Need-two-at-requires
 two-at-requires c κs = search needs
 
--- src/entry.rt:112:19
-four-requires : tie.Need-four-requires
-four-requires c κs = search needs
+-- src/entry.rt:117:9
+two-at-requires-2 : tie.Need-two-at-requires-2
+two-at-requires-2 c κs = search needs
 
--- src/entry.rt:112:66
-four-at-requires : tie.Need-four-at-requires
-four-at-requires c κs = search needs
+-- src/entry.rt:118:9
+two-at-requires-3 : tie.Need-two-at-requires-3
+two-at-requires-3 c κs = search needs
 
--- src/entry.rt:112:5
+-- src/entry.rt:114:5
 eight-requires : tie.Need-eight-requires
 eight-requires c κs = search needs
 
--- src/entry.rt:108:1
+-- src/entry.rt:110:1
 returns : tie.Need-returns
 unfolding pairOf eightOf fourOf twoOf
 returns c = search needs
 
 pub pair-of-spec : {M : Type 1} → statement M
 pair-of-spec =
-    tie.close (tie.spec two-at-requires four-requires four-at-requires eight-requires returns)
+    tie.close (tie.spec two-at-requires two-at-requires-2 two-at-requires-3 eight-requires returns)
