@@ -15,10 +15,11 @@ use crate::timeline::svg::{Area, Point, Side, Svg, FOOT};
 const MARK: i32 = 42;
 
 /// What the notes in the headings mean, in the order in which it is told.
-const NOTES: [&str; 5] = [
+const NOTES: [&str; 6] = [
     "L: link octets in an epoch",
     "K: best-effort delay bound in epochs",
     "P: permitted octets of the stream per epoch",
+    "R: sum of the reserved streams' P",
     "left: octets still free at the stream's place after the arrival",
     "W: sum of charges waiting in best effort",
 ];
@@ -26,10 +27,12 @@ const NOTES: [&str; 5] = [
 const LINK_AND_DELAY: [usize; 2] = [0, 1];
 /// The place of P in them.
 const PERMITTED: usize = 2;
+/// The place of R in them, of which refusal 16 speaks.
+const PERMITTED_SUM: usize = 3;
 /// The place of left in them.
-const LEFT: usize = 3;
+const LEFT: usize = 4;
 /// The place of W in them.
-const WAITS: usize = 4;
+const WAITS: usize = 5;
 
 /// The marks and notes that occur.
 #[derive(Clone, Debug, Default, PartialEq, Eq)]
@@ -66,6 +69,7 @@ impl Marks {
             (Call::Reserve { .. }, _) => self.notes.extend([PERMITTED]),
             (Call::Arrive { .. }, 0) => self.notes.extend([LEFT]),
             (Call::BestEffort { .. }, 0) => self.notes.extend([WAITS]),
+            (Call::BestEffort { .. }, refusal::BEST_EFFORT_EXCEEDED) => self.notes.extend([PERMITTED_SUM, WAITS]),
             (Call::Tick, 0) => self.ticks = true,
             _ => {}
         }

@@ -186,6 +186,13 @@ fn the_legend_tells_what_occurs_and_no_more() {
         told("port 0\nopen 2142 1\nbest effort 84 2\n"),
         format!("{best_effort}; {notes}; W: sum of charges waiting in best effort")
     );
+    let first = "1 best-effort frame with tag 1, which no tick moves";
+    let exceeded = "16 refused: W + charge above K × (L − R)";
+    let sums = "R: sum of the reserved streams' P; W: sum of charges waiting in best effort";
+    assert_eq!(
+        told("port 0\nopen 1626 1\nreserve 5 84\nbest effort 1542 1\nbest effort 84 2\ntransmit\n"),
+        format!("{first} {exceeded} {reserved}; {sums}")
+    );
     let discard = "14 refused, discard: the frame joins no queue; its stream is at last with left 0";
     assert_eq!(told("port 0\nopen 2142 1\nreserve 5 200\narrive 5 201 1\n"), format!("{discard} {reserved}"));
 }
