@@ -16,4 +16,5 @@ pub mod in_place;
 pub mod layout;
 pub mod model;
 pub mod recording;
+pub mod running;
 pub mod timeline;

@@ -1,24 +1,20 @@
 //! One capture on two sides: the proved program `replay` as a process of its own, and the outside program's `replay`, compared octet for octet.
 
 use std::fs::File;
-use std::io::{self, Read, Write};
+use std::io;
 use std::path::{Path, PathBuf};
-use std::process::{Child, ChildStdin, Command, ExitStatus, Output, Stdio};
-use std::thread::{self, JoinHandle};
-use std::time::{Duration, Instant};
+use std::process::{Child, Command, Output, Stdio};
+use std::time::Duration;
 
 use crate::capture::reading;
 use crate::comparing::coverage::Seen;
 use crate::comparing::test::Run;
+use crate::running::{self, Bounds, End, Left};
 
 /// How many lines of a capture's text a report tells at most.
 const TOLD_LINES: usize = 40;
-/// How long the writer waits between two pieces, so that the program meets a stream that has no octet ready.
-const BETWEEN_PIECES: Duration = Duration::from_micros(300);
-/// How long a program may run.
-const LIMIT: Duration = Duration::from_secs(60);
-/// How long it is left alone between two looks whether it has ended.
-const BETWEEN_LOOKS: Duration = Duration::from_micros(200);
+/// How long a program may run; it may print as much as it will.
+const BOUNDS: Bounds = Bounds { time: Duration::from_secs(60), stdout: usize::MAX, stderr: usize::MAX };
 
 /// The proved program where `rt check replay` leaves it.
 pub fn proved() -> PathBuf {
@@ -26,63 +22,25 @@ pub fn proved() -> PathBuf {
 }
 
 /// What a program prints of a capture that is written to its standard input in these pieces.
-fn printed(program: &mut Command, pieces: &[&[u8]], limit: Duration) -> io::Result<Output> {
-    let child = program.stdin(Stdio::piped()).stdout(Stdio::piped()).stderr(Stdio::piped()).spawn()?;
-    ended(child, pieces.iter().map(|octets| octets.to_vec()).collect(), limit)
-}
-
-/// Writes a capture to a pipe, if there is one; a program may close its standard input before the end of a capture that is too long.
-fn write_pieces(pipe: Option<ChildStdin>, pieces: &[Vec<u8>]) -> io::Result<()> {
-    let Some(mut input) = pipe else { return Ok(()) };
-    for (number, octets) in pieces.iter().enumerate() {
-        if number > 0 {
-            thread::sleep(BETWEEN_PIECES);
-        }
-        match input.write_all(octets) {
-            Err(why) if why.kind() == io::ErrorKind::BrokenPipe => break,
-            written => written?,
-        }
-    }
-    Ok(())
+fn printed(program: &mut Command, pieces: &[&[u8]]) -> io::Result<Output> {
+    in_time(running::run_in_pieces(program, pieces, &BOUNDS)?)
 }
 
 /// What a program prints of a capture that its standard input is the file of.
 pub fn printed_of_file(program: &mut Command, path: &Path) -> io::Result<Output> {
-    ended(program.stdin(File::open(path)?).stdout(Stdio::piped()).stderr(Stdio::piped()).spawn()?, Vec::new(), LIMIT)
+    ended(program.stdin(File::open(path)?).stdout(Stdio::piped()).stderr(Stdio::piped()).spawn()?)
 }
 
-/// What a started program prints to its pipes, and its status, while these pieces are written to its standard input; one that runs longer than the
-/// limit is ended, which is an error, and so is a pipe that a child of the program keeps open so long.
-fn ended(mut child: Child, pieces: Vec<Vec<u8>>, limit: Duration) -> io::Result<Output> {
-    let (stdin, stdout, stderr) = (child.stdin.take(), child.stdout.take(), child.stderr.take());
-    let writer = thread::spawn(move || write_pieces(stdin, &pieces));
-    let readers = [thread::spawn(|| all_of(stdout)), thread::spawn(|| all_of(stderr))];
-    let status = status_within(&mut child, limit, || writer.is_finished() && readers.iter().all(JoinHandle::is_finished))?;
-    writer.join().expect("the writer does not panic")?;
-    let [stdout, stderr] = readers.map(|reader| reader.join().expect("a reader does not panic"));
-    Ok(Output { status, stdout: stdout?, stderr: stderr? })
+/// What a started program prints to its pipes, and its status.
+fn ended(child: Child) -> io::Result<Output> {
+    in_time(running::ended(child, Vec::new(), &BOUNDS)?)
 }
 
-/// All octets of a pipe, if there is one.
-fn all_of(pipe: Option<impl Read>) -> io::Result<Vec<u8>> {
-    let mut octets = Vec::new();
-    pipe.map_or(Ok(0), |mut pipe| pipe.read_to_end(&mut octets))?;
-    Ok(octets)
-}
-
-/// The status with which a program ends within the limit, once its pipes are closed too.
-fn status_within(child: &mut Child, limit: Duration, pipes_closed: impl Fn() -> bool) -> io::Result<ExitStatus> {
-    let began = Instant::now();
-    loop {
-        if let Some(status) = child.try_wait()?.filter(|_| pipes_closed()) {
-            return Ok(status);
-        }
-        if began.elapsed() >= limit {
-            child.kill()?;
-            child.wait()?;
-            return Err(io::Error::new(io::ErrorKind::TimedOut, format!("does not end and close its pipes within {limit:?}")));
-        }
-        thread::sleep(BETWEEN_LOOKS);
+/// What a program left that ended by itself; one that did not is an error.
+fn in_time(left: Left) -> io::Result<Output> {
+    match left.end {
+        End::Status(status) => Ok(Output { status, stdout: left.stdout, stderr: left.stderr }),
+        _ => Err(io::Error::new(io::ErrorKind::TimedOut, format!("does not end and close its pipes within {:?}", BOUNDS.time))),
     }
 }
 
@@ -139,7 +97,7 @@ impl Run<'_> {
     pub fn replay_in_pieces(&mut self, pieces: &[&[u8]]) -> Result<String, String> {
         let capture = pieces.concat();
         let text = (self.sides.replay)(&capture);
-        let output = printed(&mut Command::new(self.replay), pieces, LIMIT).map_err(|why| self.not_run(&why))?;
+        let output = printed(&mut Command::new(self.replay), pieces).map_err(|why| self.not_run(&why))?;
         judged(&output, &text).map_err(|why| self.differs(&capture, &why))?;
         match refusal_of(&text) {
             Some(refusal) => self.coverage.count(Seen::Refused(refusal)),
@@ -165,7 +123,7 @@ impl Run<'_> {
 
     /// What the proved program leaves that was started with a standard input and a standard output as a test wants them.
     pub fn ended(&self, child: io::Result<Child>) -> Result<Output, String> {
-        child.and_then(|child| ended(child, Vec::new(), LIMIT)).map_err(|why| self.not_run(&why))
+        child.and_then(ended).map_err(|why| self.not_run(&why))
     }
 
     /// A report that the proved program could not be run to its end.
@@ -213,37 +171,8 @@ mod tests {
     }
 
     #[test]
-    fn a_program_gets_all_octets_of_a_capture() {
-        let capture: Vec<u8> = (0..200_000_u32).map(|place| place as u8).collect();
-        for piece in [capture.len(), 70_000, 1_000] {
-            let output = printed(&mut Command::new("cat"), &capture.chunks(piece).collect::<Vec<_>>(), LIMIT).expect("cat runs");
-            assert!(output.stdout == capture, "in pieces of {piece}");
-        }
-    }
-
-    #[test]
-    fn a_program_need_not_read_its_input() {
-        let output = printed(&mut Command::new("true"), &[&[0; 1_000_000]], LIMIT).expect("true runs");
-        assert_eq!(judged(&output, ""), Ok(()));
-    }
-
-    #[test]
-    fn a_program_that_does_not_end_is_ended() {
-        assert_eq!(why_not(Command::new("sleep").arg("600"), &[]), "does not end and close its pipes within 50ms");
-    }
-
-    #[test]
-    fn a_child_that_keeps_the_pipes_is_not_waited_for() {
-        for words in ["sleep 5; true", "exec 3<&0; sleep 5 <&3 &"] {
-            let began = Instant::now();
-            let why = why_not(Command::new("sh").args(["-c", words]), &[0; 1_000_000]);
-            assert_eq!(why, "does not end and close its pipes within 50ms", "{words}");
-            assert!(began.elapsed() < Duration::from_secs(5), "{words}: waited for the child");
-        }
-    }
-
-    /// Why a program leaves nothing within a short limit.
-    fn why_not(program: &mut Command, capture: &[u8]) -> String {
-        printed(program, &[capture], Duration::from_millis(50)).expect_err("it does not end").to_string()
+    fn a_program_that_was_ended_is_an_error() {
+        let left = Left { end: End::TookTooLong, stdout: Vec::new(), stderr: Vec::new(), input_unread: false };
+        assert_eq!(in_time(left).expect_err("it was ended").to_string(), "does not end and close its pipes within 60s");
     }
 }
