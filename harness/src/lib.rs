@@ -17,4 +17,5 @@ pub mod layout;
 pub mod model;
 pub mod recording;
 pub mod running;
+pub mod seeding;
 pub mod timeline;

@@ -5,25 +5,19 @@
 //! `faults` prints, for each fault, what found it; `faults --all` also runs every kind on every fault; `--replay PROGRAM` names the proved program
 //! `replay` where it is another than the repository's. The last line is the total.
 
-use std::env;
-use std::fs;
-use std::path::{Path, PathBuf};
+use std::path::PathBuf;
 use std::process::{Command, ExitCode, Stdio};
-use std::sync::atomic::{AtomicUsize, Ordering};
-use std::thread;
 
 use harness::command_line::{self, asked, Asked, REPLAY};
 use harness::comparing::program::named;
 use harness::comparing::test::KINDS;
+use harness::seeding::{self, closed, harness, Package, Seed};
 
 /// How the program is called.
 const USAGE: &str = "usage: faults [--all] [--replay PROGRAM]";
 
 /// The word that asks for every kind on every fault.
 const ALL: &str = "--all";
-
-/// How many faults are tried at a time.
-const AT_A_TIME: usize = 2;
 
 /// The size at which a fault must be found, in percent of the gate's.
 const SIZE: &str = "10";
@@ -63,20 +57,10 @@ debug = false
 [workspace]
 "#;
 
-/// One seeded fault: its name, what is wrong, the kinds of test and the tests that must find it, what it is seeded in, and the edits that make it.
+/// One seeded fault, and what it is seeded in.
 struct Fault {
-    name: String,
-    what: String,
-    found_by: Vec<String>,
+    seed: Seed,
     part: &'static Part,
-    edits: Vec<Edit>,
-}
-
-/// A text of one file that is replaced by another.
-struct Edit {
-    file: String,
-    old: String,
-    new: String,
 }
 
 /// The program over the faults, and the proved program `replay` that it is given.
@@ -94,51 +78,35 @@ fn main() -> ExitCode {
 
 /// Reads the faults, builds the package, and tries them.
 fn run(asked: Asked) -> ExitCode {
-    let harness = Path::new(env!("CARGO_MANIFEST_DIR"));
-    let package = harness.join("target/seeded");
+    let package = harness().join("target/seeded");
     let seeded = Seeded { program: package.join("target/debug/seeded"), replay: asked.replay };
-    match read_faults(&harness.join("faults")).and_then(|faults| built(harness, &package, &faults).map(|()| faults)) {
+    let built = read_faults().and_then(|faults| {
+        let seeds = faults.iter().map(|fault| (&fault.seed, fault.part.copied));
+        Package { folder: &package, manifest: MANIFEST, program: &program(&faults) }.built(seeds).map(|()| faults)
+    });
+    match built {
         Ok(faults) => tried(&seeded, &faults, asked.own.iter().any(|word| word == ALL)),
         Err(why) => closed(0, 1, &why),
     }
 }
 
-/// The closing line.
-fn closed(passed: usize, failed: usize, why: &str) -> ExitCode {
-    if !why.is_empty() {
-        println!("{why}");
-    }
-    println!("{passed} passed, {failed} failed");
-    ExitCode::from(u8::from(failed > 0))
-}
-
-/// Tries all faults, a few at a time, once it is seen that the tests pass where there is none.
+/// Tries all faults, once it is seen that the tests pass where there is none.
 fn tried(seeded: &Seeded, faults: &[Fault], all: bool) -> ExitCode {
     if let Some((kind, _)) = KINDS.iter().find(|(kind, _)| status(seeded, SOUND, kind) != Some(0)) {
         return closed(0, 1, &format!("the tests of kind {kind} do not pass where no fault is seeded"));
     }
-    let next = AtomicUsize::new(0);
-    let found = AtomicUsize::new(0);
-    thread::scope(|scope| {
-        for _ in 0..AT_A_TIME {
-            scope.spawn(|| try_some(seeded, faults, all, &next, &found));
-        }
-    });
-    let found = found.into_inner();
+    let found = seeding::tried(faults, |fault| try_one(seeded, &fault.seed, all));
     closed(found, faults.len() - found, "")
 }
 
-/// Tries one fault after another that no thread has taken, and counts those that were found as they must be.
-fn try_some(seeded: &Seeded, faults: &[Fault], all: bool, next: &AtomicUsize, found: &AtomicUsize) {
-    while let Some(fault) = faults.get(next.fetch_add(1, Ordering::Relaxed)) {
-        let mut words: Vec<&str> = fault.found_by.iter().map(String::as_str).collect();
-        words.extend(KINDS.iter().map(|(kind, _)| *kind).filter(|kind| all && !fault.found_by.iter().any(|by| by == kind)));
-        let (finders, others): (Vec<&str>, Vec<&str>) = words.into_iter().partition(|word| status(seeded, &fault.name, word) == Some(1));
-        let missed: Vec<&str> = others.into_iter().filter(|word| fault.found_by.iter().any(|by| by == word)).collect();
-        let verdict = if missed.is_empty() { String::from("ok") } else { format!("NOT FOUND by {}", missed.join(" ")) };
-        println!("fault {}: {verdict}: found by {}: {}", fault.name, finders.join(" "), fault.what);
-        found.fetch_add(usize::from(missed.is_empty()), Ordering::Relaxed);
-    }
+/// Tries one fault: whether it was found as it must be, and what is told of it.
+fn try_one(seeded: &Seeded, fault: &Seed, all: bool) -> (bool, String) {
+    let mut words: Vec<&str> = fault.found_by.iter().map(String::as_str).collect();
+    words.extend(KINDS.iter().map(|(kind, _)| *kind).filter(|kind| all && !fault.found_by.iter().any(|by| by == kind)));
+    let (finders, others): (Vec<&str>, Vec<&str>) = words.into_iter().partition(|word| status(seeded, &fault.name, word) == Some(1));
+    let missed: Vec<&str> = others.into_iter().filter(|word| fault.found_by.iter().any(|by| by == word)).collect();
+    let verdict = if missed.is_empty() { String::from("ok") } else { format!("NOT FOUND by {}", missed.join(" ")) };
+    (missed.is_empty(), format!("fault {}: {verdict}: found by {}: {}", fault.name, finders.join(" "), fault.what))
 }
 
 /// How a kind of test, or a test, ends over a fault: 0 where it passes, 1 where it fails, anything else where it could not be run.
@@ -148,43 +116,9 @@ fn status(seeded: &Seeded, fault: &str, word: &str) -> Option<i32> {
     program.stdout(Stdio::null()).stderr(Stdio::null()).status().ok()?.code()
 }
 
-/// Writes the package anew and builds it.
-fn built(harness: &Path, package: &Path, faults: &[Fault]) -> Result<(), String> {
-    let source = package.join("src");
-    if source.exists() {
-        fs::remove_dir_all(&source).map_err(|why| format!("{}: {why}", source.display()))?;
-    }
-    for fault in faults {
-        seeded(harness, &source.join(&fault.name), fault).map_err(|why| format!("fault {}: {why}", fault.name))?;
-    }
-    write(&package.join("Cargo.toml"), MANIFEST)?;
-    write(&source.join("main.rs"), &program(faults))?;
-    let mut cargo = Command::new(env::var_os("CARGO").unwrap_or("cargo".into()));
-    cargo.args(["build", "--quiet", "--offline", "--target-dir", "target"]).current_dir(package).env("RUSTFLAGS", "-A warnings");
-    let output = cargo.output().map_err(|why| format!("cargo does not run: {why}"))?;
-    match output.status.success() {
-        true => Ok(()),
-        false => Err(format!("the faults do not compile: {}", String::from_utf8_lossy(&output.stderr))),
-    }
-}
-
-/// A copy of what a fault is seeded in, with the fault.
-fn seeded(harness: &Path, copy: &Path, fault: &Fault) -> Result<(), String> {
-    copy_all(&harness.join("src").join(fault.part.copied), &copy.join(fault.part.copied))?;
-    for edit in &fault.edits {
-        let path = copy.join(&edit.file);
-        let text = fs::read_to_string(&path).map_err(|why| format!("{}: {why}", edit.file))?;
-        match text.matches(&edit.old).count() {
-            1 => write(&path, &text.replacen(&edit.old, &edit.new, 1))?,
-            count => return Err(format!("'{}' stands {count} times in {}", edit.old, edit.file)),
-        }
-    }
-    Ok(())
-}
-
 /// The program over the copies: its first word names a fault, the others are those of `compare`.
 fn program(faults: &[Fault]) -> String {
-    let modules: String = faults.iter().map(module).collect();
+    let modules: String = faults.iter().map(|fault| seeding::module(&fault.seed, fault.part.copied, fault.part.module)).collect();
     let arms: String = faults.iter().map(arm).collect();
     [
         "pub use harness::{call, guarantee, layout, model};\nuse harness::comparing::{program, sides::Sides};\n\n",
@@ -198,68 +132,24 @@ fn program(faults: &[Fault]) -> String {
     .concat()
 }
 
-/// The module of a fault: the copy of what the fault is seeded in, at the path that it has in the package.
-fn module(fault: &Fault) -> String {
-    let (name, Part { copied, module, .. }) = (&fault.name, fault.part);
-    let path = if copied.ends_with(".rs") { String::from(*copied) } else { format!("{copied}/mod.rs") };
-    format!("mod {name} {{\n    #[path = \"{path}\"]\n    pub mod {module};\n}}\n")
-}
-
 /// The arm of the program for a fault: the sound sides and checkers, but for what the fault is seeded in.
 fn arm(fault: &Fault) -> String {
-    let (name, part) = (&fault.name, fault.part);
+    let (name, part) = (&fault.seed.name, fault.part);
     let play = |(side, function): &(&str, &str)| format!("{side}: {name}::{}::{function}, ", part.module);
     let plays: String = part.plays.iter().map(play).collect();
     format!("        \"{name}\" => Sides {{ {plays}..Sides::SOUND }},\n")
 }
 
-/// Copies a file, or a folder with what is in it.
-fn copy_all(from: &Path, to: &Path) -> Result<(), String> {
-    if from.is_file() {
-        let text = fs::read_to_string(from).map_err(|why| format!("{}: {why}", from.display()))?;
-        return write(to, &text);
-    }
-    for entry in fs::read_dir(from).map_err(|why| format!("{}: {why}", from.display()))? {
-        let entry = entry.map_err(|why| why.to_string())?;
-        copy_all(&entry.path(), &to.join(entry.file_name()))?;
-    }
-    Ok(())
+/// The faults of the folder faults/, by name.
+fn read_faults() -> Result<Vec<Fault>, String> {
+    seeding::read_all(&harness().join("faults"))?.into_iter().map(fault).collect()
 }
 
-/// Writes a file, and the folder that it stands in.
-fn write(path: &Path, text: &str) -> Result<(), String> {
-    let folder = path.parent().unwrap_or(Path::new("."));
-    fs::create_dir_all(folder).and_then(|()| fs::write(path, text)).map_err(|why| format!("{}: {why}", path.display()))
-}
-
-/// The faults of a folder, by name.
-fn read_faults(folder: &Path) -> Result<Vec<Fault>, String> {
-    let entries = fs::read_dir(folder).map_err(|why| format!("{}: {why}", folder.display()))?;
-    let paths: Result<Vec<PathBuf>, _> = entries.map(|entry| entry.map(|entry| entry.path())).collect();
-    let mut paths = paths.map_err(|why| format!("{}: {why}", folder.display()))?;
-    paths.sort();
-    paths.iter().map(|path| read_fault(path).map_err(|why| format!("{}: {why}", path.display()))).collect()
-}
-
-/// A fault as its file has it: '#' what is wrong, '# found by:' the kinds and tests, 'file:', and pairs of 'old:' and 'new:'.
-fn read_fault(path: &Path) -> Result<Fault, String> {
-    let text = fs::read_to_string(path).map_err(|why| why.to_string())?;
-    let (mut what, mut file, mut old) = ("", "", "");
-    let (mut found_by, mut edits) = (Vec::new(), Vec::new());
-    for line in text.lines() {
-        let (word, rest) = line.split_once(": ").unwrap_or((line, ""));
-        match word {
-            "# found by" => found_by = rest.split(' ').map(String::from).collect(),
-            "file" => file = rest,
-            "old" => old = rest,
-            "new" => edits.push(Edit { file: file.into(), old: old.into(), new: rest.into() }),
-            _ => what = line.strip_prefix("# ").ok_or_else(|| format!("'{line}' is no line of a fault"))?,
-        }
+/// A fault, with what it is seeded in; it names what must find it.
+fn fault(seed: Seed) -> Result<Fault, String> {
+    if seed.found_by.is_empty() || !seed.found_by.iter().all(|word| named(word).is_some()) {
+        return Err(format!("fault {} names no kind of test or test that there is", seed.name));
     }
-    if edits.is_empty() || found_by.is_empty() || !found_by.iter().all(|word| named(word).is_some()) {
-        return Err(String::from("it names no edit, or no kind of test or test that there is"));
-    }
-    let part = PARTS.iter().find(|part| file.starts_with(part.copied)).ok_or_else(|| format!("no fault can be seeded in {file}"))?;
-    let name = path.file_stem().unwrap_or_default().to_string_lossy().into_owned();
-    Ok(Fault { name, what: what.into(), found_by, part, edits })
+    let part = PARTS.iter().find(|part| seed.file().starts_with(part.copied));
+    part.map(|part| Fault { part, seed }).ok_or_else(|| String::from("no fault can be seeded in the file that an edit names"))
 }

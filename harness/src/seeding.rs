@@ -1,0 +1,170 @@
+//! Wrong programs, seeded by edits of right ones: files that each name an edit, and a package in which each module is a copy of a part of this one with one
+//! such edit made.
+
+use std::env;
+use std::fs;
+use std::path::{Path, PathBuf};
+use std::process::{Command, ExitCode};
+use std::sync::atomic::{AtomicUsize, Ordering};
+use std::thread;
+
+/// How many wrong programs are tried at a time.
+const AT_A_TIME: usize = 2;
+
+/// One wrong program: its name, what is wrong, the words of its line '# found by:', and the edits that make it.
+pub struct Seed {
+    pub name: String,
+    pub what: String,
+    pub found_by: Vec<String>,
+    edits: Vec<Edit>,
+}
+
+/// A text of one file that is replaced by another.
+struct Edit {
+    file: String,
+    old: String,
+    new: String,
+}
+
+/// A package that is written anew and built: where it is, its manifest, and the file of its program.
+pub struct Package<'a> {
+    pub folder: &'a Path,
+    pub manifest: &'a str,
+    pub program: &'a str,
+}
+
+/// The folder of this package, whose files are copied.
+pub fn harness() -> &'static Path {
+    Path::new(env!("CARGO_MANIFEST_DIR"))
+}
+
+/// The wrong programs of a folder, by name.
+pub fn read_all(folder: &Path) -> Result<Vec<Seed>, String> {
+    let entries = fs::read_dir(folder).map_err(|why| format!("{}: {why}", folder.display()))?;
+    let paths: Result<Vec<PathBuf>, _> = entries.map(|entry| entry.map(|entry| entry.path())).collect();
+    let mut paths = paths.map_err(|why| format!("{}: {why}", folder.display()))?;
+    paths.sort();
+    paths.iter().map(|path| read(path).map_err(|why| format!("{}: {why}", path.display()))).collect()
+}
+
+/// A wrong program as its file has it: '#' what is wrong, '# found by:' what must find it, 'file:', and pairs of 'old:' and 'new:'.
+fn read(path: &Path) -> Result<Seed, String> {
+    let text = fs::read_to_string(path).map_err(|why| why.to_string())?;
+    let (mut what, mut file, mut old) = ("", "", "");
+    let (mut found_by, mut edits) = (Vec::new(), Vec::new());
+    for line in text.lines() {
+        let (word, rest) = line.split_once(": ").unwrap_or((line, ""));
+        match word {
+            "# found by" => found_by = rest.split(' ').map(String::from).collect(),
+            "file" => file = rest,
+            "old" => old = rest,
+            "new" => edits.push(Edit { file: file.into(), old: old.into(), new: rest.into() }),
+            _ => what = line.strip_prefix("# ").ok_or_else(|| format!("'{line}' is no line of an edit"))?,
+        }
+    }
+    let name = path.file_stem().unwrap_or_default().to_string_lossy().into_owned();
+    match edits.is_empty() {
+        true => Err(String::from("it names no edit")),
+        false => Ok(Seed { name, what: what.into(), found_by, edits }),
+    }
+}
+
+impl Seed {
+    /// The file that the first edit changes.
+    pub fn file(&self) -> &str {
+        &self.edits[0].file
+    }
+
+    /// Puts a copy of a file or folder of this package, with the edits made, into a folder of the wrong program's name.
+    fn copied(&self, part: &str, source: &Path) -> Result<(), String> {
+        let copy = source.join(&self.name);
+        copy_all(&harness().join("src").join(part), &copy.join(part))?;
+        self.edits.iter().try_for_each(|edit| edit.made(&copy))
+    }
+}
+
+impl Edit {
+    /// Makes the edit in a copy, where its old text must stand just once.
+    fn made(&self, copy: &Path) -> Result<(), String> {
+        let path = copy.join(&self.file);
+        let text = fs::read_to_string(&path).map_err(|why| format!("{}: {why}", self.file))?;
+        match text.matches(&self.old).count() {
+            1 => write(&path, &text.replacen(&self.old, &self.new, 1)),
+            count => Err(format!("'{}' stands {count} times in {}", self.old, self.file)),
+        }
+    }
+}
+
+impl Package<'_> {
+    /// Writes the package anew, with a copy of a part for each wrong program, and builds it.
+    pub fn built<'s>(&self, seeds: impl Iterator<Item = (&'s Seed, &'s str)>) -> Result<(), String> {
+        let source = self.folder.join("src");
+        if source.exists() {
+            fs::remove_dir_all(&source).map_err(|why| format!("{}: {why}", source.display()))?;
+        }
+        for (seed, part) in seeds {
+            seed.copied(part, &source).map_err(|why| format!("{}: {why}", seed.name))?;
+        }
+        write(&self.folder.join("Cargo.toml"), self.manifest)?;
+        write(&source.join("main.rs"), self.program)?;
+        let mut cargo = Command::new(env::var_os("CARGO").unwrap_or("cargo".into()));
+        cargo.args(["build", "--quiet", "--offline", "--target-dir", "target"]).current_dir(self.folder).env("RUSTFLAGS", "-A warnings");
+        let output = cargo.output().map_err(|why| format!("cargo does not run: {why}"))?;
+        match output.status.success() {
+            true => Ok(()),
+            false => Err(format!("the wrong programs do not compile: {}", String::from_utf8_lossy(&output.stderr))),
+        }
+    }
+}
+
+/// The module of a wrong program in a package's program: the copy of a part, under the name of that part's module.
+pub fn module(seed: &Seed, part: &str, module: &str) -> String {
+    let path = if part.ends_with(".rs") { String::from(part) } else { format!("{part}/mod.rs") };
+    format!("mod {} {{\n    #[path = \"{path}\"]\n    pub mod {module};\n}}\n", seed.name)
+}
+
+/// Tries wrong programs, a few at a time, and prints what is told of each; how many of them were found as they must be.
+pub fn tried<T: Sync>(wrong: &[T], each: impl Fn(&T) -> (bool, String) + Sync) -> usize {
+    let (next, found) = (AtomicUsize::new(0), AtomicUsize::new(0));
+    let try_some = || {
+        while let Some(one) = wrong.get(next.fetch_add(1, Ordering::Relaxed)) {
+            let (is_found, told) = each(one);
+            println!("{told}");
+            found.fetch_add(usize::from(is_found), Ordering::Relaxed);
+        }
+    };
+    thread::scope(|scope| {
+        for _ in 0..AT_A_TIME {
+            scope.spawn(&try_some);
+        }
+    });
+    found.into_inner()
+}
+
+/// The closing line.
+pub fn closed(passed: usize, failed: usize, why: &str) -> ExitCode {
+    if !why.is_empty() {
+        println!("{why}");
+    }
+    println!("{passed} passed, {failed} failed");
+    ExitCode::from(u8::from(failed > 0))
+}
+
+/// Copies a file, or a folder with what is in it.
+fn copy_all(from: &Path, to: &Path) -> Result<(), String> {
+    if from.is_file() {
+        let text = fs::read_to_string(from).map_err(|why| format!("{}: {why}", from.display()))?;
+        return write(to, &text);
+    }
+    for entry in fs::read_dir(from).map_err(|why| format!("{}: {why}", from.display()))? {
+        let entry = entry.map_err(|why| why.to_string())?;
+        copy_all(&entry.path(), &to.join(entry.file_name()))?;
+    }
+    Ok(())
+}
+
+/// Writes a file, and the folder that it stands in.
+fn write(path: &Path, text: &str) -> Result<(), String> {
+    let folder = path.parent().unwrap_or(Path::new("."));
+    fs::create_dir_all(folder).and_then(|()| fs::write(path, text)).map_err(|why| format!("{}: {why}", path.display()))
+}
