@@ -1,6 +1,6 @@
 //! Links the static library of the exports, which `rt staticlib exports` leaves in the repository's target/staticlib. Where it is not there, nothing
-//! is linked: the programs that call no export (`capture`, `recording`, `outside_replay`, `timeline`) are then built all the same, with cargo alone,
-//! and only those that call one, such as `compare`, and the tests miss it.
+//! is linked: the programs that call no export (`capture`, `recording`, `outside_replay`, `timeline`, `conformance`) are then built all the same, with
+//! cargo alone, and only those that call one, such as `compare`, and the tests miss it.
 
 use std::env;
 use std::path::PathBuf;

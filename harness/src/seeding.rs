@@ -70,9 +70,9 @@ fn read(path: &Path) -> Result<Seed, String> {
 }
 
 impl Seed {
-    /// The file that the first edit changes.
-    pub fn file(&self) -> &str {
-        &self.edits[0].file
+    /// The files that the edits change.
+    pub fn files(&self) -> impl Iterator<Item = &str> {
+        self.edits.iter().map(|edit| edit.file.as_str())
     }
 
     /// Puts a copy of a file or folder of this package, with the edits made, into a folder of the wrong program's name.

@@ -150,6 +150,6 @@ fn fault(seed: Seed) -> Result<Fault, String> {
     if seed.found_by.is_empty() || !seed.found_by.iter().all(|word| named(word).is_some()) {
         return Err(format!("fault {} names no kind of test or test that there is", seed.name));
     }
-    let part = PARTS.iter().find(|part| seed.file().starts_with(part.copied));
+    let part = PARTS.iter().find(|part| seed.files().all(|file| file.starts_with(part.copied)));
     part.map(|part| Fault { part, seed }).ok_or_else(|| String::from("no fault can be seeded in the file that an edit names"))
 }

@@ -84,12 +84,10 @@ pub fn names() -> Result<Vec<String>, String> {
     Ok(names.into_iter().collect())
 }
 
-/// The names in the tables of what each capture shows, by name.
+/// The names in the tables of what each capture shows, in their order.
 pub fn listed() -> Result<Vec<String>, String> {
     let text = read_text(README)?;
     let tables = text.split("\n\n").filter(|part| part.starts_with("| name |"));
     let rows = tables.flat_map(|table| table.lines().skip(2));
-    let mut names: Vec<String> = rows.filter_map(|row| row.split('`').nth(1)).map(String::from).collect();
-    names.sort();
-    Ok(names)
+    Ok(rows.filter_map(|row| row.split('`').nth(1)).map(String::from).collect())
 }

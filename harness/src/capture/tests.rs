@@ -262,7 +262,9 @@ fn the_outside_program_prints_the_stored_outputs() {
 fn every_stored_capture_is_listed_once() {
     let names = stored::names().expect("the folder can be read");
     assert!(!names.is_empty());
-    assert_eq!(stored::listed().expect("the list can be read"), names);
+    let mut listed = stored::listed().expect("the list can be read");
+    listed.sort();
+    assert_eq!(listed, names);
 }
 
 /// What the tool leaves when it is called with words and an input: status, output, and what it told.
