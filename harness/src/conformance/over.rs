@@ -7,7 +7,7 @@ use crate::command_line::WRONG_WORDS;
 use crate::conformance::difference::Difference;
 use crate::conformance::judging::{judged, Verdict};
 use crate::conformance::report::{report, Program};
-use crate::conformance::set::{self, Capture, Entry};
+use crate::conformance::set::{self, captures, Capture, Entry};
 use crate::conformance::tool::{tell, Failure, ALL_AGREE, ONE_PARTS};
 use crate::running::{self, Bounds, End, Left};
 
@@ -117,20 +117,20 @@ impl<'a> Over<'a> {
     }
 
     /// Tells the first that parts, why captures were not run, and the totals.
-    fn close(&mut self, captures: usize) {
+    fn close(&mut self, all: usize) {
         let mut lines = std::mem::take(&mut self.first);
         if let Some(first) = self.with_status.first() {
-            let count = self.with_status.len();
+            let of = captures(self.with_status.len());
             lines.push(format!(
-                "note: of {count} captures, first of {first}, the program prints what the rule does and ends with a status other than 0"
+                "note: of {of}, first of {first}, the program prints what the rule does and ends with a status other than 0"
             ));
         }
-        let not_run = captures - self.passed - self.failed;
+        let not_run = all - self.passed - self.failed;
         if self.too_long == MOST_TOO_LONG && not_run > 0 {
-            lines.push(format!("the program took too long for {MOST_TOO_LONG} captures, and was not run again"));
+            lines.push(format!("the program took too long for {}, and was not run again", captures(MOST_TOO_LONG)));
         }
         let untold = if not_run > 0 { format!(", {not_run} were not run") } else { String::new() };
-        lines.push(format!("of {captures} captures {}{untold}", counted(self.passed, self.failed)));
+        lines.push(format!("of {} {}{untold}", captures(all), counted(self.passed, self.failed)));
         lines.push(format!("{} passed, {} failed", self.passed, self.failed));
         tell(self.output, &lines.join("\n"));
     }

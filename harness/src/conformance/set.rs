@@ -38,6 +38,14 @@ pub fn about(group: &str) -> &'static str {
     GROUPS.iter().find(|seeded| seeded.name == group).map_or(ABOUT_STORED, |seeded| seeded.about)
 }
 
+/// So many captures, in words.
+pub fn captures(count: usize) -> String {
+    match count {
+        1 => String::from("1 capture"),
+        count => format!("{count} captures"),
+    }
+}
+
 /// Captures that stand together, group after group.
 pub fn by_group(entries: &[Entry]) -> impl Iterator<Item = &[Entry]> {
     entries.chunk_by(|one, other| one.group == other.group)
@@ -54,12 +62,12 @@ fn seeded(mut sums: sums::All) -> Result<Vec<Entry>, String> {
     let mut entries = Vec::new();
     for (group, number) in GROUPS.iter().flat_map(|group| (1..=group.captures()).map(move |number| (group, number))) {
         let name = group.capture_name(number);
-        let sums = sums.remove(&name).ok_or_else(|| format!("conformance/sums has no line for {name}"))?;
+        let sums = sums.remove(&name).ok_or_else(|| format!("{} has no line for {name}", sums::FILE))?;
         entries.push(Entry { name, group: group.name, source: Source::Seeded { group, number, sums } });
     }
     match sums.keys().next() {
         None => Ok(entries),
-        Some(name) => Err(format!("conformance/sums has a line for {name}, and no group has such a capture")),
+        Some(name) => Err(format!("{} has a line for {name}, and no group has such a capture", sums::FILE)),
     }
 }
 
@@ -97,7 +105,7 @@ fn seeded_capture(group: &Group, number: usize, stored: &Sums) -> Result<Capture
 fn fitting(what: &str, stored: Checksum, made: Checksum) -> Result<(), String> {
     match stored == made {
         true => Ok(()),
-        false => Err(format!("cksum of {what} is {made}, and {stored} in conformance/sums")),
+        false => Err(format!("cksum of {what} is {made}, and {stored} in {}", sums::FILE)),
     }
 }
 

@@ -25,16 +25,18 @@ pub struct Sums {
 /// The sums of each seeded capture, by its name.
 pub type All = BTreeMap<String, Sums>;
 
-/// The file of the sums.
+/// The file of the sums, as it is called in the repository.
+pub const FILE: &str = "conformance/sums";
+
+/// The path of the file.
 fn path() -> PathBuf {
-    Path::new(env!("CARGO_MANIFEST_DIR")).join("../conformance/sums")
+    Path::new(env!("CARGO_MANIFEST_DIR")).join("..").join(FILE)
 }
 
 /// The sums that the file has.
 pub fn stored() -> Result<All, String> {
-    let path = path();
-    let text = fs::read_to_string(&path).map_err(|why| format!("{}: {why}", path.display()))?;
-    read(&text).map_err(|why| format!("{}: {why}", path.display()))
+    let text = fs::read_to_string(path()).map_err(|why| format!("{FILE}: {why}"))?;
+    read(&text).map_err(|why| format!("{FILE}: {why}"))
 }
 
 /// The sums of a text.

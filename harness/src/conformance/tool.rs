@@ -9,7 +9,7 @@ use crate::conformance::asked::{self, Asked, Doing, USAGE};
 use crate::conformance::files::{self, Folder};
 use crate::conformance::over::Over;
 use crate::conformance::report::Program;
-use crate::conformance::set::{self, Entry};
+use crate::conformance::set::{self, captures, Entry};
 use crate::conformance::sums;
 
 /// The status where all captures agree.
@@ -81,7 +81,7 @@ fn chosen(asked: &Asked) -> Result<Vec<Entry>, Failure> {
 fn list(entries: &[Entry], output: &mut dyn Write) {
     for group in set::by_group(entries) {
         let names: Vec<&str> = group.iter().map(|entry| entry.name.as_str()).collect();
-        tell(output, &format!("{}, {} captures: {}\n  {}", group[0].group, group.len(), set::about(group[0].group), names.join(" ")));
+        tell(output, &format!("{}, {}: {}\n  {}", group[0].group, captures(group.len()), set::about(group[0].group), names.join(" ")));
     }
 }
 
@@ -93,6 +93,6 @@ fn write(entries: &[Entry], folder: &Folder, output: &mut dyn Write) -> Result<(
         folder.write(&entry.name, files::CAPTURE, &capture.octets).map_err(failed)?;
         folder.write(&entry.name, files::OUTPUT, capture.output.as_bytes()).map_err(failed)?;
     }
-    tell(output, &format!("{} captures and what the rule prints of them are in {folder}", entries.len()));
+    tell(output, &format!("{}, and what the rule prints of each, in {folder}", captures(entries.len())));
     Ok(())
 }

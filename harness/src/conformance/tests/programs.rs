@@ -65,19 +65,19 @@ fn parts_within(test: &str, words: &str, limit: &str, lines: &[&str]) {
     {
         assert!(output.lines().any(|told| told == *line), "{line}: not told in\n{output}");
     }
-    assert!(output.ends_with("\nof 1 captures 0 agree with the rule, 1 parts from it\n0 passed, 1 failed\n"), "{output}");
+    assert!(output.ends_with("\nof 1 capture 0 agree with the rule, 1 parts from it\n0 passed, 1 failed\n"), "{output}");
 }
 
 #[test]
 fn a_program_that_agrees() {
     let (status, output) = Folder::new("agrees").of_sample(&prints("sample"), AMPLE);
-    assert_eq!((status, output.as_str()), (0, "stored: 1 agree with the rule\nof 1 captures 1 agree with the rule\n1 passed, 0 failed\n"));
+    assert_eq!((status, output.as_str()), (0, "stored: 1 agree with the rule\nof 1 capture 1 agree with the rule\n1 passed, 0 failed\n"));
 }
 
 #[test]
 fn a_program_that_agrees_with_another_status() {
     let (status, output) = Folder::new("status").of_sample(&format!("{}; exit 3", prints("sample")), AMPLE);
-    let note = "note: of 1 captures, first of sample, the program prints what the rule does and ends with a status other than 0";
+    let note = "note: of 1 capture, first of sample, the program prints what the rule does and ends with a status other than 0";
     assert!(status == 0 && output.contains(note) && output.ends_with("\n1 passed, 0 failed\n"), "{output}");
 }
 
@@ -241,7 +241,7 @@ fn captures_are_listed() {
     let (status, output, _) = Folder::new("list").left(&["--only", "c1", "--only", "fits", "--list"]);
     let lines: Vec<&str> = output.lines().collect();
     assert_eq!((status, lines.len()), (0, 4));
-    assert_eq!(lines[..2], ["stored, 1 captures: the captures of captures/, whose README says what each shows", "  c1"]);
+    assert_eq!(lines[..2], ["stored, 1 capture: the captures of captures/, whose README says what each shows", "  c1"]);
     assert!(lines[2].starts_with("fits, 160 captures: exact fits") && lines[3].starts_with("  fits-001 fits-002 "), "{output}");
 }
 
@@ -249,7 +249,7 @@ fn captures_are_listed() {
 fn captures_are_written() {
     let folder = Folder::new("write");
     let (status, output, _) = folder.left(&["--only", "c1", "--only", "without_events", "--write"]);
-    let told = format!("21 captures and what the rule prints of them are in {}\n", folder.0.display());
+    let told = format!("21 captures, and what the rule prints of each, in {}\n", folder.0.display());
     assert_eq!((status, output), (0, told));
     let stored = stored::one("c1").expect("it is stored");
     let read = |name: &str| fs::read(folder.0.join(name)).expect(name);
