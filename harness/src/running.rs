@@ -1,5 +1,5 @@
-//! A program run to its end within bounds: octets are written to its standard input, what it prints is kept up to a number of octets, and one that takes too
-//! long or prints too much is ended, with all that it started.
+//! A program run to its end within bounds: octets are written to its standard input, what it prints is kept up to a number of octets, and one that
+//! takes too long or prints too much is ended, with all that it started.
 
 use std::io::{self, Read, Write};
 use std::mem;
@@ -246,8 +246,10 @@ mod tests {
 
     #[test]
     fn a_program_that_prints_too_much_is_ended() {
+        let began = Instant::now();
         let left = shell("exec yes", b"", &Bounds { stdout: 100_001, ..WIDE });
         assert_eq!((left.end, left.stdout.len()), (End::PrintedTooMuch, 100_001));
+        assert!(began.elapsed() < WIDE.time / 2, "it was ended at the end of its time");
     }
 
     #[test]

@@ -1,5 +1,5 @@
-//! Wrong programs, seeded by edits of right ones: files that each name an edit, and a package in which each module is a copy of a part of this one with one
-//! such edit made.
+//! Wrong programs, seeded by edits of right ones: files that each name an edit, and a package in which each module is a copy of a part of this one
+//! with one such edit made.
 
 use std::env;
 use std::fs;
@@ -126,19 +126,21 @@ pub fn module(seed: &Seed, part: &str, module: &str) -> String {
 /// Tries wrong programs, a few at a time, and prints what is told of each; how many of them were found as they must be.
 pub fn tried<T: Sync>(wrong: &[T], each: impl Fn(&T) -> (bool, String) + Sync) -> usize {
     let (next, found) = (AtomicUsize::new(0), AtomicUsize::new(0));
-    let try_some = || {
-        while let Some(one) = wrong.get(next.fetch_add(1, Ordering::Relaxed)) {
-            let (is_found, told) = each(one);
-            println!("{told}");
-            found.fetch_add(usize::from(is_found), Ordering::Relaxed);
-        }
-    };
     thread::scope(|scope| {
         for _ in 0..AT_A_TIME {
-            scope.spawn(&try_some);
+            scope.spawn(|| try_some(wrong, &each, &next, &found));
         }
     });
     found.into_inner()
+}
+
+/// Tries one wrong program after another that no thread has taken, and counts those that were found as they must be.
+fn try_some<T>(wrong: &[T], each: impl Fn(&T) -> (bool, String), next: &AtomicUsize, found: &AtomicUsize) {
+    while let Some(one) = wrong.get(next.fetch_add(1, Ordering::Relaxed)) {
+        let (is_found, told) = each(one);
+        println!("{told}");
+        found.fetch_add(usize::from(is_found), Ordering::Relaxed);
+    }
 }
 
 /// The closing line.
@@ -167,4 +169,75 @@ fn copy_all(from: &Path, to: &Path) -> Result<(), String> {
 fn write(path: &Path, text: &str) -> Result<(), String> {
     let folder = path.parent().unwrap_or(Path::new("."));
     fs::create_dir_all(folder).and_then(|()| fs::write(path, text)).map_err(|why| format!("{}: {why}", path.display()))
+}
+
+#[cfg(test)]
+mod tests {
+    use std::process;
+
+    use super::*;
+
+    /// A folder with a file of a wrong program, removed when the test is over.
+    struct Folder(PathBuf);
+
+    impl Folder {
+        /// The folder of a test, with a file of this text.
+        fn with(test: &str, text: &str) -> Folder {
+            let folder = env::temp_dir().join(format!("seeding-{}-{test}", process::id()));
+            write(&folder.join("wrong_sum.edit"), text).expect("the file can be written");
+            Folder(folder)
+        }
+    }
+
+    impl Drop for Folder {
+        fn drop(&mut self) {
+            fs::remove_dir_all(&self.0).expect("the folder can be removed");
+        }
+    }
+
+    /// What is wrong with the file of a wrong program.
+    fn wrong(test: &str, text: &str) -> String {
+        let folder = Folder::with(test, text);
+        let why = read_all(&folder.0).err().expect("the file is wrong");
+        why.replace(&folder.0.display().to_string(), "")
+    }
+
+    #[test]
+    fn a_wrong_program_is_read_and_made() {
+        let text =
+            "# The sum is 1 less.\n# found by: lists records\nfile: call.rs\nold: TOLD_OCTETS: usize = 16\nnew: TOLD_OCTETS: usize = 15\n";
+        let folder = Folder::with("made", text);
+        let seeds = read_all(&folder.0).expect("the file is a good one");
+        let (name, what) = (seeds[0].name.as_str(), seeds[0].what.as_str());
+        assert_eq!((seeds.len(), name, what), (1, "wrong_sum", "The sum is 1 less."));
+        assert_eq!(
+            (&seeds[0].found_by[..], seeds[0].files().collect::<Vec<_>>()),
+            (&["lists".into(), "records".into()][..], vec!["call.rs"])
+        );
+        seeds[0].copied("call.rs", &folder.0).expect("the edit can be made");
+        let sound = fs::read_to_string(harness().join("src/call.rs")).expect("the file can be read");
+        let made = fs::read_to_string(folder.0.join("wrong_sum/call.rs")).expect("the copy can be read");
+        assert_eq!(made, sound.replace("TOLD_OCTETS: usize = 16", "TOLD_OCTETS: usize = 15"));
+    }
+
+    #[test]
+    fn wrong_files_are_told() {
+        assert_eq!(wrong("no-edit", "# words\nfile: call.rs\n"), "/wrong_sum.edit: it names no edit");
+        assert_eq!(wrong("no-line", "words\n"), "/wrong_sum.edit: 'words' is no line of an edit");
+    }
+
+    #[test]
+    fn an_edit_stands_just_once() {
+        let copied = |test: &str, old: &str| {
+            let folder = Folder::with(test, &format!("# words\nfile: call.rs\nold: {old}\nnew: x\n"));
+            read_all(&folder.0).expect("the file is a good one")[0].copied("call.rs", &folder.0)
+        };
+        assert_eq!(copied("none", "no such text"), Err("'no such text' stands 0 times in call.rs".into()));
+        assert_eq!(copied("twice", "impl fmt::Display"), Err("'impl fmt::Display' stands 2 times in call.rs".into()));
+    }
+
+    #[test]
+    fn every_one_is_tried_once() {
+        assert_eq!(tried(&[1, 2, 3, 4, 5, 6, 7], |one| (one % 2 == 0, format!("tried {one}"))), 3);
+    }
 }

@@ -1,9 +1,9 @@
-//! Sees the conformance set catch. Writes a package in which each module is a copy of the outside program with one wrong reading of document 01, seeded by an
-//! edit of conformance/wrong; builds it once; sees the sound program agree with the set; and runs conformance/run over each wrong one. Where that finds no
-//! capture at which it parts from the rule, or it does not end as a program should, that is a failure.
+//! Sees the conformance set catch. Writes a package in which each module is a copy of the outside program with one wrong reading of document 01,
+//! seeded by an edit of conformance/wrong; builds it once; sees the sound program agree with the set; and runs conformance/run over each wrong one.
+//! Where that finds no capture at which it parts from the rule, or it does not end as a program should, that is a failure.
 //!
-//! `wrong_readings` prints, for each, where it was first caught; `wrong_readings --all` runs every capture, and prints in how many of each group it parts.
-//! The last line is the total.
+//! `wrong_readings` prints, for each, where it was first caught; `wrong_readings --all` runs every capture, and prints in how many of each group it
+//! parts. The last line is the total.
 
 use std::path::PathBuf;
 use std::process::{Command, ExitCode};

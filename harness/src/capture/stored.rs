@@ -5,11 +5,11 @@ use std::fs;
 use std::path::{Path, PathBuf};
 
 /// The ending of a capture's file.
-const CAPTURE: &str = "capture";
+pub const CAPTURE: &str = "capture";
 /// The ending of the file with its text form.
-const TEXT: &str = "text";
+pub const TEXT: &str = "text";
 /// The ending of the file with what `replay` prints of it.
-const OUTPUT: &str = "output";
+pub const OUTPUT: &str = "output";
 /// The ending of the recording of which a capture was made, where it was.
 const RECORDING: &str = "pcap";
 /// The ending of the plan under which it was made.

@@ -67,4 +67,18 @@ impl Playing {
         }
         played
     }
+
+    /// The number of the last event before that of a number that changed the place or left of a stream, if one did.
+    pub fn last_change(&self, port: usize, number: usize, stream: usize) -> Option<usize> {
+        let mut played = Port::closed();
+        let mut last = None;
+        for (before, (call, _)) in self.up_to(port, number - 1).iter().enumerate() {
+            let (place, left) = (played.streams[stream].place, played.streams[stream].left);
+            rule::step(&call.given(), &mut played);
+            if (place, left) != (played.streams[stream].place, played.streams[stream].left) {
+                last = Some(before + 1);
+            }
+        }
+        last
+    }
 }

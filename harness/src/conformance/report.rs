@@ -3,9 +3,9 @@
 
 use std::time::Duration;
 
-use crate::capture::reading;
+use crate::capture::{reading, stored};
 use crate::conformance::difference::Difference;
-use crate::conformance::files::{self, Folder};
+use crate::conformance::folder::Folder;
 use crate::conformance::playing::{Due, Playing};
 use crate::conformance::set::{Capture, Entry};
 use crate::conformance::telling::{Parted, TOLD_EVENTS};
@@ -38,9 +38,9 @@ pub fn report(entry: &Entry, capture: &Capture, left: &Left, difference: Option<
 fn written(name: &str, parted: &Parted, folder: &Folder) -> Vec<String> {
     let text = reading::text(parted.octets);
     let mut lines = vec![
-        file(folder, name, "the capture", files::CAPTURE, parted.octets),
-        file(folder, name, "the capture as text", files::TEXT, text.as_bytes()),
-        file(folder, name, "what the rule prints", files::OUTPUT, parted.output.as_bytes()),
+        file(folder, name, "the capture", stored::CAPTURE, parted.octets),
+        file(folder, name, "the capture as text", stored::TEXT, text.as_bytes()),
+        file(folder, name, "what the rule prints", stored::OUTPUT, parted.output.as_bytes()),
         file(folder, name, "what the program printed", PRINTED, &parted.left.stdout),
     ];
     lines.extend(picture(name, parted).map(|picture| match picture {
@@ -64,7 +64,8 @@ fn picture(name: &str, parted: &Parted) -> Option<Result<String, TooMany>> {
     match playing.due(parted.difference.as_ref()?.line) {
         Due::Event(event) => {
             let first = event.number.saturating_sub(TOLD_EVENTS).max(1);
-            let title = format!("{name}, port {}, event {}", event.port, event.number);
+            let title =
+                format!("capture {name}: the rule up to event {} of port {}, at which the program parts from it", event.number, event.port);
             Some(timeline::drawn(event.port, playing.up_to(event.port, event.number), first..=event.number, &title))
         }
         Due::Refused(_) | Due::Nothing => None,
@@ -75,7 +76,7 @@ fn picture(name: &str, parted: &Parted) -> Option<Result<String, TooMany>> {
 fn by_hand(name: &str, program: &Program) -> String {
     let words: Vec<String> = program.words.iter().map(|word| quoted(word)).collect();
     let path = |ending| quoted(&program.folder.file(name, ending).display().to_string());
-    format!("{} < {} | diff {} -", words.join(" "), path(files::CAPTURE), path(files::OUTPUT))
+    format!("{} < {} | diff {} -", words.join(" "), path(stored::CAPTURE), path(stored::OUTPUT))
 }
 
 /// A word as a shell takes it.

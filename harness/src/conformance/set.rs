@@ -1,5 +1,5 @@
-//! The captures of the set, in the order in which they are run: the stored ones of captures/ as its README lists them, then the seeded ones, group after
-//! group. Each is held against what is stored of it before a program gets it.
+//! The captures of the set, in the order in which they are run: the stored ones of captures/ as its README lists them, then the seeded ones, group
+//! after group. Each is held against what is stored of it before a program gets it.
 
 use crate::capture::stored::{self, Stored};
 use crate::conformance::checksum::Checksum;

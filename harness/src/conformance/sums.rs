@@ -1,5 +1,5 @@
-//! conformance/sums: for each seeded capture a line with its name and, as `cksum` prints them, the checksums of the capture and of what the rule prints
-//! of it.
+//! conformance/sums: for each seeded capture a line with its name and, as `cksum` prints them, the checksums of the capture and of what the rule
+//! prints of it.
 
 use std::collections::BTreeMap;
 use std::fs;

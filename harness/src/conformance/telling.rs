@@ -101,9 +101,13 @@ fn program_line(difference: &Difference) -> Option<Line> {
     }
 }
 
-/// The steps to the rule's reply, where the reply's own words do not say all.
+/// The steps to the rule's reply, where the reply's own words do not say all; of an arrival also the event that brought its stream to where it is.
 fn why(playing: &Playing, event: &Event) -> Vec<String> {
-    let steps = steps(event.call, &event.reply, &playing.port_before(event.port, event.number));
+    let mut steps = steps(event.call, &event.reply, &playing.port_before(event.port, event.number));
+    if let (Call::Arrive { stream, .. }, 2..) = (event.call, steps.len()) {
+        let since = playing.last_change(event.port, event.number, usize::from(*stream));
+        steps[0] += &since.map(|number| format!(", since event {number}")).unwrap_or_default();
+    }
     let heading = (!steps.is_empty()).then(|| String::from("why the rule says so:"));
     heading.into_iter().chain(steps.into_iter().map(|step| format!("  {step}"))).collect()
 }

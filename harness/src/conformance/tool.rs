@@ -1,16 +1,17 @@
-//! The command: runs a program in place of `replay` over the captures of the set, lists them or writes them. Status 0 says that all agree with the rule, 1
-//! that one parts, 2 that the command line is wrong or the program cannot be started, 3 that the set itself is not what is stored of it, so that
-//! nothing can be judged by it.
+//! The command: runs a program in place of `replay` over the captures of the set, lists them or writes them. Status 0 says that all agree with the
+//! rule, 1 that one parts, 2 that the command line is wrong or the program cannot be started, 3 that the set itself is not what is stored of it, so
+//! that nothing can be judged by it.
 
 use std::io::Write;
 
+use crate::capture::stored;
 use crate::command_line::WRONG_WORDS;
 use crate::conformance::asked::{self, Asked, Doing, USAGE};
-use crate::conformance::files::{self, Folder};
-use crate::conformance::over::Over;
+use crate::conformance::folder::Folder;
 use crate::conformance::report::Program;
 use crate::conformance::set::{self, captures, Entry};
 use crate::conformance::sums;
+use crate::conformance::trial::Trial;
 
 /// The status where all captures agree.
 pub const ALL_AGREE: u8 = 0;
@@ -56,7 +57,7 @@ fn done(asked: &Asked, output: &mut dyn Write) -> Result<u8, Failure> {
         Doing::Write => write(&chosen(asked)?, &folder, output)?,
         Doing::Run(words) => {
             let program = Program { words, limit: asked.limit, folder: &folder };
-            return Over::new(program, asked.all, asked.first, output).run(&chosen(asked)?);
+            return Trial::new(program, asked.all, asked.first, output).run(&chosen(asked)?);
         }
     }
     Ok(ALL_AGREE)
@@ -90,8 +91,8 @@ fn write(entries: &[Entry], folder: &Folder, output: &mut dyn Write) -> Result<(
     let failed = |what| Failure { status: ONE_PARTS, what };
     for entry in entries {
         let capture = entry.capture().map_err(|why| Failure::of_the_set(&why))?;
-        folder.write(&entry.name, files::CAPTURE, &capture.octets).map_err(failed)?;
-        folder.write(&entry.name, files::OUTPUT, capture.output.as_bytes()).map_err(failed)?;
+        folder.write(&entry.name, stored::CAPTURE, &capture.octets).map_err(failed)?;
+        folder.write(&entry.name, stored::OUTPUT, capture.output.as_bytes()).map_err(failed)?;
     }
     tell(output, &format!("{}, and what the rule prints of each, in {folder}", captures(entries.len())));
     Ok(())

@@ -1,5 +1,5 @@
-//! The group `damaged`: files that are no good captures, at each thing of which refusals 21 to 24 speak; files of which two things are wrong, so that the
-//! order of the checks decides; and files whose faults nobody looks at.
+//! The group `damaged`: files that are no good captures, at each thing of which refusals 21 to 24 speak; files of which two things are wrong, so that
+//! the order of the checks decides; and files whose faults nobody looks at.
 
 use crate::call::Call;
 use crate::comparing::random::Random;

@@ -1,4 +1,5 @@
-//! The group `ports`: several ports, whose chains lie one after another or among each other, share records or leave some unused. Each port is a fresh one.
+//! The group `ports`: several ports, whose chains lie one after another or among each other, share records or leave some unused. Each port is a fresh
+//! one.
 
 use crate::call::Call;
 use crate::capture::file::MOST_RECORDS;

@@ -1,5 +1,5 @@
-//! The group `refusals`: calls of which several things are wrong at once, so that the order of the checks decides, on closed ports and on open ones, and
-//! traffic between, which shows that a refusal changed nothing.
+//! The group `refusals`: calls of which several things are wrong at once, so that the order of the checks decides, on closed ports and on open ones,
+//! and traffic between, which shows that a refusal changed nothing.
 
 use crate::call::Call;
 use crate::comparing::random::Random;

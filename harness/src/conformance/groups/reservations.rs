@@ -1,5 +1,5 @@
-//! The group `reservations`: reservations after traffic, at any time of an epoch, up to the share and one octet past it, and frames of the new streams
-//! at once.
+//! The group `reservations`: reservations after traffic, at any time of an epoch, up to the share and one octet past it, and frames of the new
+//! streams at once.
 
 use crate::call::Call;
 use crate::comparing::random::Random;

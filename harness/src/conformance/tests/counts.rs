@@ -57,7 +57,7 @@ const DEMANDED: [(&str, usize); 43] = [
 ];
 
 /// How many of a hundred events are granted at least.
-const GRANTED: usize = 80;
+const GRANTED: usize = 85;
 
 /// How often each thing happened.
 type Counts = BTreeMap<String, usize>;

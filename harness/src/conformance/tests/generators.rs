@@ -1,6 +1,8 @@
 //! The generators: the set is the one whose sums are stored, each capture is made anew alike, and some are what their group says.
 
 use std::collections::BTreeSet;
+use std::fs;
+use std::path::Path;
 
 use crate::call::Call;
 use crate::capture::stored;
@@ -53,6 +55,17 @@ fn every_name_is_one_capture_or_one_group() {
     assert_eq!(names.len(), entries.len() + groups.len());
     let stored_ones = entries.iter().filter(|entry| entry.group == STORED).count();
     assert_eq!(stored_ones, stored::names().expect("the folder can be read").len());
+}
+
+#[test]
+fn the_readme_says_how_many_captures_each_group_has() {
+    let path = Path::new(env!("CARGO_MANIFEST_DIR")).join("../conformance/README.md");
+    let text = fs::read_to_string(path).expect("the README can be read");
+    let table = text.split("\n\n").find(|part| part.starts_with("| group |")).expect("it has a table of the groups");
+    let listed: Vec<String> = table.lines().skip(2).map(|row| row.split(" | ").take(2).collect::<Vec<_>>().join(" ")).collect();
+    let entries = set::all().expect("the set can be read");
+    let counted: Vec<String> = set::by_group(&entries).map(|group| format!("| `{}` {}", group[0].group, group.len())).collect();
+    assert_eq!(listed, counted);
 }
 
 #[test]

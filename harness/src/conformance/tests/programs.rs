@@ -1,4 +1,5 @@
-//! The command over programs of every sort, which are words of the shell: those that agree, those that part, and those that do not run as they should.
+//! The command over programs of every sort, which are words of the shell: those that agree, those that part, and those that do not run as they
+//! should.
 
 use std::env;
 use std::fs;
@@ -105,6 +106,21 @@ fn the_files_of_a_capture_that_parts() {
 }
 
 #[test]
+fn words_for_a_shell_are_told() {
+    let (_, output) = Folder::new("words").of_sample("echo 'a b'", AMPLE);
+    assert!(output.contains(r"by hand: sh -c 'echo '\''a b'\''' < "), "{output}");
+}
+
+#[test]
+fn a_picture_that_would_have_too_much_is_told() {
+    let folder = Folder::new("picture");
+    folder.left(&["--only", "rings-001", "--write"]);
+    let output = folder.0.join("rings-001.output");
+    let (_, told, _) = folder.left(&["--only", "rings-001", "head", "-n", "300", output.to_str().expect("the path is text")]);
+    assert!(told.contains("\n  a picture of the events: none, since at event "), "{told}");
+}
+
+#[test]
 fn a_folder_that_cannot_be_written_is_told() {
     let words = ["--into", "/dev/null/there", "--only", "sample", "true"].map(String::from);
     let mut output = Vec::new();
@@ -136,6 +152,14 @@ fn a_program_that_hangs() {
         "  the program did not end and close its outputs within 300ms, and was ended",
     ];
     parts_within("hangs", &format!("{} | head -n 3; sleep 600", prints("sample")), "0.3", &lines);
+}
+
+#[test]
+fn a_program_that_takes_longer_than_it_may() {
+    let (slow, folder) = (format!("sleep 1; {}", prints("sample")), Folder::new("slow"));
+    let (status, told) = folder.of_sample(&slow, "0.3");
+    assert!(status == 1 && told.contains("\n  the program did not end and close its outputs within 300ms, and was ended\n"), "{told}");
+    assert_eq!(folder.of_sample(&slow, AMPLE).0, 0);
 }
 
 #[test]

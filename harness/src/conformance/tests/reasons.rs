@@ -98,15 +98,17 @@ fn refusals_of_arguments() {
 
 #[test]
 fn the_steps_of_each_arrival_end_where_the_rule_does() {
-    for octets in GROUPS.iter().take(8).map(|group| group.capture(1)) {
-        let mut port = Port::closed();
-        for event in &events(&octets).expect("a good capture")[0] {
-            let before = port.clone();
-            let reply = rule::step(&event.given(), &mut port);
-            if matches!(event, Call::Arrive { .. }) {
-                assert!(ends_there(&steps(event, &reply, &before), &reply), "{event}: {reply}");
-            }
-        }
+    GROUPS.iter().take(8).for_each(|group| steps_end_there(&events(&group.capture(1)).expect("a good capture")[0]));
+}
+
+/// Holds the steps of each arrival of a port against the rule's reply.
+fn steps_end_there(events: &[Call]) {
+    let mut port = Port::closed();
+    for event in events {
+        let before = port.clone();
+        let reply = rule::step(&event.given(), &mut port);
+        let is_arrival = matches!(event, Call::Arrive { .. });
+        assert!(!is_arrival || ends_there(&steps(event, &reply, &before), &reply), "{event}: {reply}");
     }
 }
 

@@ -1,5 +1,5 @@
-//! What is told of a difference, word for word: of document 01's sample for each sort of line that a program can print, of refused files, of files without
-//! events, and of ports with many events.
+//! What is told of a difference, word for word: of document 01's sample for each sort of line that a program can print, of refused files, of files
+//! without events, and of ports with many events.
 
 use std::os::unix::process::ExitStatusExt;
 use std::process::ExitStatus;
@@ -57,7 +57,7 @@ fn another_reply_is_told_with_the_steps_and_the_events_before() {
         "the rule:     0 4 3 0 2 100   joins next, 100 left",
         "the program:  0 4 3 0 1 0     joins current, 0 left",
         "why the rule says so:",
-        "  stream 5, whose P is 200, is at current with left 80",
+        "  stream 5, whose P is 200, is at current with left 80, since event 3",
         "  100 is above 80, and the place is not last: it advances to next, and left becomes P, 200",
         "  100 is within what is left: the frame joins next, and left falls to 100",
         "the events of port 0 before it, with the rule's replies:",
@@ -66,6 +66,14 @@ fn another_reply_is_told_with_the_steps_and_the_events_before() {
         "  3 arrive on stream 5, charge 120, tag 7: joins current, 80 left",
     ];
     assert_eq!(told_with(4, &["0 4 3 0 1 0"]), expected);
+}
+
+#[test]
+fn the_tick_that_moved_a_stream_is_told() {
+    let octets = stored::one("c9").expect("it is stored").octets;
+    let lines: Vec<String> = replay(&octets).lines().map(String::from).collect();
+    let told = told(&octets, &left(&(lines[..7].join("\n") + "\n")));
+    assert_eq!(told[4], "  stream 5, whose P is 200, is at next with left 0, since event 7");
 }
 
 #[test]
@@ -249,8 +257,8 @@ fn what_a_program_says_of_itself_is_told() {
 fn of_many_events_the_last_are_told() {
     let mut events = vec![Call::Open { link: 2_142, delay: 1 }, Call::Reserve { stream: 5, permitted: 200 }];
     events.extend(vec![Call::Tick; 20]);
-    events.push(Call::Arrive { stream: 5, charge: 120, tag: 7 });
-    events.push(Call::Tick);
+    let arrival = Call::Arrive { stream: 5, charge: 120, tag: 7 };
+    events.extend([arrival.clone(), Call::Tick, arrival]);
     let octets = file::chain([false, true, false, false], &events);
     let lines: Vec<String> = replay(&octets).lines().map(String::from).collect();
     let at_arrival = told(&octets, &left(&(lines[..22].join("\n") + "\n")));
@@ -261,4 +269,7 @@ fn of_many_events_the_last_are_told() {
     let at_tick = told(&octets, &left(&(lines[..23].join("\n") + "\n")));
     let heading = "the last 20 of the 23 events of port 1 before it, with the rule's replies:";
     assert_eq!(at_tick[5..7], [heading, "  4 tick: purges nothing"]);
+    let at_second_arrival = told(&octets, &left(&(lines[..24].join("\n") + "\n")));
+    let heading = "the last 20 of the 24 events of port 1 before it, with the rule's replies:";
+    assert_eq!(at_second_arrival[6..8], [heading, "  5 tick: purges nothing"]);
 }

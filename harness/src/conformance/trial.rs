@@ -1,4 +1,5 @@
-//! A program run over captures, one after another: what agrees and what parts is counted, and the first that parts, or each, is told.
+//! The trial of a program: it is run over captures one after another, what agrees and what parts is counted, and the first that parts, or each, is
+//! told.
 
 use std::io::{self, Write};
 use std::process::Command;
@@ -18,12 +19,12 @@ const ERROR_OCTETS: usize = 4_096;
 /// After so many captures for which it took too long a program is not run again.
 const MOST_TOO_LONG: usize = 3;
 
-/// A run of a program over captures.
-pub struct Over<'a> {
+/// The trial of a program.
+pub struct Trial<'a> {
     program: Program<'a>,
     /// Whether each capture that parts is told, or the first alone.
     tells_all: bool,
-    /// Whether the run stops after the first that parts.
+    /// Whether it stops after the first that parts.
     stops_at_first: bool,
     output: &'a mut dyn Write,
     passed: usize,
@@ -36,11 +37,11 @@ pub struct Over<'a> {
     with_status: Vec<String>,
 }
 
-impl<'a> Over<'a> {
-    /// A run that is still to begin.
-    pub fn new(program: Program<'a>, tells_all: bool, stops_at_first: bool, output: &'a mut dyn Write) -> Over<'a> {
+impl<'a> Trial<'a> {
+    /// A trial that is still to begin.
+    pub fn new(program: Program<'a>, tells_all: bool, stops_at_first: bool, output: &'a mut dyn Write) -> Trial<'a> {
         let (first, with_status) = (Vec::new(), Vec::new());
-        Over { program, tells_all, stops_at_first, output, passed: 0, failed: 0, too_long: 0, first, with_status }
+        Trial { program, tells_all, stops_at_first, output, passed: 0, failed: 0, too_long: 0, first, with_status }
     }
 
     /// Runs the program over the captures, group after group, and tells how it went; the status.

@@ -1,18 +1,11 @@
-//! The folder into which a run writes captures and what belongs to them.
+//! The folder into which captures and what belongs to them are written.
 
 use std::env;
 use std::fmt;
 use std::fs;
 use std::path::{Path, PathBuf};
 
-/// The ending of a capture's file.
-pub const CAPTURE: &str = "capture";
-/// The ending of the file with its text form.
-pub const TEXT: &str = "text";
-/// The ending of the file with what the rule prints of it.
-pub const OUTPUT: &str = "output";
-
-/// The folder of a run.
+/// The folder.
 pub struct Folder {
     path: PathBuf,
 }
