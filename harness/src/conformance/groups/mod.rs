@@ -1,5 +1,6 @@
 //! The seeded captures, in groups: each group has a generator of its own, and is about one part of document 01. They are frozen: a capture is what
-//! its group, its seed and its variant make it, and its checksum stands in conformance/sums.
+//! its group, its seed and its variant make it, and its checksum stands in conformance/sums. Of the comparing tests they use the random numbers and
+//! nothing else; a change of those would be seen by the sums.
 
 use crate::call::Call;
 use crate::capture::file;
