@@ -1,4 +1,4 @@
-//! A call on a port and its reply, as plain values: what the model, the exports and the tests speak of alike.
+//! A call on a port and its reply, and a stream by itself, as plain values: what the model, the exports and the tests speak of alike.
 
 use std::fmt;
 use std::sync::Arc;
@@ -41,6 +41,17 @@ impl Reply {
     pub const fn refused(refusal: u8) -> Reply {
         Reply { refusal, first: 0, second: 0 }
     }
+}
+
+/// The record of one stream, as a caller keeps it by itself, without a port; its fields lie as C lays them.
+#[repr(C)]
+#[derive(Clone, Copy, Debug, PartialEq, Eq)]
+pub struct Stream {
+    pub reserved: bool,
+    /// P.
+    pub permitted: u16,
+    pub place: u8,
+    pub left: u16,
 }
 
 impl Call {

@@ -1,6 +1,6 @@
 //! The exported calls of the proved port, as a host in Rust declares them: a slice is a pointer and a length; and the rule of one stream by itself.
 
-use crate::call::{Call, Given, Reply};
+use crate::call::{Call, Given, Reply, Stream};
 
 /// Declares each call in both sorts, with its memory and its own arguments between those that all calls have.
 macro_rules! declare {
@@ -110,17 +110,6 @@ pub fn call(call: &Given, port: &mut [u8], memory: &mut [u8]) -> Reply {
 #[inline]
 pub fn unscanned(call: &Given, port: &mut [u8], memory: &mut [u8]) -> Reply {
     UNSCANNED.play(call, port, memory)
-}
-
-/// The record of one stream, for a caller that keeps it by itself, without a port.
-#[repr(C)]
-#[derive(Clone, Copy, Debug, PartialEq, Eq)]
-pub struct Stream {
-    pub reserved: bool,
-    /// P.
-    pub permitted: u16,
-    pub place: u8,
-    pub left: u16,
 }
 
 extern "C" {

@@ -2,8 +2,7 @@
 
 use std::fmt;
 
-use crate::call::{Given, Reply};
-use crate::exports::Stream;
+use crate::call::{Given, Reply, Stream};
 use crate::guarantee::found::{Alike, Broken, Found};
 use crate::guarantee::list::Event;
 use crate::guarantee::{claims, pairs};

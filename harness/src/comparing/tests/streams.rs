@@ -1,11 +1,10 @@
 //! The kind `streams`: the proved rule of one stream by itself, in a record that the test keeps, against the model's Arrive on an open port that has the
 //! stream in the same state and nothing else.
 
-use crate::call::{Call, Reply};
+use crate::call::{Call, Reply, Stream};
 use crate::comparing::coverage::Seen;
 use crate::comparing::fit::Octets;
 use crate::comparing::test::{Kind, Run, Test};
-use crate::exports::Stream;
 use crate::layout::{self, put_two, two};
 use crate::model::port::{share, CHARGES, CURRENT, DELAYS, LAST, LEAST_PERMITTED, LINKS, MARK_YES};
 use crate::model::refusal::DISCARD;
