@@ -36,13 +36,19 @@ fn surplus(printed: &[u8]) -> String {
 /// A line as it is told: cut where it is long, and what is no character of a text written out.
 fn quoted(line: &[u8]) -> String {
     let text = String::from_utf8_lossy(line);
-    let written_out: String = text.chars().take(TOLD_CHARACTERS + 1).flat_map(char::escape_debug).collect();
-    let told: String = written_out.chars().take(TOLD_CHARACTERS).collect();
+    let all = written_out(&text.chars().take(TOLD_CHARACTERS + 1).collect::<String>());
+    let told: String = all.chars().take(TOLD_CHARACTERS).collect();
     match told.as_str() {
         "" => String::from("an empty line"),
-        _ if told == written_out => told,
+        _ if told == all => told,
         _ => told + "…",
     }
+}
+
+/// A text with what is no letter of a line written out.
+pub fn written_out(text: &str) -> String {
+    let told = |letter: char| if letter.is_control() { letter.escape_debug().to_string() } else { String::from(letter) };
+    text.chars().map(told).collect()
 }
 
 /// What a line says that stands where another is due.

@@ -9,7 +9,7 @@ use crate::conformance::file_words;
 use crate::conformance::line::{self, Line};
 use crate::conformance::playing::{Due, Event, Playing};
 use crate::conformance::reasons::steps;
-use crate::conformance::said::said;
+use crate::conformance::said::{said, written_out};
 use crate::model::port::{Frame, Port, BEST_EFFORT, NOTHING};
 use crate::running::{End, Left};
 use crate::timeline::words::{self, ROLES};
@@ -73,7 +73,8 @@ impl Parted<'_> {
             lines.push(String::from("the program did not read its input to the end"));
         }
         let errors = String::from_utf8_lossy(&left.stderr);
-        lines.extend(errors.lines().take(TOLD_ERRORS).map(|line| format!("the program told on standard error: {}", line.escape_debug())));
+        let told = errors.lines().filter(|line| !line.trim().is_empty()).take(TOLD_ERRORS);
+        lines.extend(told.map(|line| format!("the program told on standard error: {}", written_out(line))));
         lines
     }
 

@@ -1,5 +1,5 @@
-//! The group `phases`: the same traffic with the tick at every phase. Each of the senders offers at most P in each epoch of its own, and the ticks
-//! of the port, which are not synchronized with them, come one event later in each further capture.
+//! The group `phases`: the same traffic with the tick at every phase. Each of the senders offers at most P in each epoch of its own, but now and then
+//! a frame more, and the ticks of the port, which are not synchronized with them, come one event later in each further capture.
 
 use crate::call::Call;
 use crate::comparing::random::Random;

@@ -103,7 +103,7 @@ fn a_line_that_is_left_out_is_told() {
 fn lines_that_are_no_reply_lines_are_told() {
     let no_reply = "prints no reply line: six numbers, port, event, kind, refusal or 0, and two reply numbers";
     line_is_told("", &format!("an empty line   {no_reply}"));
-    line_is_told("hello", &format!("hello           {no_reply}"));
+    line_is_told("it's 'so'", &format!("it's 'so'       {no_reply}"));
     line_is_told("0 4 3 0 2", &format!("0 4 3 0 2       {no_reply}"));
     line_is_told("\u{7f}\u{1}", &format!("\\u{{7f}}\\u{{1}}     {no_reply}"));
     let long = "x".repeat(61);
@@ -240,10 +240,10 @@ fn how_a_program_ended_is_told() {
 #[test]
 fn what_a_program_says_of_itself_is_told() {
     let (octets, _) = sample();
-    let program = Left { stderr: "one\ntwo\u{1b}\n3\n4\n5\n6\n".into(), input_unread: true, ..left("") };
+    let program = Left { stderr: "it's one\n\ntwo\u{1b}\n3\n4\n5\n6\n".into(), input_unread: true, ..left("") };
     let expected = [
         "the program did not read its input to the end",
-        "the program told on standard error: one",
+        "the program told on standard error: it's one",
         "the program told on standard error: two\\u{1b}",
         "the program told on standard error: 3",
         "the program told on standard error: 4",
