@@ -1,29 +1,20 @@
--- What a gate that refuses nothing tells, and what a gated call then does. Assumes nothing.
+-- What a gate that refuses nothing tells. Assumes nothing.
 use Prim.Native.Nat.{ℕ, _+_, _≤_, _<_}
-use mathlib.Core.Path.{_≡_, refl, ap}
+use mathlib.Core.Path.{_≡_, refl, sym, _∙_}
 use mathlib.Core.Bool.{Bool, true, false, not, cond}
 use mathlib.Core.List.{List}
 use native.Mathlib.Omega.{arith}
 use lib.Dec.{leb, ltb}
-use borrow.Author.Tests.{eq-eqb, ne-eqb, leb-false, ltb-false, not-false}
+use borrow.Author.Tests.{leb-false, ltb-false, not-false}
 use Rattle.queue.specs.Ring.{placeCount}
 use Rattle.record.specs.Layout.{bestEffort, streamCount}
 use Rattle.record.specs.Head.{openAt, linkAt, waitsAt, queueAt}
 use Rattle.record.specs.Entry.{streamAt}
-use Rattle.ranges.specs.Ranges.{chargeFits, shareOf, linkFits, delayFits, permittedFits}
+use Rattle.ranges.specs.Ranges.{leastCharge, greatestCharge, greatestShare, greatestDelay, chargeFits, shareOf, linkFits, delayFits, permittedFits}
+use Rattle.ranges.proofs.RangeLaws.{within-bounds}
 use Rattle.fitness.specs.Clauses.{permittedSum}
-use Rattle.steps.specs.Outcome.{Outcome, refused}
+use Rattle.steps.specs.Call.{Terms, terms}
 use Rattle.gates.specs.Refusals.{openRefusal, reserveRefusal, arriveRefusal, bestEffortLimit, bestEffortRefusal}
-use Rattle.gates.specs.Gated.{gated}
-
-module _ (g : ℕ) (p m : List ℕ) (done : Outcome) where
-  -- a gate that answers 0 lets the call through
-  pub grants : g ≡ 0 → gated g p m done ≡ done
-  grants e = ap (λ (b : Bool). cond b done (refused g p m)) (eq-eqb g 0 e)
-
-  -- one that does not refuses it, and nothing changes
-  pub refuses : (g ≡ 0 → ⊥) → gated g p m done ≡ refused g p m
-  refuses h = ap (λ (b : Bool). cond b done (refused g p m)) (ne-eqb g 0 h)
 
 -- a test that a gate is past does not hold, and the rest refuses nothing either
 pub past : (b : Bool) (n rest : ℕ) → 0 < n → cond b n rest ≡ 0 → (b ≡ false) × (rest ≡ 0)
@@ -31,18 +22,18 @@ past true n rest h e = absurd (omega arith)
 past false n rest h e = (refl, e)
 
 -- the facts that a gate's 0 stands for
-pub record OpenAllowed (p : List ℕ) (link delay : ℕ) : Type 0 where
+pub record OpenAllowed (p : List ℕ) (t : Terms) : Type 0 where
   pub closed : openAt p ≡ false
-  pub link-fits : linkFits link ≡ true
-  pub delay-fits : delayFits delay ≡ true
+  pub link-fits : linkFits (t .link) ≡ true
+  pub delay-fits : delayFits (t .delay) ≡ true
 
-pub open-allowed : (p : List ℕ) (link delay : ℕ) → openRefusal p link delay ≡ 0 → OpenAllowed p link delay
+pub open-allowed : (p : List ℕ) (t : Terms) → openRefusal p t ≡ 0 → OpenAllowed p t
 unfolding openRefusal
-open-allowed p link delay e =
-    let a = past (openAt p) 2 (cond (not (linkFits link)) 3 (cond (not (delayFits delay)) 4 0)) (omega arith) e in
-    let b = past (not (linkFits link)) 3 (cond (not (delayFits delay)) 4 0) (omega arith) (a .1) in
-    let c = past (not (delayFits delay)) 4 0 (omega arith) (b .1) in
-    record { closed = a .0; link-fits = not-false (linkFits link) (b .0); delay-fits = not-false (delayFits delay) (c .0) }
+open-allowed p t e =
+    let a = past (openAt p) 2 (cond (not (linkFits (t .link))) 3 (cond (not (delayFits (t .delay))) 4 0)) (omega arith) e in
+    let b = past (not (linkFits (t .link))) 3 (cond (not (delayFits (t .delay))) 4 0) (omega arith) (a .1) in
+    let c = past (not (delayFits (t .delay))) 4 0 (omega arith) (b .1) in
+    record { closed = a .0; link-fits = not-false (linkFits (t .link)) (b .0); delay-fits = not-false (delayFits (t .delay)) (c .0) }
 
 pub record ReserveAllowed (p : List ℕ) (s permitted : ℕ) : Type 0 where
   pub opened : openAt p ≡ true
@@ -113,3 +104,30 @@ best-effort-allowed p charge e =
       free = leb-false placeCount (queueAt p bestEffort .count) (c .0);
       limit = ltb-false (bestEffortLimit p) (waitsAt p + charge) (d .0);
     }
+
+-- what code that asks a gate needs where its answer r is 0: numbers that fit their types, and a stream of the record
+module _ (r : ℕ) (p : List ℕ) (zero : r ≡ 0) where
+  module _ (link delay : ℕ) (e : r ≡ openRefusal p (terms link delay)) where
+    pub open-link : link < 65536
+    open-link =
+        omega (arith, within-bounds (greatestCharge + leastCharge) (greatestCharge + greatestShare) link (open-allowed p (terms link delay) (sym e ∙ zero) .link-fits) .1)
+
+    pub open-delay : delay < 256
+    open-delay = omega (arith, within-bounds 1 greatestDelay delay (open-allowed p (terms link delay) (sym e ∙ zero) .delay-fits) .1)
+
+  pub reserve-stream : (s permitted : ℕ) → r ≡ reserveRefusal p s permitted → s < streamCount
+  reserve-stream s permitted e = reserve-allowed p s permitted (sym e ∙ zero) .stream
+
+  module _ (s charge : ℕ) (e : r ≡ arriveRefusal p s charge) where
+    pub arrive-stream : s < streamCount
+    arrive-stream = arrive-allowed p s charge (sym e ∙ zero) .stream
+
+    pub arrive-charge : charge < 65536
+    arrive-charge = omega (arith, within-bounds leastCharge greatestCharge charge (arrive-allowed p s charge (sym e ∙ zero) .charge-fits) .1)
+
+  module _ (charge : ℕ) (e : r ≡ bestEffortRefusal p charge) where
+    pub best-effort-charge : charge < 65536
+    best-effort-charge = omega (arith, within-bounds leastCharge greatestCharge charge (best-effort-allowed p charge (sym e ∙ zero) .charge-fits) .1)
+
+    pub best-effort-free : queueAt p bestEffort .count < placeCount
+    best-effort-free = best-effort-allowed p charge (sym e ∙ zero) .free

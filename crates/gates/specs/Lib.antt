@@ -1,4 +1,5 @@
 -- Each call's own refusals, in document 01's order, and then its step.
 pub mod Refusals
 pub mod FrameRefusals
-pub mod Gated
+pub mod Becoming
+pub mod Table

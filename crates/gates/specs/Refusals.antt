@@ -10,13 +10,14 @@ use Rattle.record.specs.Head.{openAt, delayAt, linkAt, waitsAt, queueAt}
 use Rattle.record.specs.Entry.{streamAt}
 use Rattle.ranges.specs.Ranges.{chargeFits, shareOf, linkFits, delayFits, permittedFits}
 use Rattle.fitness.specs.Clauses.{permittedSum}
+use Rattle.steps.specs.Call.{Terms}
 
 -- Open: "2 open already; 3 L outside its range; 4 K outside its range"
-unfoldable pub openRefusal : List ℕ → ℕ → ℕ → ℕ
-openRefusal p link delay =
+unfoldable pub openRefusal : List ℕ → Terms → ℕ
+openRefusal p t =
     cond (openAt p) 2
-    (cond (not (linkFits link)) 3
-    (cond (not (delayFits delay)) 4 0))
+    (cond (not (linkFits (t .link))) 3
+    (cond (not (delayFits (t .delay))) 4 0))
 
 -- Reserve: "1 port closed; [..] 5 stream above 63; 6 reserved already; 7 P below 84; 8 sum of P above the share"
 unfoldable pub reserveRefusal : List ℕ → ℕ → ℕ → ℕ

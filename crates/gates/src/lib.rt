@@ -7,13 +7,22 @@ ghost use mathlib.Core.Path.{_≡_};
 ghost use Prim.Native.Nat.{_≤_};
 ghost use lib.ListN.{length};
 ghost use Rattle.record.specs.Layout.{Whole, memoryLength, addressLength};
-ghost use Rattle.steps.specs.Outcome.{outcome};
-ghost use Rattle.gates.specs.Gated.{opens, reserves, arrives, ticks, transmits, joinsBestEffort, binds, frames};
+ghost use Rattle.steps.specs.Call.{terms};
+ghost use Rattle.steps.specs.Outcome.{outcome, performed};
+ghost use Rattle.opening.specs.Opening.{openStep, reserveStep};
+ghost use Rattle.arriving.specs.Arriving.{arriveStep};
+ghost use Rattle.ticking.specs.Ticking.{tickStep};
+ghost use Rattle.sending.specs.Sending.{transmitStep};
+ghost use Rattle.best_effort.specs.BestEffort.{bestEffortStep};
+ghost use Rattle.binding.specs.Binding.{bindStep};
+ghost use Rattle.gates.specs.Refusals.{openRefusal, reserveRefusal, arriveRefusal, closedRefusal, bestEffortRefusal};
+ghost use Rattle.gates.specs.FrameRefusals.{bindRefusal, frameRefusal};
+ghost use Rattle.gates.specs.Becoming.{frameStep};
 
 // Open.
 pub fn open_port(port: &mut [u8], memory: &[u8], link: u32, delay: u32) -> Reply
     requires { ⌜ Whole (now port) ⌝ }
-    ensures { λ r. ⌜ outcome r (now (port .exit)) (now (memory .entry)) ≡ opens (now (port .entry)) (now (memory .entry)) link delay ⌝ }
+    ensures { λ r. ⌜ outcome r (now (port .exit)) (now (memory .entry)) ≡ performed (λ p. openRefusal p (terms link delay)) (λ p m. openStep p m (terms link delay)) (now (port .entry)) (now (memory .entry)) ⌝ }
 {
     let refusal = refusals::open_port(port, link, delay);
     if refusal != 0 {
@@ -25,7 +34,7 @@ pub fn open_port(port: &mut [u8], memory: &[u8], link: u32, delay: u32) -> Reply
 // Reserve.
 pub fn reserve(port: &mut [u8], memory: &[u8], stream: u8, permitted: u32) -> Reply
     requires { ⌜ Whole (now port) ⌝ }
-    ensures { λ r. ⌜ outcome r (now (port .exit)) (now (memory .entry)) ≡ reserves (now (port .entry)) (now (memory .entry)) stream permitted ⌝ }
+    ensures { λ r. ⌜ outcome r (now (port .exit)) (now (memory .entry)) ≡ performed (λ p. reserveRefusal p stream permitted) (λ p m. reserveStep p m stream permitted) (now (port .entry)) (now (memory .entry)) ⌝ }
 {
     let refusal = refusals::reserve(port, stream, permitted);
     if refusal != 0 {
@@ -37,7 +46,7 @@ pub fn reserve(port: &mut [u8], memory: &[u8], stream: u8, permitted: u32) -> Re
 // Arrive.
 pub fn arrive(port: &mut [u8], memory: &mut [u8], stream: u8, charge: u32, tag: u32) -> Reply
     requires { ⌜ Whole (now port) × (memoryLength ≤ length (now memory)) ⌝ }
-    ensures { λ r. ⌜ outcome r (now (port .exit)) (now (memory .exit)) ≡ arrives (now (port .entry)) (now (memory .entry)) stream charge tag ⌝ }
+    ensures { λ r. ⌜ outcome r (now (port .exit)) (now (memory .exit)) ≡ performed (λ p. arriveRefusal p stream charge) (λ p m. arriveStep p m stream charge tag) (now (port .entry)) (now (memory .entry)) ⌝ }
 {
     let refusal = refusals::arrive(port, stream, charge);
     if refusal != 0 {
@@ -49,7 +58,7 @@ pub fn arrive(port: &mut [u8], memory: &mut [u8], stream: u8, charge: u32, tag: 
 // Tick.
 pub fn tick(port: &mut [u8], memory: &[u8]) -> Reply
     requires { ⌜ Whole (now port) × (memoryLength ≤ length (now memory)) ⌝ }
-    ensures { λ r. ⌜ outcome r (now (port .exit)) (now (memory .entry)) ≡ ticks (now (port .entry)) (now (memory .entry)) ⌝ }
+    ensures { λ r. ⌜ outcome r (now (port .exit)) (now (memory .entry)) ≡ performed closedRefusal tickStep (now (port .entry)) (now (memory .entry)) ⌝ }
 {
     let refusal = refusals::closed(port);
     if refusal != 0 {
@@ -61,7 +70,7 @@ pub fn tick(port: &mut [u8], memory: &[u8]) -> Reply
 // Transmit.
 pub fn transmit(port: &mut [u8], memory: &[u8]) -> Reply
     requires { ⌜ Whole (now port) × (memoryLength ≤ length (now memory)) ⌝ }
-    ensures { λ r. ⌜ outcome r (now (port .exit)) (now (memory .entry)) ≡ transmits (now (port .entry)) (now (memory .entry)) ⌝ }
+    ensures { λ r. ⌜ outcome r (now (port .exit)) (now (memory .entry)) ≡ performed closedRefusal transmitStep (now (port .entry)) (now (memory .entry)) ⌝ }
 {
     let refusal = refusals::closed(port);
     if refusal != 0 {
@@ -73,7 +82,7 @@ pub fn transmit(port: &mut [u8], memory: &[u8]) -> Reply
 // Best effort.
 pub fn best_effort(port: &mut [u8], memory: &mut [u8], charge: u32, tag: u32) -> Reply
     requires { ⌜ Whole (now port) × (memoryLength ≤ length (now memory)) ⌝ }
-    ensures { λ r. ⌜ outcome r (now (port .exit)) (now (memory .exit)) ≡ joinsBestEffort (now (port .entry)) (now (memory .entry)) charge tag ⌝ }
+    ensures { λ r. ⌜ outcome r (now (port .exit)) (now (memory .exit)) ≡ performed (λ p. bestEffortRefusal p charge) (λ p m. bestEffortStep p m charge tag) (now (port .entry)) (now (memory .entry)) ⌝ }
 {
     let refusal = refusals::best_effort(port, charge);
     if refusal != 0 {
@@ -85,7 +94,7 @@ pub fn best_effort(port: &mut [u8], memory: &mut [u8], charge: u32, tag: u32) ->
 // Bind; the address is the first six of the octets.
 pub fn bind(port: &mut [u8], memory: &[u8], stream: u8, address: &[u8], vid: u32) -> Reply
     requires { ⌜ Whole (now port) × (addressLength ≤ length (now address)) ⌝ }
-    ensures { λ r. ⌜ outcome r (now (port .exit)) (now (memory .entry)) ≡ binds (now (port .entry)) (now (memory .entry)) stream (now (address .entry)) vid ⌝ }
+    ensures { λ r. ⌜ outcome r (now (port .exit)) (now (memory .entry)) ≡ performed (λ p. bindRefusal p stream (now (address .entry)) vid) (λ p m. bindStep p m stream (now (address .entry)) vid) (now (port .entry)) (now (memory .entry)) ⌝ }
 {
     let refusal = refusals::bind(port, stream, address, vid);
     if refusal != 0 {
@@ -97,7 +106,7 @@ pub fn bind(port: &mut [u8], memory: &[u8], stream: u8, address: &[u8], vid: u32
 // Frame.
 pub fn frame(port: &mut [u8], memory: &mut [u8], octets: &[u8], tag: u32) -> Reply
     requires { ⌜ Whole (now port) × (memoryLength ≤ length (now memory)) ⌝ }
-    ensures { λ r. ⌜ outcome r (now (port .exit)) (now (memory .exit)) ≡ frames (now (port .entry)) (now (memory .entry)) (now (octets .entry)) tag ⌝ }
+    ensures { λ r. ⌜ outcome r (now (port .exit)) (now (memory .exit)) ≡ performed (λ p. frameRefusal p (now (octets .entry))) (λ p m. frameStep p m (now (octets .entry)) tag) (now (port .entry)) (now (memory .entry)) ⌝ }
 {
     let refusal = refusals::frame(port, octets);
     if refusal != 0 {

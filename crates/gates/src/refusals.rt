@@ -3,6 +3,7 @@ ghost use mathlib.Core.Path.{_≡_};
 ghost use Prim.Native.Nat.{_≤_, _<_};
 ghost use lib.ListN.{length};
 ghost use Rattle.record.specs.Layout.{Whole, addressLength};
+ghost use Rattle.steps.specs.Call.{terms};
 ghost use Rattle.best_effort.specs.BestEffort.{WaitsKept};
 ghost use Rattle.gates.specs.Refusals.{openRefusal, reserveRefusal, arriveRefusal, closedRefusal, bestEffortLimit, bestEffortRefusal};
 ghost use Rattle.gates.specs.FrameRefusals.{bindRefusal, frameRefusal};
@@ -43,7 +44,7 @@ const FRAME_LENGTH: u8 = 17;
 // The refusal of Open.
 pub(crate) fn open_port(port: &[u8], link: u32, delay: u32) -> u8
     requires { ⌜ Whole (now port) ⌝ }
-    ensures { λ r. ⌜ r ≡ openRefusal (now (port .entry)) link delay ⌝ }
+    ensures { λ r. ⌜ r ≡ openRefusal (now (port .entry)) (terms link delay) ⌝ }
 {
     if record::head::is_open(port) {
         return OPEN_ALREADY;

@@ -10,11 +10,12 @@ use Rattle.record.specs.Head.{linkAt, withOpen, withPrior, withDelay, withLink,
 use Rattle.record.specs.Entry.{withStream, dropped}
 use Rattle.ranges.specs.Ranges.{shareOf}
 use Rattle.fitness.specs.Clauses.{permittedSum}
+use Rattle.steps.specs.Call.{Terms}
 use Rattle.steps.specs.Outcome.{Outcome, outcome}
 
 -- the head of an open port: L and K, prior is queue 0, W is 0
-abbrev pub openedHead : List ℕ → ℕ → ℕ → List ℕ
-openedHead p link delay = withWaits (withLink (withDelay (withPrior (withOpen p) 0) delay) link) 0
+abbrev pub openedHead : List ℕ → Terms → List ℕ
+openedHead p t = withWaits (withLink (withDelay (withPrior (withOpen p) 0) (t .delay)) (t .link)) 0
 
 -- "empties all queues"
 abbrev pub allEmptied : List ℕ → List ℕ
@@ -25,11 +26,11 @@ abbrev pub allDropped : List ℕ → List ℕ
 allDropped = iterate (λ s l. dropped l s) streamCount
 
 -- the record after Open(L, K), whose reply is the share
-unfoldable pub openedRecord : List ℕ → ℕ → ℕ → List ℕ
-openedRecord p link delay = allDropped (allEmptied (openedHead p link delay))
+unfoldable pub openedRecord : List ℕ → Terms → List ℕ
+openedRecord p t = allDropped (allEmptied (openedHead p t))
 
-abbrev pub openStep : List ℕ → List ℕ → ℕ → ℕ → Outcome
-openStep p m link delay = outcome (granted (shareOf link) 0) (openedRecord p link delay) m
+abbrev pub openStep : List ℕ → List ℕ → Terms → Outcome
+openStep p m t = outcome (granted (shareOf (t .link)) 0) (openedRecord p t) m
 
 -- the share still free: the share less R
 abbrev pub freeShare : List ℕ → ℕ

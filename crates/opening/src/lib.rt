@@ -7,12 +7,13 @@ ghost use Prim.Native.Nat.{_<_};
 ghost use Rattle.stream.specs.Replies.{granted};
 ghost use Rattle.record.specs.Layout.{Whole, streamCount};
 ghost use Rattle.ranges.specs.Ranges.{shareOf};
+ghost use Rattle.steps.specs.Call.{terms};
 ghost use Rattle.opening.specs.Opening.{openedHead, allEmptied, allDropped, openedRecord, freeShare, reservedRecord};
 
 // Writes the head of an open port.
 fn open_head(port: &mut [u8], link: u16, delay: u8)
     requires { ⌜ Whole (now port) ⌝ }
-    ensures { λ _. ⌜ now (port .exit) ≡ openedHead (now (port .entry)) link delay ⌝ }
+    ensures { λ _. ⌜ now (port .exit) ≡ openedHead (now (port .entry)) (terms link delay) ⌝ }
 {
     record::head::put_open(port);
     record::head::put_prior(port, 0);
@@ -48,7 +49,7 @@ fn drop_streams(port: &mut [u8])
 // Open(L, K).
 pub fn open_port(port: &mut [u8], link: u16, delay: u8) -> Reply
     requires { ⌜ Whole (now port) ⌝ }
-    ensures { λ r. ⌜ (r ≡ granted (shareOf link) 0) × (now (port .exit) ≡ openedRecord (now (port .entry)) link delay) ⌝ }
+    ensures { λ r. ⌜ (r ≡ granted (shareOf link) 0) × (now (port .exit) ≡ openedRecord (now (port .entry)) (terms link delay)) ⌝ }
 {
     open_head(port, link, delay);
     empty_queues(port);

@@ -4,12 +4,22 @@ pub mod quick;
 
 use stream::Reply;
 ghost use mathlib.Core.Path.{_≡_};
+ghost use Rattle.steps.specs.Call.{terms};
 ghost use Rattle.steps.specs.Outcome.{outcome};
-ghost use Rattle.port.specs.Calls.{openCall, reserveCall, arriveCall, tickCall, transmitCall, bestEffortCall, bindCall, frameCall};
+ghost use Rattle.opening.specs.Opening.{openStep, reserveStep};
+ghost use Rattle.arriving.specs.Arriving.{arriveStep};
+ghost use Rattle.ticking.specs.Ticking.{tickStep};
+ghost use Rattle.sending.specs.Sending.{transmitStep};
+ghost use Rattle.best_effort.specs.BestEffort.{bestEffortStep};
+ghost use Rattle.binding.specs.Binding.{bindStep};
+ghost use Rattle.gates.specs.Refusals.{openRefusal, reserveRefusal, arriveRefusal, closedRefusal, bestEffortRefusal};
+ghost use Rattle.gates.specs.FrameRefusals.{bindRefusal, frameRefusal};
+ghost use Rattle.gates.specs.Becoming.{frameStep};
+ghost use Rattle.port.specs.Calls.{checked};
 
 // Open(L, K).
 pub fn open_port(port: &mut [u8], memory: &[u8], link: u32, delay: u32) -> Reply
-    ensures { λ r. ⌜ outcome r (now (port .exit)) (now (memory .entry)) ≡ openCall (now (port .entry)) (now (memory .entry)) link delay ⌝ }
+    ensures { λ r. ⌜ outcome r (now (port .exit)) (now (memory .entry)) ≡ checked (λ p. openRefusal p (terms link delay)) (λ p m. openStep p m (terms link delay)) (now (port .entry)) (now (memory .entry)) ⌝ }
 {
     let refusal = fitness::refusal(port, memory);
     if refusal != 0 {
@@ -20,7 +30,7 @@ pub fn open_port(port: &mut [u8], memory: &[u8], link: u32, delay: u32) -> Reply
 
 // Reserve(s, P).
 pub fn reserve(port: &mut [u8], memory: &[u8], stream: u8, permitted: u32) -> Reply
-    ensures { λ r. ⌜ outcome r (now (port .exit)) (now (memory .entry)) ≡ reserveCall (now (port .entry)) (now (memory .entry)) stream permitted ⌝ }
+    ensures { λ r. ⌜ outcome r (now (port .exit)) (now (memory .entry)) ≡ checked (λ p. reserveRefusal p stream permitted) (λ p m. reserveStep p m stream permitted) (now (port .entry)) (now (memory .entry)) ⌝ }
 {
     let refusal = fitness::refusal(port, memory);
     if refusal != 0 {
@@ -31,7 +41,7 @@ pub fn reserve(port: &mut [u8], memory: &[u8], stream: u8, permitted: u32) -> Re
 
 // Arrive(s, a, tag).
 pub fn arrive(port: &mut [u8], memory: &mut [u8], stream: u8, charge: u32, tag: u32) -> Reply
-    ensures { λ r. ⌜ outcome r (now (port .exit)) (now (memory .exit)) ≡ arriveCall (now (port .entry)) (now (memory .entry)) stream charge tag ⌝ }
+    ensures { λ r. ⌜ outcome r (now (port .exit)) (now (memory .exit)) ≡ checked (λ p. arriveRefusal p stream charge) (λ p m. arriveStep p m stream charge tag) (now (port .entry)) (now (memory .entry)) ⌝ }
 {
     let refusal = fitness::refusal(port, memory);
     if refusal != 0 {
@@ -42,7 +52,7 @@ pub fn arrive(port: &mut [u8], memory: &mut [u8], stream: u8, charge: u32, tag: 
 
 // Tick.
 pub fn tick(port: &mut [u8], memory: &[u8]) -> Reply
-    ensures { λ r. ⌜ outcome r (now (port .exit)) (now (memory .entry)) ≡ tickCall (now (port .entry)) (now (memory .entry)) ⌝ }
+    ensures { λ r. ⌜ outcome r (now (port .exit)) (now (memory .entry)) ≡ checked closedRefusal tickStep (now (port .entry)) (now (memory .entry)) ⌝ }
 {
     let refusal = fitness::refusal(port, memory);
     if refusal != 0 {
@@ -53,7 +63,7 @@ pub fn tick(port: &mut [u8], memory: &[u8]) -> Reply
 
 // Transmit.
 pub fn transmit(port: &mut [u8], memory: &[u8]) -> Reply
-    ensures { λ r. ⌜ outcome r (now (port .exit)) (now (memory .entry)) ≡ transmitCall (now (port .entry)) (now (memory .entry)) ⌝ }
+    ensures { λ r. ⌜ outcome r (now (port .exit)) (now (memory .entry)) ≡ checked closedRefusal transmitStep (now (port .entry)) (now (memory .entry)) ⌝ }
 {
     let refusal = fitness::refusal(port, memory);
     if refusal != 0 {
@@ -64,7 +74,7 @@ pub fn transmit(port: &mut [u8], memory: &[u8]) -> Reply
 
 // Best effort(a, tag).
 pub fn best_effort(port: &mut [u8], memory: &mut [u8], charge: u32, tag: u32) -> Reply
-    ensures { λ r. ⌜ outcome r (now (port .exit)) (now (memory .exit)) ≡ bestEffortCall (now (port .entry)) (now (memory .entry)) charge tag ⌝ }
+    ensures { λ r. ⌜ outcome r (now (port .exit)) (now (memory .exit)) ≡ checked (λ p. bestEffortRefusal p charge) (λ p m. bestEffortStep p m charge tag) (now (port .entry)) (now (memory .entry)) ⌝ }
 {
     let refusal = fitness::refusal(port, memory);
     if refusal != 0 {
@@ -81,7 +91,7 @@ pub fn bind(
     address: &[u8; record::ADDRESS_LENGTH],
     vid: u32,
 ) -> Reply
-    ensures { λ r. ⌜ outcome r (now (port .exit)) (now (memory .entry)) ≡ bindCall (now (port .entry)) (now (memory .entry)) stream (now (address .entry)) vid ⌝ }
+    ensures { λ r. ⌜ outcome r (now (port .exit)) (now (memory .entry)) ≡ checked (λ p. bindRefusal p stream (now (address .entry)) vid) (λ p m. bindStep p m stream (now (address .entry)) vid) (now (port .entry)) (now (memory .entry)) ⌝ }
 {
     let refusal = fitness::refusal(port, memory);
     if refusal != 0 {
@@ -92,7 +102,7 @@ pub fn bind(
 
 // Frame(octets, tag).
 pub fn frame(port: &mut [u8], memory: &mut [u8], octets: &[u8], tag: u32) -> Reply
-    ensures { λ r. ⌜ outcome r (now (port .exit)) (now (memory .exit)) ≡ frameCall (now (port .entry)) (now (memory .entry)) (now (octets .entry)) tag ⌝ }
+    ensures { λ r. ⌜ outcome r (now (port .exit)) (now (memory .exit)) ≡ checked (λ p. frameRefusal p (now (octets .entry))) (λ p m. frameStep p m (now (octets .entry)) tag) (now (port .entry)) (now (memory .entry)) ⌝ }
 {
     let refusal = fitness::refusal(port, memory);
     if refusal != 0 {

@@ -1,8 +1,18 @@
 // The quick calls, for a host that alone writes the record: nothing is scanned. On a fit record each equals the call of the same name.
 use stream::Reply;
 ghost use mathlib.Core.Path.{_≡_};
+ghost use Rattle.steps.specs.Call.{terms};
 ghost use Rattle.steps.specs.Outcome.{outcome};
-ghost use Rattle.port.specs.Quick.{lengthRefusal, quickOpen, quickReserve, quickArrive, quickTick, quickTransmit, quickBestEffort, quickBind, quickFrame};
+ghost use Rattle.opening.specs.Opening.{openStep, reserveStep};
+ghost use Rattle.arriving.specs.Arriving.{arriveStep};
+ghost use Rattle.ticking.specs.Ticking.{tickStep};
+ghost use Rattle.sending.specs.Sending.{transmitStep};
+ghost use Rattle.best_effort.specs.BestEffort.{bestEffortStep};
+ghost use Rattle.binding.specs.Binding.{bindStep};
+ghost use Rattle.gates.specs.Refusals.{openRefusal, reserveRefusal, arriveRefusal, closedRefusal, bestEffortRefusal};
+ghost use Rattle.gates.specs.FrameRefusals.{bindRefusal, frameRefusal};
+ghost use Rattle.gates.specs.Becoming.{frameStep};
+ghost use Rattle.port.specs.Quick.{lengthRefusal, unscanned};
 
 // The refusal of a memory or record that is too short, or 0.
 fn lengths(port: &[u8], memory: &[u8]) -> u8
@@ -19,7 +29,7 @@ fn lengths(port: &[u8], memory: &[u8]) -> u8
 
 // Open(L, K).
 pub fn open_port(port: &mut [u8], memory: &[u8], link: u32, delay: u32) -> Reply
-    ensures { λ r. ⌜ outcome r (now (port .exit)) (now (memory .entry)) ≡ quickOpen (now (port .entry)) (now (memory .entry)) link delay ⌝ }
+    ensures { λ r. ⌜ outcome r (now (port .exit)) (now (memory .entry)) ≡ unscanned (λ p. openRefusal p (terms link delay)) (λ p m. openStep p m (terms link delay)) (now (port .entry)) (now (memory .entry)) ⌝ }
 {
     let refusal = lengths(port, memory);
     if refusal != 0 {
@@ -30,7 +40,7 @@ pub fn open_port(port: &mut [u8], memory: &[u8], link: u32, delay: u32) -> Reply
 
 // Reserve(s, P).
 pub fn reserve(port: &mut [u8], memory: &[u8], stream: u8, permitted: u32) -> Reply
-    ensures { λ r. ⌜ outcome r (now (port .exit)) (now (memory .entry)) ≡ quickReserve (now (port .entry)) (now (memory .entry)) stream permitted ⌝ }
+    ensures { λ r. ⌜ outcome r (now (port .exit)) (now (memory .entry)) ≡ unscanned (λ p. reserveRefusal p stream permitted) (λ p m. reserveStep p m stream permitted) (now (port .entry)) (now (memory .entry)) ⌝ }
 {
     let refusal = lengths(port, memory);
     if refusal != 0 {
@@ -41,7 +51,7 @@ pub fn reserve(port: &mut [u8], memory: &[u8], stream: u8, permitted: u32) -> Re
 
 // Arrive(s, a, tag).
 pub fn arrive(port: &mut [u8], memory: &mut [u8], stream: u8, charge: u32, tag: u32) -> Reply
-    ensures { λ r. ⌜ outcome r (now (port .exit)) (now (memory .exit)) ≡ quickArrive (now (port .entry)) (now (memory .entry)) stream charge tag ⌝ }
+    ensures { λ r. ⌜ outcome r (now (port .exit)) (now (memory .exit)) ≡ unscanned (λ p. arriveRefusal p stream charge) (λ p m. arriveStep p m stream charge tag) (now (port .entry)) (now (memory .entry)) ⌝ }
 {
     let refusal = lengths(port, memory);
     if refusal != 0 {
@@ -52,7 +62,7 @@ pub fn arrive(port: &mut [u8], memory: &mut [u8], stream: u8, charge: u32, tag: 
 
 // Tick.
 pub fn tick(port: &mut [u8], memory: &[u8]) -> Reply
-    ensures { λ r. ⌜ outcome r (now (port .exit)) (now (memory .entry)) ≡ quickTick (now (port .entry)) (now (memory .entry)) ⌝ }
+    ensures { λ r. ⌜ outcome r (now (port .exit)) (now (memory .entry)) ≡ unscanned closedRefusal tickStep (now (port .entry)) (now (memory .entry)) ⌝ }
 {
     let refusal = lengths(port, memory);
     if refusal != 0 {
@@ -63,7 +73,7 @@ pub fn tick(port: &mut [u8], memory: &[u8]) -> Reply
 
 // Transmit.
 pub fn transmit(port: &mut [u8], memory: &[u8]) -> Reply
-    ensures { λ r. ⌜ outcome r (now (port .exit)) (now (memory .entry)) ≡ quickTransmit (now (port .entry)) (now (memory .entry)) ⌝ }
+    ensures { λ r. ⌜ outcome r (now (port .exit)) (now (memory .entry)) ≡ unscanned closedRefusal transmitStep (now (port .entry)) (now (memory .entry)) ⌝ }
 {
     let refusal = lengths(port, memory);
     if refusal != 0 {
@@ -74,7 +84,7 @@ pub fn transmit(port: &mut [u8], memory: &[u8]) -> Reply
 
 // Best effort(a, tag).
 pub fn best_effort(port: &mut [u8], memory: &mut [u8], charge: u32, tag: u32) -> Reply
-    ensures { λ r. ⌜ outcome r (now (port .exit)) (now (memory .exit)) ≡ quickBestEffort (now (port .entry)) (now (memory .entry)) charge tag ⌝ }
+    ensures { λ r. ⌜ outcome r (now (port .exit)) (now (memory .exit)) ≡ unscanned (λ p. bestEffortRefusal p charge) (λ p m. bestEffortStep p m charge tag) (now (port .entry)) (now (memory .entry)) ⌝ }
 {
     let refusal = lengths(port, memory);
     if refusal != 0 {
@@ -91,7 +101,7 @@ pub fn bind(
     address: &[u8; record::ADDRESS_LENGTH],
     vid: u32,
 ) -> Reply
-    ensures { λ r. ⌜ outcome r (now (port .exit)) (now (memory .entry)) ≡ quickBind (now (port .entry)) (now (memory .entry)) stream (now (address .entry)) vid ⌝ }
+    ensures { λ r. ⌜ outcome r (now (port .exit)) (now (memory .entry)) ≡ unscanned (λ p. bindRefusal p stream (now (address .entry)) vid) (λ p m. bindStep p m stream (now (address .entry)) vid) (now (port .entry)) (now (memory .entry)) ⌝ }
 {
     let refusal = lengths(port, memory);
     if refusal != 0 {
@@ -102,7 +112,7 @@ pub fn bind(
 
 // Frame(octets, tag).
 pub fn frame(port: &mut [u8], memory: &mut [u8], octets: &[u8], tag: u32) -> Reply
-    ensures { λ r. ⌜ outcome r (now (port .exit)) (now (memory .exit)) ≡ quickFrame (now (port .entry)) (now (memory .entry)) (now (octets .entry)) tag ⌝ }
+    ensures { λ r. ⌜ outcome r (now (port .exit)) (now (memory .exit)) ≡ unscanned (λ p. frameRefusal p (now (octets .entry))) (λ p m. frameStep p m (now (octets .entry)) tag) (now (port .entry)) (now (memory .entry)) ⌝ }
 {
     let refusal = lengths(port, memory);
     if refusal != 0 {
