@@ -1,3 +1,4 @@
 -- The laws of the gates, cited by the crates above.
 pub mod GateLaws
 pub mod FrameGateLaws
+pub mod TestLaws

@@ -1,8 +1,14 @@
 // What each call refuses of a record and memory that are long enough: the number of the first refusal that applies, or 0.
 ghost use mathlib.Core.Path.{_≡_};
-ghost use Prim.Native.Nat.{_≤_, _<_};
+ghost use mathlib.Core.Bool.{false};
+ghost use Prim.Native.Nat.{_+_, _≤_, _<_};
 ghost use lib.ListN.{length};
-ghost use Rattle.record.specs.Layout.{Whole, addressLength};
+ghost use lib.Dec.{leb, ltb};
+ghost use Rattle.queue.specs.Ring.{placeCount};
+ghost use Rattle.record.specs.Layout.{Whole, bestEffort, addressLength};
+ghost use Rattle.record.specs.Head.{linkAt, waitsAt, queueAt};
+ghost use Rattle.ranges.specs.Ranges.{shareOf};
+ghost use Rattle.fitness.specs.Clauses.{permittedSum};
 ghost use Rattle.steps.specs.Call.{terms};
 ghost use Rattle.best_effort.specs.BestEffort.{WaitsKept};
 ghost use Rattle.gates.specs.Refusals.{openRefusal, reserveRefusal, arriveRefusal, closedRefusal, bestEffortLimit, bestEffortRefusal};
@@ -58,6 +64,15 @@ pub(crate) fn open_port(port: &[u8], link: u32, delay: u32) -> u8
     0
 }
 
+// Whether R with this P is above the share. Where it is not, P is a number of 16 bits, since L is.
+fn exceeds_share(port: &[u8], permitted: u32) -> bool
+    requires { ⌜ Whole (now port) ⌝ }
+    ensures { λ r. ⌜ (r ≡ ltb (shareOf (linkAt (now (port .entry)))) (permittedSum (now (port .entry)) + permitted)) × (r ≡ false → permitted < 65536) ⌝ }
+{
+    let sum = fitness::streams::permitted_sum(port) as u64 + permitted as u64;
+    (ranges::share(record::head::link(port)) as u64) < sum
+}
+
 // The refusal of Reserve. Where it refuses nothing, P is a number of 16 bits, since L is.
 pub(crate) fn reserve(port: &[u8], stream: u8, permitted: u32) -> u8
     requires { ⌜ Whole (now port) ⌝ }
@@ -75,8 +90,7 @@ pub(crate) fn reserve(port: &[u8], stream: u8, permitted: u32) -> u8
     if !ranges::permitted_fits(permitted) {
         return PERMITTED_RANGE;
     }
-    let sum = fitness::streams::permitted_sum(port) as u64 + permitted as u64;
-    if (ranges::share(record::head::link(port)) as u64) < sum {
+    if exceeds_share(port, permitted) {
         return SHARE_EXCEEDED;
     }
     0
@@ -126,6 +140,23 @@ fn best_effort_limit(port: &[u8]) -> u32
     record::head::delay(port) as u32 * (link - taken)
 }
 
+// Whether as many frames wait in best effort as it has places.
+fn is_full(port: &[u8]) -> bool
+    requires { ⌜ Whole (now port) ⌝ }
+    ensures { λ r. ⌜ r ≡ leb placeCount (queueAt (now (port .entry)) bestEffort .count) ⌝ }
+{
+    queue::PLACES <= record::head::queue_at(port, record::BEST_EFFORT).count
+}
+
+// Whether W with this charge is above the limit. Where it is not, it is a number of 32 bits, since the limit is.
+fn exceeds_limit(port: &[u8], charge: u32) -> bool
+    requires { ⌜ Whole (now port) ⌝ }
+    ensures { λ r. ⌜ (r ≡ ltb (bestEffortLimit (now (port .entry))) (waitsAt (now (port .entry)) + charge)) × (r ≡ false → WaitsKept (now (port .entry)) charge) ⌝ }
+{
+    let sum = record::head::waits(port) as u64 + charge as u64;
+    (best_effort_limit(port) as u64) < sum
+}
+
 // The refusal of Best effort. Where it refuses nothing, W with the charge is a number of 32 bits, since the limit is.
 pub(crate) fn best_effort(port: &[u8], charge: u32) -> u8
     requires { ⌜ Whole (now port) ⌝ }
@@ -137,11 +168,10 @@ pub(crate) fn best_effort(port: &[u8], charge: u32) -> u8
     if !ranges::charge_fits(charge) {
         return CHARGE_RANGE;
     }
-    if queue::PLACES <= record::head::queue_at(port, record::BEST_EFFORT).count {
+    if is_full(port) {
         return BEST_EFFORT_FULL;
     }
-    let sum = record::head::waits(port) as u64 + charge as u64;
-    if (best_effort_limit(port) as u64) < sum {
+    if exceeds_limit(port, charge) {
         return LIMIT_EXCEEDED;
     }
     0

@@ -1,6 +1,6 @@
 -- Record and memory that are not refused are long enough. Assumes nothing.
 use Prim.Native.Nat.{ℕ, _≤_}
-use mathlib.Core.Path.{_≡_}
+use mathlib.Core.Path.{_≡_, sym, _∙_}
 use mathlib.Core.Bool.{cond}
 use mathlib.Core.List.{List}
 use native.Mathlib.Omega.{arith}
@@ -15,16 +15,32 @@ use Rattle.port.specs.Quick.{lengthRefusal}
 
 -- record and memory are long enough
 pub record Long (p m : List ℕ) : Type 0 where
-  pub long-record : recordLength ≤ length p
-  pub long-memory : memoryLength ≤ length m
+  pub whole : recordLength ≤ length p
+  pub room : memoryLength ≤ length m
 
 pub long-enough : (p m : List ℕ) → lengthRefusal p m ≡ 0 → Long p m
 unfolding lengthRefusal
 long-enough p m e =
     let a = past (ltb (length m) memoryLength) 18 (cond (ltb (length p) recordLength) 19 0) (omega arith) e in
     let b = past (ltb (length p) recordLength) 19 0 (omega arith) (a .1) in
-    record { long-record = ltb-false (length p) recordLength (b .0); long-memory = ltb-false (length m) memoryLength (a .0) }
+    record { whole = ltb-false (length p) recordLength (b .0); room = ltb-false (length m) memoryLength (a .0) }
 
 -- so are a record and a memory that 18 and 19 do not refuse
 pub lent-enough : (p m : List ℕ) → lentRefusal p m ≡ 0 → Long p m
-lent-enough p m e = let a = lent-fit p m e in record { long-record = fit-record p m (a .1) .long; long-memory = a .0 }
+lent-enough p m e = let a = lent-fit p m e in record { whole = fit-record p m (a .1) .long; room = a .0 }
+
+-- what code that asks 18 and 19, or the lengths alone, needs where the answer r is 0
+module _ (r : ℕ) (p m : List ℕ) (zero : r ≡ 0) where
+  module _ (e : r ≡ lentRefusal p m) where
+    pub lent-record : recordLength ≤ length p
+    lent-record = lent-enough p m (sym e ∙ zero) .whole
+
+    pub lent-memory : memoryLength ≤ length m
+    lent-memory = lent-enough p m (sym e ∙ zero) .room
+
+  module _ (e : r ≡ lengthRefusal p m) where
+    pub long-record : recordLength ≤ length p
+    long-record = long-enough p m (sym e ∙ zero) .whole
+
+    pub long-memory : memoryLength ≤ length m
+    long-memory = long-enough p m (sym e ∙ zero) .room

@@ -1,58 +1,18 @@
 -- `port::quick::tick` meets its contract. By the lengths; then the rest of the call. Assumes nothing.
-use Prim.Native.Nat.{ℕ}
-use mathlib.Core.Path.{refl, _∙_, ap, sym}
 use borrow.Author.Needs.{needs}
-use Rattle.steps.proofs.OutcomeLaws.{same-outcome}
-use Rattle.gates.specs.Gated.{gated, ticks}
-use Rattle.gates.proofs.GateLaws.{grants, refuses}
-use Rattle.port.proofs.LengthLaws.{long-enough}
+use Rattle.steps.proofs.OutcomeLaws.{stopped, passed}
+use Rattle.port.proofs.LengthLaws.{long-record, long-memory}
 use Rattle.port.proofs.quick.tick.Statement.{statement}
 use Rattle.port.proofs.quick.tick.Tie as tie
-
-lengths-requires : tie.Need-lengths-requires
-lengths-requires c κs = search needs
-
-refused-requires : tie.Need-refused-requires
-refused-requires c κs = search needs
-
-same-length : tie.Need-same-length
-same-length c = search needs
-
-returns : tie.Need-returns
-returns c =
-    let a = c .before .before .before .before .before .before .args in
-    let p = a .port .now in
-    let m = a .memory .now in
-    same-outcome _ _ _ _ _ _ (c .refused .ensures) refl refl
-    ∙ sym (refuses (c .before .before .lengths .result) p m (ticks p m) (c .before .if1 .taken))
-    ∙ ap (λ (g : ℕ). gated g p m (ticks p m)) (c .before .before .lengths .ensures)
-
-tick-requires : tie.Need-tick-requires
-tick-requires c κs =
-    let a = c .before .before .before .before .before .before .args in
-    let long = long-enough (a .port .now) (a .memory .now) (sym (c .before .before .lengths .ensures) ∙ c .before .if1 .left) in
-    (long .long-record, long .long-memory)
-
-same-length-2 : tie.Need-same-length-2
-same-length-2 c = search needs
-
-returns-2 : tie.Need-returns-2
-returns-2 c =
-    let a = c .before .before .before .before .before .before .before .before .before .args in
-    let p = a .port .now in
-    let m = a .memory .now in
-    c .before .before .tick .ensures
-    ∙ sym (grants (c .before .before .before .before .before .lengths .result) p m (ticks p m) (c .before .before .before .before .if1 .left))
-    ∙ ap (λ (g : ℕ). gated g p m (ticks p m)) (c .before .before .before .before .before .lengths .ensures)
 
 pub tick-spec : {M : Type 1} → statement M
 tick-spec =
     tie.close
     (tie.spec
-    lengths-requires
-    refused-requires
-    same-length
-    returns
-    tick-requires
-    same-length-2
-    returns-2)
+    (λ c κs. search needs)
+    (λ c κs. search needs)
+    (λ c. search needs)
+    (λ c. search (stopped, needs))
+    (λ c κs. search (long-record, long-memory, needs))
+    (λ c. search needs)
+    (λ c. search (passed, needs)))
