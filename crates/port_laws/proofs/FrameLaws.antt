@@ -21,7 +21,9 @@ use Rattle.record.specs.Entry.{streamAt}
 use Rattle.ranges.specs.Ranges.{chargeFits}
 use Rattle.header.specs.Header.{chargeOf, lengthFits}
 use Rattle.fitness.specs.Fit.{recordFits, lentRefusal}
-use Rattle.steps.specs.Outcome.{Outcome, outcome, refused}
+use Rattle.steps.specs.Call.{framing}
+use Rattle.steps.specs.Outcome.{Outcome, outcome, refused, gated}
+use Rattle.steps.proofs.OutcomeLaws.{grants, refuses}
 use Rattle.steps.specs.Roles.{roleAt}
 use Rattle.steps.specs.Moves.{moved}
 use Rattle.arriving.specs.Arriving.{arrived, arriveStep}
@@ -31,9 +33,8 @@ use Rattle.binding.specs.declared.Lookup.the-variants.{Bound, Unbound}
 use Rattle.binding.specs.Finding.{frameLookup}
 use Rattle.gates.specs.Refusals.{arriveRefusal, bestEffortLimit, bestEffortRefusal}
 use Rattle.gates.specs.FrameRefusals.{frameRefusal}
-use Rattle.gates.specs.Gated.{gated, becomes, frames}
-use Rattle.gates.proofs.GateLaws.{grants, refuses}
-use Rattle.port_laws.specs.Lists.{framing, called, becoming}
+use Rattle.gates.specs.Becoming.{becoming, becomes, frameStep}
+use Rattle.port.specs.Calls.{called}
 
 -- a closed port refuses with 1 what a frame becomes
 becomes-closed : (p m : List ℕ) (charge tag : ℕ) (found : Lookup) → openAt p ≡ false → becomes p m charge tag found ≡ refused 1 p m
@@ -42,13 +43,12 @@ becomes-closed p m charge tag (Bound s) closed = rw closed
 becomes-closed p m charge tag Unbound closed = rw closed
 
 -- so a frame whose length is in its range does what it becomes, on every record
-frames-becomes : (p m octets : List ℕ) (tag : ℕ) → lengthFits octets ≡ true → frames p m octets tag ≡ becomes p m (chargeOf octets) tag (frameLookup p octets)
+frames-becomes : (p m octets : List ℕ) (tag : ℕ) → lengthFits octets ≡ true → gated (frameRefusal p octets) p m (frameStep p m octets tag) ≡ frameStep p m octets tag
 unfolding frameRefusal
 frames-becomes p m octets tag fits = told (openAt p) refl
   where
     told : (b : Bool) → openAt p ≡ b
-        → gated (cond (not b) 1 (cond (not (lengthFits octets)) 17 0)) p m (becomes p m (chargeOf octets) tag (frameLookup p octets))
-        ≡ becomes p m (chargeOf octets) tag (frameLookup p octets)
+        → gated (cond (not b) 1 (cond (not (lengthFits octets)) 17 0)) p m (frameStep p m octets tag) ≡ frameStep p m octets tag
     told true e = rw fits
     told false e = rw (becomes-closed p m (chargeOf octets) tag (frameLookup p octets) e)
 
@@ -115,6 +115,6 @@ becomes-not-17 p m charge tag Unbound =
 pub frame-not-17 : (p m octets : List ℕ) (tag : ℕ) → lengthFits octets ≡ true → called (framing octets tag) p m .reply .refusal ≡ 17 → ⊥
 unfolding lentRefusal
 frame-not-17 p m octets tag fits =
-    gated-not-17 (lentRefusal p m) p m (frames p m octets tag)
+    gated-not-17 (lentRefusal p m) p m (gated (frameRefusal p octets) p m (frameStep p m octets tag))
     (by-test (ltb (length m) memoryLength) 18 _ (λ e. omega arith) (by-test (recordFits p m) 0 19 (λ e. omega arith) (λ e. omega arith)))
     (subst (λ (o : Outcome). Not17 (o .reply .refusal)) (sym (frames-becomes p m octets tag fits)) (becomes-not-17 p m (chargeOf octets) tag (frameLookup p octets)))

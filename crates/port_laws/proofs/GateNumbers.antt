@@ -12,13 +12,14 @@ use Rattle.record.specs.Entry.{streamAt, boundAt}
 use Rattle.ranges.specs.Ranges.{chargeFits, shareOf, permittedFits, vidFits}
 use Rattle.fitness.specs.Clauses.{permittedSum}
 use Rattle.binding.specs.Finding.{lookup, isBound}
+use Rattle.steps.specs.Call.{Terms}
 use Rattle.gates.specs.Refusals.{openRefusal, reserveRefusal, arriveRefusal, closedRefusal, bestEffortLimit, bestEffortRefusal}
 use Rattle.gates.specs.FrameRefusals.{bindRefusal}
 
 -- an open port refuses Open with 2, and neither Tick nor Transmit
-pub open-taken : (p : List ℕ) (link delay : ℕ) → openAt p ≡ true → openRefusal p link delay ≡ 2
+pub open-taken : (p : List ℕ) (t : Terms) → openAt p ≡ true → openRefusal p t ≡ 2
 unfolding openRefusal
-open-taken p link delay opened = rw opened
+open-taken p t opened = rw opened
 
 pub closed-passes : (p : List ℕ) → openAt p ≡ true → closedRefusal p ≡ 0
 unfolding closedRefusal

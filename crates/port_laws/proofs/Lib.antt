@@ -11,6 +11,7 @@ pub mod BindFit
 pub mod FrameLaws
 pub mod LookupLaws
 pub mod QuickLaws
+pub mod SameLength
 pub mod StayLaws
 pub mod CasesHold
 pub mod GateNumbers

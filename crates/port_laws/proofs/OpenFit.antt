@@ -11,29 +11,30 @@ use Rattle.ranges.specs.Ranges.{linkFits, delayFits}
 use Rattle.fitness.specs.Clauses.{queueFits}
 use Rattle.fitness.specs.Fit.{recordFits}
 use Rattle.fitness.proofs.FitLaws.{record-fit, plan-fit}
+use Rattle.steps.specs.Call.{Terms}
 use Rattle.opening.specs.Opening.{openedRecord}
 use Rattle.port_laws.proofs.OpenLaws.{opened-whole, opened-prior, opened-delay, opened-link, opened-waits, opened-queue, opened-stream, opened-bound, opened-sum}
 
 -- L and K in their ranges are all that is asked
-pub open-fits : (p m : List ℕ) (link delay : ℕ) → recordLength ≤ length p → linkFits link ≡ true → delayFits delay ≡ true
-    → recordFits (openedRecord p link delay) m ≡ true
-open-fits p m link delay h octets epochs =
-    let k = openedRecord p link delay in
+pub open-fits : (p m : List ℕ) (t : Terms) → recordLength ≤ length p → linkFits (t .link) ≡ true → delayFits (t .delay) ≡ true
+    → recordFits (openedRecord p t) m ≡ true
+open-fits p m t h octets epochs =
+    let k = openedRecord p t in
     record-fit k m
     (record {
-      long = opened-whole p link delay h;
-      prior = omega (arith, opened-prior p link delay h);
-      queues = λ q b. ap queueFits (opened-queue p link delay h q b);
-      streams = λ s b. rw (opened-stream p link delay h s b);
-      bindings = λ s b. rw (opened-bound p link delay h s b);
-      frames = λ q b. rw (opened-queue p link delay h q b, empty-waits m q);
-      waits = rw (opened-waits p link delay h, opened-queue p link delay h bestEffort (omega arith), empty-waits m bestEffort);
+      long = opened-whole p t h;
+      prior = omega (arith, opened-prior p t h);
+      queues = λ q b. ap queueFits (opened-queue p t h q b);
+      streams = λ s b. rw (opened-stream p t h s b);
+      bindings = λ s b. rw (opened-bound p t h s b);
+      frames = λ q b. rw (opened-queue p t h q b, empty-waits m q);
+      waits = rw (opened-waits p t h, opened-queue p t h bestEffort (omega arith), empty-waits m bestEffort);
       plan =
           plan-fit k
           (record {
-            link = ap linkFits (opened-link p link delay h) ∙ octets;
-            delay = ap delayFits (opened-delay p link delay h) ∙ epochs;
-            reservations = λ s b. rw (opened-stream p link delay h s b);
-            sum = omega (arith, opened-sum p link delay h);
+            link = ap linkFits (opened-link p t h) ∙ octets;
+            delay = ap delayFits (opened-delay p t h) ∙ epochs;
+            reservations = λ s b. rw (opened-stream p t h s b);
+            sum = omega (arith, opened-sum p t h);
           });
     })

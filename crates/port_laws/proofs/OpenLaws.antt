@@ -16,40 +16,41 @@ use Rattle.record.proofs.HeadPairs.{prior-prior, waits-waits, prior-waits, queu
 use Rattle.record.proofs.KeepLaws.{keeps-prior, keeps-waits}
 use Rattle.record.proofs.OpenPairs.{length-open, open-open, length-delay, delay-delay, open-delay, prior-delay, length-link, link-link, open-link, prior-link, delay-link, length-queue, open-queue, delay-queue, link-queue, length-dropped, open-dropped, prior-dropped, delay-dropped, link-dropped, waits-dropped, queue-dropped, stream-dropped, bound-dropped, other-stream-dropped, other-bound-dropped}
 use Rattle.fitness.specs.Clauses.{permittedOf, permittedSum}
+use Rattle.steps.specs.Call.{Terms}
 use Rattle.opening.specs.Opening.{openedHead, allEmptied, allDropped, openedRecord}
 
 -- a whole record with the head that Open writes
-record Opened (link delay : ℕ) (l : List ℕ) : Type 0 where
+record Opened (t : Terms) (l : List ℕ) : Type 0 where
   whole : Whole l
   opened : openAt l ≡ true
   prior : priorAt l ≡ 0
-  epochs : delayAt l ≡ delay
-  octets : linkAt l ≡ link
+  epochs : delayAt l ≡ t .delay
+  octets : linkAt l ≡ t .link
   waits : waitsAt l ≡ 0
 
 -- as it is written, field after field
-head-opened : (p : List ℕ) (link delay : ℕ) → Whole p → Opened link delay (openedHead p link delay)
-head-opened p link delay h =
+head-opened : (p : List ℕ) (t : Terms) → Whole p → Opened t (openedHead p t)
+head-opened p t h =
     let a = withOpen p in
     let b = withPrior a 0 in
-    let c = withDelay b delay in
-    let d = withLink c link in
+    let c = withDelay b (t .delay) in
+    let d = withLink c (t .link) in
     let in-a : Whole a = omega (arith, length-open p) in
     let in-b : Whole b = omega (arith, keeps-prior a 0 .long) in
-    let in-c : Whole c = omega (arith, length-delay b delay) in
-    let in-d : Whole d = omega (arith, length-link c link) in
+    let in-c : Whole c = omega (arith, length-delay b (t .delay)) in
+    let in-d : Whole d = omega (arith, length-link c (t .link)) in
     record {
       whole = omega (arith, keeps-waits d 0 .long);
-      opened = keeps-waits d 0 .opened ∙ open-link c link ∙ open-delay b delay ∙ keeps-prior a 0 .opened ∙ open-open p h;
-      prior = prior-waits d 0 ∙ prior-link c link ∙ prior-delay b delay ∙ prior-prior a 0 in-a;
-      epochs = keeps-waits d 0 .delay ∙ delay-link c link ∙ delay-delay b delay in-b;
-      octets = keeps-waits d 0 .link ∙ link-link c link in-c;
+      opened = keeps-waits d 0 .opened ∙ open-link c (t .link) ∙ open-delay b (t .delay) ∙ keeps-prior a 0 .opened ∙ open-open p h;
+      prior = prior-waits d 0 ∙ prior-link c (t .link) ∙ prior-delay b (t .delay) ∙ prior-prior a 0 in-a;
+      epochs = keeps-waits d 0 .delay ∙ delay-link c (t .link) ∙ delay-delay b (t .delay) in-b;
+      octets = keeps-waits d 0 .link ∙ link-link c (t .link) in-c;
       waits = waits-waits d 0 in-d;
     }
 
 -- emptying a queue and dropping a stream leave the head
-queue-leaves : (link delay q : ℕ) (l : List ℕ) → Opened link delay l → Opened link delay (withQueue l q emptyQueue)
-queue-leaves link delay q l o =
+queue-leaves : (t : Terms) (q : ℕ) (l : List ℕ) → Opened t l → Opened t (withQueue l q emptyQueue)
+queue-leaves t q l o =
     record {
       whole = omega (arith, length-queue l q emptyQueue, o .whole);
       opened = open-queue l q emptyQueue ∙ o .opened;
@@ -59,8 +60,8 @@ queue-leaves link delay q l o =
       waits = waits-queue l q emptyQueue ∙ o .waits;
     }
 
-dropped-leaves : (link delay s : ℕ) (l : List ℕ) → Opened link delay l → Opened link delay (dropped l s)
-dropped-leaves link delay s l o =
+dropped-leaves : (t : Terms) (s : ℕ) (l : List ℕ) → Opened t l → Opened t (dropped l s)
+dropped-leaves t s l o =
     record {
       whole = omega (arith, length-dropped l s, o .whole);
       opened = open-dropped l s ∙ o .opened;
@@ -93,62 +94,62 @@ freed l s b =
     (ap (λ (x : Stream). x .reserved) (other-stream-dropped k i t (λ e. omega arith)) ∙ free .0, other-bound-dropped k i t (λ e. omega arith) ∙ free .1))
     s b
 
-module _ (p : List ℕ) (link delay : ℕ) (h : Whole p) where
+module _ (p : List ℕ) (t : Terms) (h : Whole p) where
   -- the head, after all queues and then all streams
-  emptied-head : Opened link delay (allEmptied (openedHead p link delay))
-  emptied-head = iterate-keeps (Opened link delay) (λ q l. withQueue l q emptyQueue) allQueues (openedHead p link delay) (queue-leaves link delay) (head-opened p link delay h)
+  emptied-head : Opened t (allEmptied (openedHead p t))
+  emptied-head = iterate-keeps (Opened t) (λ q l. withQueue l q emptyQueue) allQueues (openedHead p t) (queue-leaves t) (head-opened p t h)
 
-  record-opened : Opened link delay (openedRecord p link delay)
+  record-opened : Opened t (openedRecord p t)
   unfolding openedRecord
-  record-opened = iterate-keeps (Opened link delay) (λ s l. dropped l s) streamCount (allEmptied (openedHead p link delay)) (dropped-leaves link delay) emptied-head
+  record-opened = iterate-keeps (Opened t) (λ s l. dropped l s) streamCount (allEmptied (openedHead p t)) (dropped-leaves t) emptied-head
 
   -- the port is open, prior is queue 0, K and L are those given, W is 0
-  pub opened-whole : Whole (openedRecord p link delay)
+  pub opened-whole : Whole (openedRecord p t)
   opened-whole = record-opened .whole
 
-  pub opened-open : openAt (openedRecord p link delay) ≡ true
+  pub opened-open : openAt (openedRecord p t) ≡ true
   opened-open = record-opened .opened
 
-  pub opened-prior : priorAt (openedRecord p link delay) ≡ 0
+  pub opened-prior : priorAt (openedRecord p t) ≡ 0
   opened-prior = record-opened .prior
 
-  pub opened-delay : delayAt (openedRecord p link delay) ≡ delay
+  pub opened-delay : delayAt (openedRecord p t) ≡ t .delay
   opened-delay = record-opened .epochs
 
-  pub opened-link : linkAt (openedRecord p link delay) ≡ link
+  pub opened-link : linkAt (openedRecord p t) ≡ t .link
   opened-link = record-opened .octets
 
-  pub opened-waits : waitsAt (openedRecord p link delay) ≡ 0
+  pub opened-waits : waitsAt (openedRecord p t) ≡ 0
   opened-waits = record-opened .waits
 
   -- every queue is empty
-  pub opened-queue : (q : ℕ) → q < allQueues → queueAt (openedRecord p link delay) q ≡ emptyQueue
+  pub opened-queue : (q : ℕ) → q < allQueues → queueAt (openedRecord p t) q ≡ emptyQueue
   unfolding openedRecord
   opened-queue q b =
-      iterate-keeps (λ l. queueAt l q ≡ emptyQueue) (λ s l. dropped l s) streamCount (allEmptied (openedHead p link delay))
+      iterate-keeps (λ l. queueAt l q ≡ emptyQueue) (λ s l. dropped l s) streamCount (allEmptied (openedHead p t))
       (λ s l g. queue-dropped l s q (omega arith) ∙ g)
-      (emptied (openedHead p link delay) q b (emptied-head .whole))
+      (emptied (openedHead p t) q b (emptied-head .whole))
 
   -- no stream is reserved, and none is bound
-  pub opened-stream : (s : ℕ) → s < streamCount → streamAt (openedRecord p link delay) s .reserved ≡ false
+  pub opened-stream : (s : ℕ) → s < streamCount → streamAt (openedRecord p t) s .reserved ≡ false
   unfolding openedRecord
-  opened-stream s b = freed (allEmptied (openedHead p link delay)) s b opened-whole b .0
+  opened-stream s b = freed (allEmptied (openedHead p t)) s b opened-whole b .0
 
-  pub opened-bound : (s : ℕ) → s < streamCount → boundAt (openedRecord p link delay) s ≡ false
+  pub opened-bound : (s : ℕ) → s < streamCount → boundAt (openedRecord p t) s ≡ false
   unfolding openedRecord
-  opened-bound s b = freed (allEmptied (openedHead p link delay)) s b opened-whole b .1
+  opened-bound s b = freed (allEmptied (openedHead p t)) s b opened-whole b .1
 
   -- so R is 0
-  pub opened-sum : permittedSum (openedRecord p link delay) ≡ 0
-  opened-sum = sumTo-same (λ s. permittedOf (streamAt (openedRecord p link delay) s)) (λ s. 0) streamCount (λ s b. rw (opened-stream s b)) ∙ sumTo-none streamCount
+  pub opened-sum : permittedSum (openedRecord p t) ≡ 0
+  opened-sum = sumTo-same (λ s. permittedOf (streamAt (openedRecord p t) s)) (λ s. 0) streamCount (λ s b. rw (opened-stream s b)) ∙ sumTo-none streamCount
 
 -- the record stays as long as it was
-pub length-opened : (p : List ℕ) (link delay : ℕ) → length (openedRecord p link delay) ≡ length p
+pub length-opened : (p : List ℕ) (t : Terms) → length (openedRecord p t) ≡ length p
 unfolding openedRecord
-length-opened p link delay =
+length-opened p t =
     let a = withOpen p in
     let b = withPrior a 0 in
-    let c = withDelay b delay in
-    iterate-keeps (λ l. length l ≡ length p) (λ s l. dropped l s) streamCount (allEmptied (openedHead p link delay)) (λ s l e. length-dropped l s ∙ e)
-    (iterate-keeps (λ l. length l ≡ length p) (λ q l. withQueue l q emptyQueue) allQueues (openedHead p link delay) (λ q l e. length-queue l q emptyQueue ∙ e)
-    (keeps-waits (withLink c link) 0 .long ∙ length-link c link ∙ length-delay b delay ∙ keeps-prior a 0 .long ∙ length-open p))
+    let c = withDelay b (t .delay) in
+    iterate-keeps (λ l. length l ≡ length p) (λ s l. dropped l s) streamCount (allEmptied (openedHead p t)) (λ s l e. length-dropped l s ∙ e)
+    (iterate-keeps (λ l. length l ≡ length p) (λ q l. withQueue l q emptyQueue) allQueues (openedHead p t) (λ q l e. length-queue l q emptyQueue ∙ e)
+    (keeps-waits (withLink c (t .link)) 0 .long ∙ length-link c (t .link) ∙ length-delay b (t .delay) ∙ keeps-prior a 0 .long ∙ length-open p))

@@ -4,7 +4,9 @@ use Prim.Native.Nat.{ℕ}
 use mathlib.Core.List.{List, [], _∷_, _++_}
 use Rattle.stream.specs.declared.Reply.{Reply}
 use Rattle.stream.specs.Replies.{granted, refusedBy}
-use Rattle.port_laws.specs.Lists.{Call, opening, reserving, arriving, ticking, transmitting, joiningBestEffort, called, replies, freshRecord, freshMemory}
+use Rattle.steps.specs.Call.{terms, Call, opening, reserving, arriving, ticking, transmitting, joiningBestEffort}
+use Rattle.port.specs.Calls.{called}
+use Rattle.port_laws.specs.Lists.{replies, freshRecord, freshMemory}
 
 -- a case: the calls, and what they are to reply
 pub record Case : Type 0 where
@@ -17,18 +19,18 @@ continued c cs rs = record { calls = c .calls ++ cs; expected = c .expected ++ r
 
 -- the port open, and the stream reserved
 abbrev pub opened : Case
-opened = record { calls = opening 2142 1 ∷ []; expected = granted 600 0 ∷ [] }
+opened = record { calls = opening (terms 2142 1) ∷ []; expected = granted 600 0 ∷ [] }
 
 abbrev pub reserved : Case
 reserved = continued opened (reserving 5 200 ∷ []) (granted 400 0 ∷ [])
 
 -- "C1 L 1,625: 3; 1,626: share 84"
 abbrev pub c1 : Case
-c1 = record { calls = opening 1625 1 ∷ opening 1626 1 ∷ []; expected = refusedBy 3 ∷ granted 84 0 ∷ [] }
+c1 = record { calls = opening (terms 1625 1) ∷ opening (terms 1626 1) ∷ []; expected = refusedBy 3 ∷ granted 84 0 ∷ [] }
 
 -- "C2 L 23,046: share 21,504; 23,047: 3", the refused one first, since a port opens once
 abbrev pub c2 : Case
-c2 = record { calls = opening 23047 1 ∷ opening 23046 1 ∷ []; expected = refusedBy 3 ∷ granted 21504 0 ∷ [] }
+c2 = record { calls = opening (terms 23047 1) ∷ opening (terms 23046 1) ∷ []; expected = refusedBy 3 ∷ granted 21504 0 ∷ [] }
 
 -- "C3 P 83: 7; 84 granted"
 abbrev pub c3 : Case
