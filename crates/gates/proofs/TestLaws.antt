@@ -47,3 +47,8 @@ module _ (n rest : ℕ) where
 
   pub past-found : (r : ℕ) (x : Bool) (l y : Lookup) → l ≡ y → x ≡ isBound l → x ≡ false → r ≡ rest → r ≡ cond (isBound y) n rest
   past-found r x l y so told left decides = past-is r x (isBound y) (told ∙ ap isBound so) left decides
+
+-- what is true of a test's number and of the rest is true of what the test decides
+pub by-test : (G : ℕ → Type 0) (b : Bool) (n rest : ℕ) → G n → G rest → G (cond b n rest)
+by-test G true n rest h i = h
+by-test G false n rest h i = i

@@ -1,9 +1,9 @@
 -- What a stream's arrivals reply is decided by the ticks, its own calls and which of its reservations are granted. Assumes nothing.
 use Prim.Native.Nat.{ℕ, suc}
-use mathlib.Core.Bool.{Bool, false, cond}
+use mathlib.Core.Bool.{Bool, true, false, _||_, cond}
 use mathlib.Core.Path.{_≡_, refl, sym, ap, ap₂, subst, _∙_}
 use mathlib.Core.Logic.{⊎-elim}
-use mathlib.Core.List.{List, [], _∷_}
+use mathlib.Core.List.{List, [], _∷_, map}
 use borrow.Author.Tests.{eq-eqb, ne-eqb}
 use lib.Dec.{eqb}
 use Rattle.lists.proofs.Order.{eq-or-not}
@@ -12,8 +12,8 @@ use Rattle.stream.specs.declared.Stream.{Stream}
 use Rattle.stream.specs.State.{reserveOf}
 use Rattle.stream.specs.Steps.{arriveOf, tickOf}
 use Rattle.stream.specs.Replies.{refusedBy, replyOf, streamOf}
-use Rattle.port_laws.specs.Lists.{Call, opening, reserving, arriving, ticking, transmitting, joiningBestEffort, binding, framing}
-use Rattle.guarantee.specs.Events.{Sent, Event}
+use Rattle.port_laws.specs.Counting.{Action, actionOf, toArrive, toReserve, toTick, toTransmit, toBestEffort, toFrame, neither}
+use Rattle.guarantee.specs.Events.{Sent, Event, action}
 use Rattle.guarantee.specs.Claims.{isTick, isReserveOf, isArriveOf, remaining, grants, answers, Alike}
 use Rattle.guarantee.proofs.Run.{View, ownRefusal, Quiet, Effect, quiet, refuses-reservation, reserves, refuses-arrival, arrives, ticks, sends, idles, Run}
 
@@ -24,25 +24,40 @@ ownReply last s x a = cond (eqb (ownRefusal s x a) 0) (replyOf (arriveOf last x 
 abbrev pub ownNext : ℕ → ℕ → Stream → ℕ → Stream
 ownNext last s x a = cond (eqb (ownRefusal s x a) 0) (streamOf (arriveOf last x a)) x
 
--- the replies of the stream's arrivals, by itself: from the ticks and its own calls that remain, and which of its reservations are granted
-unfoldable pub replyAlone : ℕ → ℕ → Stream → List Call → List Bool → List Reply
+-- the replies of the stream's arrivals, by itself: from the actions that remain, the ticks and its own calls, and which of its reservations are granted
+unfoldable pub replyAlone : ℕ → ℕ → Stream → List Action → List Bool → List Reply
 replyAlone last s x [] gs = []
-replyAlone last s x (opening link delay ∷ cs) gs = replyAlone last s x cs gs
-replyAlone last s x (reserving r permitted ∷ cs) [] = []
-replyAlone last s x (reserving r permitted ∷ cs) (g ∷ gs) = replyAlone last s (cond g (reserveOf permitted) x) cs gs
-replyAlone last s x (arriving r charge tag ∷ cs) gs = ownReply last s x charge ∷ replyAlone last s (ownNext last s x charge) cs gs
-replyAlone last s x (ticking ∷ cs) gs = replyAlone last s (tickOf x) cs gs
-replyAlone last s x (transmitting ∷ cs) gs = replyAlone last s x cs gs
-replyAlone last s x (joiningBestEffort charge tag ∷ cs) gs = replyAlone last s x cs gs
-replyAlone last s x (binding r address vid ∷ cs) gs = replyAlone last s x cs gs
-replyAlone last s x (framing octets tag ∷ cs) gs = replyAlone last s x cs gs
+replyAlone last s x (toTick ∷ cs) gs = replyAlone last s (tickOf x) cs gs
+replyAlone last s x (toTransmit ∷ cs) gs = replyAlone last s x cs gs
+replyAlone last s x (toReserve r permitted ∷ cs) [] = []
+replyAlone last s x (toReserve r permitted ∷ cs) (g ∷ gs) = replyAlone last s (cond g (reserveOf permitted) x) cs gs
+replyAlone last s x (toArrive r charge tag ∷ cs) gs = ownReply last s x charge ∷ replyAlone last s (ownNext last s x charge) cs gs
+replyAlone last s x (toBestEffort charge tag ∷ cs) gs = replyAlone last s x cs gs
+replyAlone last s x (toFrame octets tag ∷ cs) gs = replyAlone last s x cs gs
+replyAlone last s x (neither ∷ cs) gs = replyAlone last s x cs gs
 
--- a call that touches neither queues nor streams is struck out
-quiet-foreign : (s : ℕ) (c : Call) → Quiet c → (isTick c ≡ false) × ((isReserveOf s c ≡ false) × (isArriveOf s c ≡ false))
-quiet-foreign s (opening link delay) q = (refl, (refl, refl))
-quiet-foreign s (joiningBestEffort charge tag) q = (refl, (refl, refl))
-quiet-foreign s (binding r address vid) q = (refl, (refl, refl))
-quiet-foreign s (framing octets tag) q = (refl, (refl, refl))
+-- whether an action remains, and the actions of the calls that do
+abbrev remains : ℕ → Action → Bool
+remains s c = isTick c || (isReserveOf s c || isArriveOf s c)
+
+abbrev pub actionsLeft : ℕ → List Event → List Action
+actionsLeft s [] = []
+actionsLeft s (e ∷ es) = cond (remains s (action e)) (action e ∷ actionsLeft s es) (actionsLeft s es)
+
+left-actions : (s : ℕ) (es : List Event) → actionsLeft s es ≡ map actionOf (remaining s es)
+left-actions s [] = refl
+left-actions s (e ∷ es) = told (remains s (action e)) (left-actions s es)
+  where
+    told : (b : Bool) → actionsLeft s es ≡ map actionOf (remaining s es)
+        → cond b (action e ∷ actionsLeft s es) (actionsLeft s es) ≡ map actionOf (cond b (e .call ∷ remaining s es) (remaining s es))
+    told true same = ap (λ (cs : List Action). action e ∷ cs) same
+    told false same = same
+
+-- a quiet action is struck out
+quiet-foreign : (s : ℕ) (c : Action) → Quiet c → (isTick c ≡ false) × ((isReserveOf s c ≡ false) × (isArriveOf s c ≡ false))
+quiet-foreign s (toBestEffort charge tag) q = (refl, (refl, refl))
+quiet-foreign s (toFrame octets tag) q = (refl, (refl, refl))
+quiet-foreign s neither q = (refl, (refl, refl))
 
 -- by whether there is a refusal
 allowed-so : {A : Type 0} (g : ℕ) (y z : A) → g ≡ 0 → cond (eqb g 0) y z ≡ y
@@ -54,13 +69,15 @@ refused-so g y z o = ap (λ (b : Bool). cond b y z) (ne-eqb g 0 o)
 module _ (last share n s : ℕ) (v w : View) (r : Reply) (t : Sent) (es : List Event) where
   -- the replies from the view after a call on
   abbrev AloneAfter : Stream → Type 0
-  AloneAfter x = answers s es ≡ replyAlone last s x (remaining s es) (grants s es)
+  AloneAfter x = answers s es ≡ replyAlone last s x (actionsLeft s es) (grants s es)
 
   -- and from the view before it on, with the call in front of the rest
-  abbrev AloneWith : Call → Type 0
+  abbrev AloneWith : Action → Type 0
   AloneWith c =
-      let here : List Event = record { call = c; reply = r; shown = r; sent = t } ∷ es in
-      answers s here ≡ replyAlone last s (v .stream s) (remaining s here) (grants s here)
+      cond (isArriveOf s c) (r ∷ answers s es) (answers s es)
+      ≡ replyAlone last s (v .stream s)
+      (cond (remains s c) (c ∷ actionsLeft s es) (actionsLeft s es))
+      (cond (isReserveOf s c) (eqb (r .refusal) 0 ∷ grants s es) (grants s es))
 
   -- the reply to an arrival on stream i, and that stream after it
   abbrev Own : ℕ → ℕ → Type 0
@@ -68,32 +85,32 @@ module _ (last share n s : ℕ) (v w : View) (r : Reply) (t : Sent) (es : List E
 
   module _ (later : AloneAfter (w .stream s)) where
     kept : w .stream s ≡ v .stream s → AloneAfter (v .stream s)
-    kept same = later ∙ ap (λ (x : Stream). replyAlone last s x (remaining s es) (grants s es)) same
+    kept same = later ∙ ap (λ (x : Stream). replyAlone last s x (actionsLeft s es) (grants s es)) same
 
     -- a Reserve, the stream's own or another's
     own-reserve : (i p : ℕ) → (i ≡ s → w .stream s ≡ cond (eqb (r .refusal) 0) (reserveOf p) (v .stream s)) → ((i ≡ s → ⊥) → w .stream s ≡ v .stream s)
-        → AloneWith (reserving i p)
+        → AloneWith (toReserve i p)
     unfolding replyAlone
     own-reserve i p own other =
         ⊎-elim
-        (λ (e : i ≡ s). rw (eq-eqb i s e) (later ∙ ap (λ (x : Stream). replyAlone last s x (remaining s es) (grants s es)) (own e)))
+        (λ (e : i ≡ s). rw (eq-eqb i s e) (later ∙ ap (λ (x : Stream). replyAlone last s x (actionsLeft s es) (grants s es)) (own e)))
         (λ (o : i ≡ s → ⊥). rw (ne-eqb i s o) (kept (other o)))
         (eq-or-not i s)
 
     -- an Arrive, the stream's own or another's
     own-arrive : (i a tag : ℕ) → (i ≡ s → Own a s)
         → ((i ≡ s → ⊥) → w .stream s ≡ v .stream s)
-        → AloneWith (arriving i a tag)
+        → AloneWith (toArrive i a tag)
     unfolding replyAlone
     own-arrive i a tag own other =
         ⊎-elim
         (λ (e : i ≡ s). rw (eq-eqb i s e)
         (ap₂ (λ (x : Reply) (xs : List Reply). x ∷ xs) (own e .0)
-        (later ∙ ap (λ (x : Stream). replyAlone last s x (remaining s es) (grants s es)) (own e .1))))
+        (later ∙ ap (λ (x : Stream). replyAlone last s x (actionsLeft s es) (grants s es)) (own e .1))))
         (λ (o : i ≡ s → ⊥). rw (ne-eqb i s o) (kept (other o)))
         (eq-or-not i s)
 
-    alone-with : (c : Call) → Effect last share n v w r t c → AloneWith c
+    alone-with : (c : Action) → Effect last share n v w r t c → AloneWith c
     unfolding replyAlone
     alone-with c (quiet q e queues streams) = let f = quiet-foreign s c q in rw (f .0, f .1 .0, f .1 .1) (kept (streams s))
     alone-with c (refuses-reservation {s = i} {permitted = p} not-granted e queues streams) =
@@ -108,20 +125,20 @@ module _ (last share n s : ℕ) (v w : View) (r : Reply) (t : Sent) (es : List E
         own-arrive i a tag
         (λ same. subst (Own a) same (d .reply ∙ sym (allowed-so _ _ _ (d .allowed)), d .streams .0 ∙ sym (allowed-so _ _ _ (d .allowed))))
         (λ o. d .streams .1 s (λ f. o (sym f)))
-    alone-with c (ticks e d) = later ∙ ap (λ (x : Stream). replyAlone last s x (remaining s es) (grants s es)) (d .streams s)
+    alone-with c (ticks e d) = later ∙ ap (λ (x : Stream). replyAlone last s x (actionsLeft s es) (grants s es)) (d .streams s)
     alone-with c (sends k f fs d) = kept (d .streams s)
     alone-with c (idles e i queues streams) = kept (streams s)
 
 -- one list: the replies of the stream's arrivals are those of the stream by itself
-pub alone : (last share s : ℕ) (es : List Event) (n : ℕ) (v : View) → Run last share n v es → answers s es ≡ replyAlone last s (v .stream s) (remaining s es) (grants s es)
+pub alone : (last share s : ℕ) (es : List Event) (n : ℕ) (v : View) → Run last share n v es → answers s es ≡ replyAlone last s (v .stream s) (actionsLeft s es) (grants s es)
 unfolding replyAlone
 alone last share s [] n v run = refl
-alone last share s (e ∷ es) n v (w, effect, run) = alone-with last share n s v w (e .reply) (e .sent) es (alone last share s es (suc n) w run) (e .call) effect
+alone last share s (e ∷ es) n v (w, effect, run) = alone-with last share n s v w (e .reply) (e .sent) es (alone last share s es (suc n) w run) (action e) effect
 
 -- two lists
 pub alike : (last share share′ s : ℕ) (es fs : List Event) (v v′ : View) → v .stream s ≡ v′ .stream s → Run last share 0 v es → Run last share′ 0 v′ fs → Alike s es fs
 alike last share share′ s es fs v v′ same run run′ calls granted =
     alone last share s es 0 v run
-    ∙ ap (λ (x : Stream). replyAlone last s x (remaining s es) (grants s es)) same
-    ∙ ap₂ (replyAlone last s (v′ .stream s)) calls granted
+    ∙ ap (λ (x : Stream). replyAlone last s x (actionsLeft s es) (grants s es)) same
+    ∙ ap₂ (replyAlone last s (v′ .stream s)) (left-actions s es ∙ ap (map actionOf) calls ∙ sym (left-actions s fs)) granted
     ∙ sym (alone last share′ s fs 0 v′ run′)

@@ -23,8 +23,8 @@ use Rattle.stream.proofs.TickLaws.{tick-cases}
 use Rattle.record.specs.Layout.{streamCount}
 use Rattle.ranges.specs.Ranges.{leastCharge, greatestCharge, chargeFits}
 use Rattle.ranges.proofs.RangeLaws.{within-bounds}
-use Rattle.port_laws.specs.Lists.{Call, opening, reserving, arriving, joiningBestEffort, binding, framing}
-use Rattle.guarantee.specs.Events.{Sent, Event}
+use Rattle.port_laws.specs.Counting.{Action, actionOf, toArrive, toReserve, toTick, toTransmit, toBestEffort, toFrame, neither}
+use Rattle.guarantee.specs.Events.{Sent, Event, action}
 use Rattle.guarantee.specs.Claims.{isTick, NoTick, PurgesNothing, offer, offers, OffersWithin, Prompt, ConformingPrompt}
 use Rattle.lists.proofs.EachLaws.{differ, all-rest}
 use Rattle.guarantee.proofs.Run.{View, ownRefusal, Quiet, Arrives, Reserves, RefusesArrival, Effect, quiet, refuses-reservation, reserves, refuses-arrival, arrives, ticks, sends, idles, Run}
@@ -65,20 +65,19 @@ conforms-tick permitted offered x (same, at) =
     at)
 
 -- the offers of one call
-offer-else : (s r a tag : ℕ) → (r ≡ s → ⊥) → offer s (arriving r a tag) ≡ 0
+offer-else : (s r a tag : ℕ) → (r ≡ s → ⊥) → offer s (toArrive r a tag) ≡ 0
 offer-else s r a tag o = rw (ne-eqb r s o)
 
-offer-own : (s r a tag : ℕ) → r ≡ s → chargeFits a ≡ true → offer s (arriving r a tag) ≡ a
+offer-own : (s r a tag : ℕ) → r ≡ s → chargeFits a ≡ true → offer s (toArrive r a tag) ≡ a
 offer-own s r a tag e fits = rw (eq-eqb r s e, fits)
 
-offer-unfit : (s r a tag : ℕ) → chargeFits a ≡ false → offer s (arriving r a tag) ≡ 0
+offer-unfit : (s r a tag : ℕ) → chargeFits a ≡ false → offer s (toArrive r a tag) ≡ 0
 offer-unfit s r a tag unfit = rw (unfit, and-false (eqb r s))
 
-quiet-offers : (s : ℕ) (c : Call) → Quiet c → offer s c ≡ 0
-quiet-offers s (opening link delay) q = refl
-quiet-offers s (joiningBestEffort charge tag) q = refl
-quiet-offers s (binding r address vid) q = refl
-quiet-offers s (framing octets tag) q = refl
+quiet-offers : (s : ℕ) (c : Action) → Quiet c → offer s c ≡ 0
+quiet-offers s (toBestEffort charge tag) q = refl
+quiet-offers s (toFrame octets tag) q = refl
+quiet-offers s neither q = refl
 
 -- no arrival of a fit charge on a reserved stream is refused before its rule
 allowed : (s : ℕ) (x : Stream) (a : ℕ) → s < streamCount → x .reserved ≡ true → chargeFits a ≡ true → ownRefusal s x a ≡ 0
@@ -108,26 +107,26 @@ module _ (last share n : ℕ) (v w : View) (r : Reply) (t : Sent) (s permitted o
     not-refused : {A : Type 0} → RefusesArrival v w r s a → A
     not-refused d = absurd (d .refused (allowed s (v .stream s) a below (h .0 .0) fits))
 
-    pub own-reply : Effect last share n v w r t (arriving s a tag) → (r .refusal ≡ 0) × (r .first ≡ currentPlace)
+    pub own-reply : Effect last share n v w r t (toArrive s a tag) → (r .refusal ≡ 0) × (r .first ≡ currentPlace)
     own-reply (quiet q e queues streams) = absurd q
     own-reply (refuses-arrival e d) = not-refused d
     own-reply (arrives e d) = joined-reply (arriveOf last (v .stream s) a) own-joins (d .reply)
 
   -- any call but a tick
-  refused-conforms : (i a tag : ℕ) → RefusesArrival v w r i a → offered + offer s (arriving i a tag) ≤ permitted
-      → Conforms permitted (w .stream s) (offered + offer s (arriving i a tag))
+  refused-conforms : (i a tag : ℕ) → RefusesArrival v w r i a → offered + offer s (toArrive i a tag) ≤ permitted
+      → Conforms permitted (w .stream s) (offered + offer s (toArrive i a tag))
   refused-conforms i a tag d most =
       ⊎-elim
       (λ (e : i ≡ s). told (chargeFits a) refl e)
       (λ (o : i ≡ s → ⊥). conforms-kept permitted offered _ (v .stream s) (w .stream s) (d .streams s) (offer-else s i a tag o) h)
       (eq-or-not i s)
     where
-      told : (b : Bool) → chargeFits a ≡ b → i ≡ s → Conforms permitted (w .stream s) (offered + offer s (arriving i a tag))
+      told : (b : Bool) → chargeFits a ≡ b → i ≡ s → Conforms permitted (w .stream s) (offered + offer s (toArrive i a tag))
       told true fits e = absurd (d .refused (allowed i (v .stream i) a (omega arith) (ap (λ (j : ℕ). v .stream j .reserved) e ∙ h .0 .0) fits))
       told false unfit e = conforms-kept permitted offered _ (v .stream s) (w .stream s) (d .streams s) (offer-unfit s i a tag unfit) h
 
-  arrived-conforms : (i a tag : ℕ) → Arrives last v w r (record { stream = i; charge = a; tag = tag; number = n }) → offered + offer s (arriving i a tag) ≤ permitted
-      → Conforms permitted (w .stream s) (offered + offer s (arriving i a tag))
+  arrived-conforms : (i a tag : ℕ) → Arrives last v w r (record { stream = i; charge = a; tag = tag; number = n }) → offered + offer s (toArrive i a tag) ≤ permitted
+      → Conforms permitted (w .stream s) (offered + offer s (toArrive i a tag))
   arrived-conforms i a tag d most =
       ⊎-elim
       (λ (e : i ≡ s).
@@ -145,7 +144,7 @@ module _ (last share n : ℕ) (v w : View) (r : Reply) (t : Sent) (s permitted o
       (λ (o : s ≡ i → ⊥). conforms-kept permitted offered 0 (v .stream s) (w .stream s) (d .streams .1 s o) refl h)
       (eq-or-not s i)
 
-conforms-after : (last share n : ℕ) (v w : View) (r : Reply) (t : Sent) (c : Call) (s permitted offered : ℕ) → currentPlace < last → s < streamCount
+conforms-after : (last share n : ℕ) (v w : View) (r : Reply) (t : Sent) (c : Action) (s permitted offered : ℕ) → currentPlace < last → s < streamCount
     → Conforms permitted (v .stream s) offered → Effect last share n v w r t c → isTick c ≡ false → offered + offer s c ≤ permitted
     → Conforms permitted (w .stream s) (offered + offer s c)
 conforms-after last share n v w r t c s permitted offered more below h (quiet q e queues streams) no-tick most =
@@ -169,7 +168,7 @@ abbrev MayOffer : ℕ → ℕ → ℕ → List Event → Type 0
 MayOffer s permitted offered es = (between after : List Event) → es ≡ between ++ after → All NoTick between → offered + offers s between ≤ permitted
 
 may-offer-on : (s permitted offered : ℕ) (e : Event) (es : List Event) → NoTick e → MayOffer s permitted offered (e ∷ es)
-    → MayOffer s permitted (offered + offer s (e .call)) es
+    → MayOffer s permitted (offered + offer s (action e)) es
 may-offer-on s permitted offered e es no-tick may between after split no-ticks =
     omega (arith, may (e ∷ between) after (ap (λ (zs : List Event). e ∷ zs) split) (no-tick, no-ticks))
 
@@ -210,20 +209,20 @@ module _ (last share s permitted : ℕ) (more : currentPlace < last) (below : s 
       }
 
   arriving-step : (d : Event) (earlier : List Event) → Arriving earlier → Arriving (d ∷ earlier)
-  arriving-step d earlier rest n v offered (w, effect, run) h conforms may within = one-later n d earlier (told (isTick (d .call)) refl)
+  arriving-step d earlier rest n v offered (w, effect, run) h conforms may within = one-later n d earlier (told (isTick (action d)) refl)
     where
       sound : Sound last share w
-      sound = stays-sound last share n v w (d .reply) (d .sent) (d .call) (omega arith) effect h
+      sound = stays-sound last share n v w (d .reply) (d .sent) (action d) (omega arith) effect h
 
-      told : (b : Bool) → isTick (d .call) ≡ b → AtArrival (suc n) earlier
+      told : (b : Bool) → isTick (action d) ≡ b → AtArrival (suc n) earlier
       told true is =
-          let ticked = tick-effect last share n v w (d .reply) (d .sent) (d .call) effect is in
+          let ticked = tick-effect last share n v w (d .reply) (d .sent) (action d) effect is in
           rest (suc n) w 0 run sound (rw (ticked .streams s) (conforms-tick permitted offered (v .stream s) conforms))
           (may-offer-anew s permitted d (earlier ++ (e ∷ later)) within)
           (within-on s permitted d (earlier ++ (e ∷ later)) within)
       told false is =
-          rest (suc n) w (offered + offer s (d .call)) run sound
-          (conforms-after last share n v w (d .reply) (d .sent) (d .call) s permitted offered more below conforms effect is
+          rest (suc n) w (offered + offer s (action d)) run sound
+          (conforms-after last share n v w (d .reply) (d .sent) (action d) s permitted offered more below conforms effect is
           (omega (arith, may (d ∷ []) (earlier ++ (e ∷ later)) refl (is, tt))))
           (may-offer-on s permitted offered d (earlier ++ (e ∷ later)) is may)
           (within-on s permitted d (earlier ++ (e ∷ later)) within)
@@ -234,7 +233,7 @@ module _ (last share s permitted : ℕ) (more : currentPlace < last) (below : s 
   arriving-at (d ∷ earlier) = arriving-step d earlier (arriving-at earlier)
 
 -- a Reserve without refusal
-granted-reserve : (last share n : ℕ) (v w : View) (r : Reply) (t : Sent) (s permitted : ℕ) → Effect last share n v w r t (reserving s permitted) → r .refusal ≡ 0
+granted-reserve : (last share n : ℕ) (v w : View) (r : Reply) (t : Sent) (s permitted : ℕ) → Effect last share n v w r t (toReserve s permitted) → r .refusal ≡ 0
     → Reserves share v w r s permitted
 granted-reserve last share n v w r t s permitted (quiet q e queues streams) is = absurd q
 granted-reserve last share n v w r t s permitted (refuses-reservation not-granted e queues streams) is = absurd (not-granted is)
@@ -244,7 +243,7 @@ granted-reserve last share n v w r t s permitted (reserves e d) is = d
 conforms-granted : (permitted : ℕ) → Conforms permitted (reserveOf permitted) 0
 conforms-granted permitted = ((refl, refl), inl (refl, omega arith))
 
-module _ (last share s permitted : ℕ) (more : currentPlace < last) (below : s < streamCount) (e : Event) (charge tag : ℕ) (call : e .call ≡ arriving s charge tag)
+module _ (last share s permitted : ℕ) (more : currentPlace < last) (below : s < streamCount) (e : Event) (charge tag : ℕ) (call : action e ≡ toArrive s charge tag)
     (fits : chargeFits charge ≡ true) where
   -- the frame where it arrives
   prompt-there : (n : ℕ) (earlier later tail : List Event) → AtArrival last share s permitted more below e later tail n earlier → All PurgesNothing tail
@@ -254,8 +253,8 @@ module _ (last share s permitted : ℕ) (more : currentPlace < last) (below : s 
       let v = a .rest .view in
       let number = a .rest .number in
       let effect = subst (Effect last share number v (run .0) (e .reply) (e .sent)) call (run .1) in
-      let no-tick : isTick (e .call) ≡ false = ap isTick call in
-      let own : offer s (e .call) ≡ charge = ap (offer s) call ∙ offer-own s s charge tag refl fits in
+      let no-tick : isTick (action e) ≡ false = ap isTick call in
+      let own : offer s (action e) ≡ charge = ap (offer s) call ∙ offer-own s s charge tag refl fits in
       let most : a .offered + charge ≤ permitted = omega (arith, own, a .may (e ∷ []) later refl (no-tick, tt)) in
       let reply = own-reply last share number v (run .0) (e .reply) (e .sent) s permitted (a .offered) more below (a .conforms) charge tag fits most effect in
       let joined = accepted last share number v (run .0) (e .reply) (e .sent) s charge tag effect (a .rest .sound) (reply .0) in (
@@ -272,9 +271,9 @@ pub prompt : (last share : ℕ) (v : View) (es : List Event) → currentPlace < 
 prompt last share v es more run h purges s permitted before while tail g split call is within earlier later e charge tag place arrival fits =
     let here = run-rest last share (omega arith) before (g ∷ (while ++ tail)) 0 v (subst (Run last share 0 v) split run) h in
     let w = here .run .0 in
-    let effect = subst (Effect last share (here .number) (here .view) w (g .reply) (g .sent)) call (here .run .1) in
+    let effect = subst (Effect last share (here .number) (here .view) w (g .reply) (g .sent)) (ap actionOf call) (here .run .1) in
     let d = granted-reserve last share (here .number) (here .view) w (g .reply) (g .sent) s permitted effect is in
-    let sound = stays-sound last share (here .number) (here .view) w (g .reply) (g .sent) (g .call) (omega arith) (here .run .1) (here .sound) in
+    let sound = stays-sound last share (here .number) (here .view) w (g .reply) (g .sent) (action g) (omega arith) (here .run .1) (here .sound) in
     let apart : while ++ tail ≡ earlier ++ (e ∷ (later ++ tail)) = ap (λ (zs : List Event). zs ++ tail) place ∙ append-assoc earlier (e ∷ later) tail in
     let within-there = subst (OffersWithin s permitted) place within in
     let a = arriving-at last share s permitted more (d .below) e later (later ++ tail) earlier (suc (here .number)) w 0
@@ -284,5 +283,5 @@ prompt last share v es more run h purges s permitted before while tail g split c
     within-there in
     let later-purges = all-rest PurgesNothing before (g ∷ (while ++ tail)) (subst (All PurgesNothing) split purges) .1 in
     subst (λ (i : ℕ). Prompt (record { stream = s; charge = charge; tag = tag; number = i }) e (later ++ tail)) (omega (arith, here .counted))
-    (prompt-there last share s permitted more (d .below) e charge tag arrival fits (suc (here .number)) earlier later (later ++ tail) a
+    (prompt-there last share s permitted more (d .below) e charge tag (ap actionOf arrival) fits (suc (here .number)) earlier later (later ++ tail) a
     (all-rest PurgesNothing earlier (e ∷ (later ++ tail)) (subst (All PurgesNothing) apart later-purges) .1))

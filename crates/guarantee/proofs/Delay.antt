@@ -16,9 +16,9 @@ use Rattle.stream.specs.State.{currentPlace}
 use Rattle.stream.specs.Steps.{arriveOf}
 use Rattle.stream.specs.Replies.{granted, replyOf}
 use Rattle.stream.proofs.FitLaws.{joins-onward, joins-within}
-use Rattle.port_laws.specs.Lists.{Call, arriving}
-use Rattle.guarantee.specs.Events.{Marked, Sent, reserved, Event}
-use Rattle.guarantee.specs.Claims.{isTick, Tick, PurgesNothing, ticks as ticksOf, Sends, SentBefore, AllSentBefore}
+use Rattle.port_laws.specs.Counting.{Action, actionOf, toArrive, toReserve, toTick, toTransmit, toBestEffort, toFrame, neither}
+use Rattle.guarantee.specs.Events.{Marked, Sent, sentReserved, Event, action}
+use Rattle.guarantee.specs.Claims.{isTick, Tick, PurgesNothing, tickCount, Sends, SentBefore, AllSentBefore}
 use Rattle.lists.proofs.EachLaws.{differ, all-rest, some-before, some-last}
 use Rattle.guarantee.specs.Beyond.{SentByReply}
 use Rattle.guarantee.proofs.Run.{View, queueAfter, Ticks, Effect, quiet, refuses-reservation, reserves, refuses-arrival, arrives, ticks, sends, idles, Run}
@@ -40,15 +40,15 @@ waits-after k f g (Discarded x) fs h = h
 
 -- a call that is no tick sends the frame, or it still waits
 abbrev SentOrWaits : ℕ → Marked → View → Reply → Sent → Type 0
-SentOrWaits k f w r t = ((t ≡ reserved f) × (r ≡ granted (f .stream) (f .tag))) ⊎ Waits k f w
+SentOrWaits k f w r t = ((t ≡ sentReserved f) × (r ≡ granted (f .stream) (f .tag))) ⊎ Waits k f w
 
 -- the oldest frame is this one, or this one is behind it
-sent-first : (k : ℕ) (f g : Marked) (fs : List Marked) (w : View) (r : Reply) (t : Sent) → t ≡ reserved g → r ≡ granted (g .stream) (g .tag) → w .queue k ≡ fs
+sent-first : (k : ℕ) (f g : Marked) (fs : List Marked) (w : View) (r : Reply) (t : Sent) → t ≡ sentReserved g → r ≡ granted (g .stream) (g .tag) → w .queue k ≡ fs
     → Some (λ h. h ≡ f) (g ∷ fs) → SentOrWaits k f w r t
-sent-first k f g fs w r t sent reply queue (inl e) = inl (sent ∙ ap reserved e, reply ∙ ap (λ (h : Marked). granted (h .stream) (h .tag)) e)
+sent-first k f g fs w r t sent reply queue (inl e) = inl (sent ∙ ap sentReserved e, reply ∙ ap (λ (h : Marked). granted (h .stream) (h .tag)) e)
 sent-first k f g fs w r t sent reply queue (inr h) = inr (rw queue h)
 
-still-waits : (last share n : ℕ) (v w : View) (r : Reply) (t : Sent) (c : Call) (k : ℕ) (f : Marked) → Effect last share n v w r t c → isTick c ≡ false → Waits k f v
+still-waits : (last share n : ℕ) (v w : View) (r : Reply) (t : Sent) (c : Action) (k : ℕ) (f : Marked) → Effect last share n v w r t c → isTick c ≡ false → Waits k f v
     → SentOrWaits k f w r t
 still-waits last share n v w r t c k f (quiet q e queues streams) no-tick h = inr (rw (queues k) h)
 still-waits last share n v w r t c k f (refuses-reservation not-granted e queues streams) no-tick h = inr (rw (queues k) h)
@@ -74,10 +74,10 @@ not-in-prior v w r f d zeros h =
     told (g ∷ fs) z e = absurd (omega arith)
 
 -- a tick counts one
-counts : (e : Event) → isTick (e .call) ≡ true → _≡_ {A = ℕ} (cond (isTick (e .call)) 1 0) 1
+counts : (e : Event) → isTick (action e) ≡ true → _≡_ {A = ℕ} (cond (isTick (action e)) 1 0) 1
 counts e is = ap {B = ℕ} (λ (b : Bool). cond b 1 0) is
 
-counts-not : (e : Event) → isTick (e .call) ≡ false → _≡_ {A = ℕ} (cond (isTick (e .call)) 1 0) 0
+counts-not : (e : Event) → isTick (action e) ≡ false → _≡_ {A = ℕ} (cond (isTick (action e)) 1 0) 0
 counts-not e is = ap {B = ℕ} (λ (b : Bool). cond b 1 0) is
 
 module _ (last share : ℕ) (some : currentPlace ≤ last) where
@@ -85,26 +85,26 @@ module _ (last share : ℕ) (some : currentPlace ≤ last) where
   abbrev SentAmong : List Event → Type 0
   SentAmong between =
       (after : List Event) (u : Event) (n k : ℕ) (v : View) (f : Marked) → Run last share n v (between ++ (u ∷ after)) → All PurgesNothing (between ++ (u ∷ after))
-      → Waits k f v → Tick u → k ≤ ticksOf between → Some (Sends f) between
+      → Waits k f v → Tick u → k ≤ tickCount between → Some (Sends f) between
 
   sent-step : (e : Event) (between : List Event) → SentAmong between → SentAmong (e ∷ between)
-  sent-step e between rest after u n k v f (w, effect, run) (purges, none-later) waits tick most = told (isTick (e .call)) refl k waits most
+  sent-step e between rest after u n k v f (w, effect, run) (purges, none-later) waits tick most = told (isTick (action e)) refl k waits most
     where
-      told : (b : Bool) → isTick (e .call) ≡ b → (k : ℕ) → Waits k f v → k ≤ ticksOf (e ∷ between) → Some (Sends f) (e ∷ between)
+      told : (b : Bool) → isTick (action e) ≡ b → (k : ℕ) → Waits k f v → k ≤ tickCount (e ∷ between) → Some (Sends f) (e ∷ between)
       told true is zero h m =
-          not-in-prior v w (e .reply) f (tick-effect last share n v w (e .reply) (e .sent) (e .call) effect is) (purges is) h
+          not-in-prior v w (e .reply) f (tick-effect last share n v w (e .reply) (e .sent) (action e) effect is) (purges is) h
       told true is (suc k) h m =
-          let d = tick-effect last share n v w (e .reply) (e .sent) (e .call) effect is in
+          let d = tick-effect last share n v w (e .reply) (e .sent) (action e) effect is in
           inr (rest after u (suc n) k w f run none-later (rw (d .queues k) h) tick (omega (arith, counts e is)))
       told false is k h m =
           ⊎-elim
-          (λ (s : (e .sent ≡ reserved f) × (e .reply ≡ granted (f .stream) (f .tag))). inl s)
+          (λ (s : (e .sent ≡ sentReserved f) × (e .reply ≡ granted (f .stream) (f .tag))). inl s)
           (λ (h : Waits k f w). inr (rest after u (suc n) k w f run none-later h tick (omega (arith, counts-not e is))))
-          (still-waits last share n v w (e .reply) (e .sent) (e .call) k f effect is h)
+          (still-waits last share n v w (e .reply) (e .sent) (action e) k f effect is h)
 
   sent-among : (between : List Event) → SentAmong between
   sent-among [] = λ after u n k v f run purges waits tick most.
-      not-in-prior v (run .0) (u .reply) f (tick-effect last share n v (run .0) (u .reply) (u .sent) (u .call) (run .1) tick) (purges .0 tick)
+      not-in-prior v (run .0) (u .reply) f (tick-effect last share n v (run .0) (u .reply) (u .sent) (action u) (run .1) tick) (purges .0 tick)
       (subst (λ (j : ℕ). Waits j f v) (omega arith) waits)
   sent-among (e ∷ between) = sent-step e between (sent-among between)
 
@@ -129,7 +129,7 @@ module _ (last share : ℕ) (some : currentPlace ≤ last) where
   pub run-rest : (before rest : List Event) (n : ℕ) (v : View) → Run last share n v (before ++ rest) → Sound last share v → Rest last share n before rest
   run-rest [] rest n v run h = record { number = n; view = v; counted = omega arith; run = run; sound = h }
   run-rest (e ∷ before) rest n v (w, effect, run) h =
-      let later = run-rest before rest (suc n) w run (stays-sound last share n v w (e .reply) (e .sent) (e .call) some effect h) in
+      let later = run-rest before rest (suc n) w run (stays-sound last share n v w (e .reply) (e .sent) (action e) some effect h) in
       record { number = later .number; view = later .view; counted = omega (arith, later .counted); run = later .run; sound = later .sound }
 
 -- an accepted arrival: the frame waits at the place that the reply names
@@ -153,14 +153,14 @@ module _ (last share n : ℕ) (v w : View) (r : Reply) (t : Sent) (s charge tag 
       })
   joined-accepted h (Discarded x) e reply queues no-refusal = absurd (omega (arith, ap (λ (y : Reply). y .refusal) reply))
 
-  pub accepted : Effect last share n v w r t (arriving s charge tag) → Sound last share v → r .refusal ≡ 0 → Accepted last w r frame
+  pub accepted : Effect last share n v w r t (toArrive s charge tag) → Sound last share v → r .refusal ≡ 0 → Accepted last w r frame
   accepted (quiet q e queues streams) h no-refusal = absurd q
   accepted (refuses-arrival e d) h no-refusal = absurd (d .refused (ap (λ (x : Reply). x .refusal) (sym (d .reply)) ∙ no-refusal))
   accepted (arrives e d) h no-refusal = joined-accepted h (arriveOf last (v .stream s) charge) refl (d .reply) (d .queues) no-refusal
 
 -- an accepted frame is sent before the tick of a number above that of the queue that the reply names
 module _ (last share : ℕ) (v : View) (es : List Event) (some : currentPlace ≤ last) (run : Run last share 0 v es) (h : Sound last share v) (purges : All PurgesNothing es)
-    (before after : List Event) (e : Event) (s charge tag : ℕ) (split : es ≡ before ++ (e ∷ after)) (call : e .call ≡ arriving s charge tag)
+    (before after : List Event) (e : Event) (s charge tag : ℕ) (split : es ≡ before ++ (e ∷ after)) (call : action e ≡ toArrive s charge tag)
     (no-refusal : e .reply .refusal ≡ 0) where
   rest : Rest last share 0 before (e ∷ after)
   rest = run-rest last share some before (e ∷ after) 0 v (subst (Run last share 0 v) split run) h
@@ -183,10 +183,10 @@ module _ (last share : ℕ) (v : View) (es : List Event) (some : currentPlace �
 module _ (last share : ℕ) (v : View) (es : List Event) (some : currentPlace ≤ last) (run : Run last share 0 v es) (h : Sound last share v) (purges : All PurgesNothing es) where
   pub sent-by-reply : SentByReply es
   sent-by-reply before after e s charge tag split call no-refusal =
-      accepted-sent last share v es some run h purges before after e s charge tag split call no-refusal _ (omega arith)
+      accepted-sent last share v es some run h purges before after e s charge tag split (ap actionOf call) no-refusal _ (omega arith)
 
   -- every accepted frame is sent before the tick whose number is that of the queues for reserved traffic, or any later one
   pub all-sent : (number : ℕ) → last + 1 ≤ number → AllSentBefore number es
   all-sent number enough before after e s charge tag split call no-refusal =
-      accepted-sent last share v es some run h purges before after e s charge tag split call no-refusal _
-      (omega (arith, enough, joined last share v es some run h purges before after e s charge tag split call no-refusal .to-last))
+      accepted-sent last share v es some run h purges before after e s charge tag split (ap actionOf call) no-refusal _
+      (omega (arith, enough, joined last share v es some run h purges before after e s charge tag split (ap actionOf call) no-refusal .to-last))

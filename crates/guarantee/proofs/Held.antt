@@ -20,8 +20,9 @@ use Rattle.fitness.specs.Fit.{recordFits}
 use Rattle.steps.specs.Roles.{roleAt}
 use Rattle.steps.proofs.RoleLaws.{role-same}
 use Rattle.gates.specs.Refusals.{arriveRefusal}
-use Rattle.port_laws.specs.Lists.{Call}
-use Rattle.guarantee.specs.Events.{Marked, reserved, bestEffort as sentBestEffort}
+use Rattle.steps.specs.Call.{Call}
+use Rattle.port_laws.specs.Counting.{actionOf}
+use Rattle.guarantee.specs.Events.{Marked, sentReserved, sentBestEffort}
 use Rattle.guarantee.proofs.Run.{View, free, permittedOf, ownRefusal}
 use Rattle.guarantee.proofs.Tied.{Tied}
 
@@ -45,7 +46,7 @@ pub record Holds (all : List Call) (link : ℕ) (p m k : List ℕ) (v : View) (b
   pub opened : openAt p ≡ true
   pub octets : linkAt p ≡ link
   pub streams : (s : ℕ) → v .stream s ≡ seenAt p s
-  pub queues : (role : ℕ) → role < queueCount → Tied all reserved (inRole p m role) (inRole p k role) (v .queue role)
+  pub queues : (role : ℕ) → role < queueCount → Tied all sentReserved (inRole p m role) (inRole p k role) (v .queue role)
   pub above : (role : ℕ) → queueCount ≤ role → v .queue role ≡ []
   pub waits : Tied all sentBestEffort (waiting m bestEffort (queueAt p bestEffort)) (waiting k bestEffort (queueAt p bestEffort)) best
 

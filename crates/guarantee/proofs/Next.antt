@@ -1,9 +1,9 @@
 -- What is to be shown of each call on a port that holds a view, and the calls that are refused. Assumes nothing.
 use Prim.Native.Nat.{ℕ, _≤_, _<_}
-use mathlib.Core.Path.{_≡_, refl}
+use mathlib.Core.Bool.{false}
+use mathlib.Core.Path.{_≡_, refl, sym, subst}
 use mathlib.Core.Logic.{⊎-elim}
 use mathlib.Core.List.{List, []}
-use lib.ListN.{length}
 use Rattle.lists.proofs.Order.{eq-or-not}
 use Rattle.stream.specs.declared.Reply.{Reply}
 use Rattle.stream.specs.State.{lastPlace}
@@ -15,13 +15,15 @@ use Rattle.record.proofs.KeepLaws.{Keeps}
 use Rattle.ranges.specs.Ranges.{shareOf}
 use Rattle.fitness.specs.Fit.{lentRefusal}
 use Rattle.fitness.proofs.FitLaws.{fit-lent}
-use Rattle.steps.specs.Outcome.{Outcome, refused}
-use Rattle.gates.specs.Gated.{gated}
-use Rattle.gates.proofs.GateLaws.{grants, refuses}
-use Rattle.port_laws.specs.Lists.{Call, transmitting}
-use Rattle.guarantee.specs.Events.{Marked, Sent, reserved, bestEffort as sentBestEffort, sentBy}
+use Rattle.steps.specs.Outcome.{Outcome, outcome, refused, gated}
+use Rattle.steps.proofs.OutcomeLaws.{grants, refuses}
+use Rattle.steps.specs.Call.{Call, transmitting}
+use Rattle.port_laws.specs.Counting.{actionOf}
+use Rattle.port_laws.proofs.GateNumbers.{Own}
+use Rattle.guarantee.specs.Events.{Marked, Sent, sentReserved, sentBestEffort, none, isTransmit, sentBy}
 use Rattle.guarantee.specs.Claims.{replyOfSent}
-use Rattle.guarantee.proofs.Run.{View, Effect}
+use Rattle.guarantee.proofs.Run.{View, Quiet, Effect, quiet}
+use Rattle.guarantee.proofs.CallLaws.{quiet-no-transmit, no-transmit, sends-none}
 use Rattle.guarantee.proofs.Tied.{Tied}
 use Rattle.guarantee.proofs.Held.{seenAt, inRole, Holds}
 
@@ -36,7 +38,7 @@ link-kept p q keeps = (keeps .opened, keeps .link)
 pub record Moved (all : List Call) (p q m k : List ℕ) (w : View) (best : List Marked) : Type 0 where
   pub keeps : SameLink p q
   pub streams : (s : ℕ) → w .stream s ≡ seenAt q s
-  pub queues : (role : ℕ) → role < queueCount → Tied all reserved (inRole q m role) (inRole q k role) (w .queue role)
+  pub queues : (role : ℕ) → role < queueCount → Tied all sentReserved (inRole q m role) (inRole q k role) (w .queue role)
   pub above : (role : ℕ) → queueCount ≤ role → w .queue role ≡ []
   pub waits : Tied all sentBestEffort (waiting m bestEffort (queueAt q bestEffort)) (waiting k bestEffort (queueAt q bestEffort)) best
 
@@ -49,34 +51,30 @@ Says reply shown sent = (reply ≡ replyOfSent (λ f. f .tag) sent) × (shown �
 pub record Next (earlier all : List Call) (n link : ℕ) (p m k : List ℕ) (v : View) (c : Call) (o u : Outcome) : Type 0 where
   pub view : View
   pub best : List Marked
-  pub effect : Effect lastPlace (shareOf link) n v view (o .reply) (sentBy earlier c (u .reply)) c
+  pub effect : Effect lastPlace (shareOf link) n v view (o .reply) (sentBy earlier c (u .reply)) (actionOf c)
   pub same : u .port ≡ o .port
-  pub long : length (o .memory) ≡ length m
-  pub long-marked : length (u .memory) ≡ length k
   pub moved : Moved all p (o .port) (o .memory) (u .memory) view best
   pub says : c ≡ transmitting → Says (o .reply) (u .reply) (sentBy earlier c (u .reply))
   pub marks : (c ≡ transmitting → ⊥) → u .reply ≡ o .reply
-  pub not-lent : o .reply .refusal < 18
+  pub not-lent : Own (o .reply .refusal)
 
 module _ (all : List Call) (n link : ℕ) (p m k : List ℕ) (v : View) (best : List Marked) (h : Holds all link p m k v best) where
-  -- where nothing changes
+  -- a call that leaves record and memory as they were, refused or granted
   pub unmoved : Moved all p p m k v best
   unmoved = record { keeps = (refl, refl); streams = h .streams; queues = h .queues; above = h .above; waits = h .waits }
 
-  pub next-refused : (g : ℕ) (c : Call) → g < 18 → (c ≡ transmitting → ⊥) → Effect lastPlace (shareOf link) n v v (refusedBy g) (sentBy all c (refusedBy g)) c
-      → Next all all n link p m k v c (refused g p m) (refused g p k)
-  next-refused g c below other effect =
+  pub next-unchanged : (r : Reply) (c : Call) → Own (r .refusal) → isTransmit (actionOf c) ≡ false → Effect lastPlace (shareOf link) n v v r none (actionOf c)
+      → Next all all n link p m k v c (outcome r p m) (outcome r p k)
+  next-unchanged r c own other effect =
       record {
         view = v;
         best = best;
-        effect = effect;
+        effect = subst (λ (t : Sent). Effect lastPlace (shareOf link) n v v r t (actionOf c)) (sym (sends-none all c r other)) effect;
         same = refl;
-        long = refl;
-        long-marked = refl;
         moved = unmoved;
-        says = λ e. absurd (other e);
+        says = λ e. absurd (no-transmit c other e);
         marks = λ e. refl;
-        not-lent = below;
+        not-lent = own;
       }
 
   -- by a call's own refusals, since the port is fit in both memories
@@ -90,3 +88,9 @@ module _ (all : List Call) (n link : ℕ) (p m k : List ℕ) (v : View) (best : 
       (λ (e : g ≡ 0). rw (grants g p m o e, grants g p k u e) (pass e))
       (λ (z : g ≡ 0 → ⊥). rw (refuses g p m o z, refuses g p k u z) (no-pass z))
       (eq-or-not g 0))
+
+  -- the same for a call that touches neither queues nor streams
+  pub by-quiet-gate : (g : ℕ) (c : Call) (o u : Outcome) → Own g → Quiet (actionOf c) → (g ≡ 0 → Next all all n link p m k v c o u)
+      → Next all all n link p m k v c (gated (lentRefusal p m) p m (gated g p m o)) (gated (lentRefusal p k) p k (gated g p k u))
+  by-quiet-gate g c o u own q pass =
+      by-gate g c o u (λ z. next-unchanged (refusedBy g) c own (quiet-no-transmit (actionOf c) q) (quiet q refl (λ j. refl) (λ j. refl))) pass

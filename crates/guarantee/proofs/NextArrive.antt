@@ -2,7 +2,7 @@
 use Prim.Native.Nat.{ℕ, _≤_, _<_}
 use mathlib.Core.Bool.{true}
 use mathlib.Core.Path.{_≡_, refl, sym, ap, subst, _∙_}
-use mathlib.Core.Logic.{⊎-elim}
+use mathlib.Core.Logic.{inl, ⊎-elim}
 use mathlib.Core.List.{List, [], _∷_, _++_}
 use native.Mathlib.Omega.{arith}
 use borrow.Author.Tests.{lt-leb, eq-eqb, ne-eqb}
@@ -35,15 +35,17 @@ use Rattle.steps.proofs.RoleLaws.{role-below, role-apart, role-same}
 use Rattle.arriving.specs.Arriving.{arrived, arriveStep}
 use Rattle.gates.specs.Refusals.{arriveRefusal}
 use Rattle.gates.proofs.GateLaws.{arrive-allowed}
-use Rattle.port_laws.specs.Lists.{Call, arriving, ticking, called}
-use Rattle.port_laws.proofs.GateNumbers.{arrive-numbers}
-use Rattle.guarantee.specs.Events.{Marked, reserved, none, broughtBy, marked}
+use Rattle.steps.specs.Call.{Call, arriving, ticking}
+use Rattle.port.specs.Calls.{called}
+use Rattle.port_laws.specs.Counting.{actionOf}
+use Rattle.port_laws.proofs.GateNumbers.{refusal-own}
+use Rattle.guarantee.specs.Events.{Marked, sentReserved, none, broughtBy, marked}
 use Rattle.guarantee.proofs.Run.{View, octets, ownRefusal, queueAfter, Effect, arrives, refuses-arrival}
 use Rattle.guarantee.proofs.Room.{Sound, octets-most, charged-length, stays-sound}
 use Rattle.guarantee.proofs.Tied.{Tied, plain, numbered, tied-joins, tied-length}
 use Rattle.guarantee.proofs.CallLaws.{no-transmit}
 use Rattle.guarantee.proofs.Held.{Holds, inRole, seen-below, seen-as-is, own-refusal, role-kept, changed, changed-here, changed-else, changed-seen}
-use Rattle.guarantee.proofs.Next.{link-kept, Moved, Next, next-refused, by-gate}
+use Rattle.guarantee.proofs.Next.{link-kept, Moved, Next, next-unchanged, by-gate}
 
 -- the step, where the frame joins a queue that has room, and where it is discarded
 module _ (p m : List ℕ) (s a tag : ℕ) where
@@ -153,7 +155,7 @@ module _ (all : List Call) (n link : ℕ) (p m k : List ℕ) (v : View) (best : 
           share-most,
           ap length joined,
           length-append fs (frame ∷ []),
-          tied-length all reserved (inRole p m place) (inRole p k place) fs (h .queues place within-roles),
+          tied-length all sentReserved (inRole p m place) (inRole p k place) fs (h .queues place within-roles),
           length-waiting m (roleAt p place) (queueAt p (roleAt p place)),
         )
 
@@ -185,14 +187,14 @@ module _ (all : List Call) (n link : ℕ) (p m k : List ℕ) (v : View) (best : 
         ∙ joins-elsewhere l number bestEffort (queueAt p number) (queueAt p bestEffort) f apart
 
     joined-queues : (role : ℕ) → role < queueCount
-        → Tied all reserved (inRole after (joinedMemory m number (queueAt p number) (plain frame)) role)
+        → Tied all sentReserved (inRole after (joinedMemory m number (queueAt p number) (plain frame)) role)
         (inRole after (joinedMemory k number (queueAt p number) (numbered frame)) role)
         (queueAfter role frame (Joined place next) (v .queue role))
     joined-queues role b =
         ⊎-elim
         (λ (same : role ≡ place).
         rw (same, here-joins m (plain frame) (h .long), here-joins k (numbered frame) (h .long-marked), after-here frame place next (v .queue place))
-        (tied-joins all reserved (inRole p m place) (inRole p k place) (v .queue place) frame (h .queues place within-roles) (counted, ap (broughtBy n) here)))
+        (tied-joins all sentReserved (inRole p m place) (inRole p k place) (v .queue place) frame (h .queues place within-roles) (counted, ap (λ (c : Call). broughtBy n (actionOf c)) here)))
         (λ (o : role ≡ place → ⊥).
         rw (else-kept m (plain frame) role b o, else-kept k (numbered frame) role b o, after-else frame role place next (v .queue role) o) (h .queues role b))
         (eq-or-not role place)
@@ -227,12 +229,10 @@ module _ (all : List Call) (n link : ℕ) (p m k : List ℕ) (v : View) (best : 
           best = best;
           effect = arrival-effect (Joined place next) e;
           same = refl;
-          long = joins-length m number (queueAt p number) (plain frame);
-          long-marked = joins-length k number (queueAt p number) (numbered frame);
           moved = joined-moved;
-          says = λ z. absurd (no-transmit (arriving s a tag) tt z);
+          says = λ z. absurd (no-transmit (arriving s a tag) refl z);
           marks = λ z. refl;
-          not-lent = omega arith;
+          not-lent = inl (omega arith);
         })
 
   -- discarded: only the stream moves
@@ -253,8 +253,6 @@ module _ (all : List Call) (n link : ℕ) (p m k : List ℕ) (v : View) (best : 
           best = best;
           effect = arrival-effect (Discarded spent) e;
           same = refl;
-          long = refl;
-          long-marked = refl;
           moved =
               record {
                 keeps = link-kept _ _ (keeps-place p s (spent .place) (spent .left));
@@ -266,9 +264,9 @@ module _ (all : List Call) (n link : ℕ) (p m k : List ℕ) (v : View) (best : 
                 above = h .above;
                 waits = rw (queue-place p s (spent .place) (spent .left) bestEffort (omega arith)) (h .waits);
               };
-          says = λ z. absurd (no-transmit (arriving s a tag) tt z);
+          says = λ z. absurd (no-transmit (arriving s a tag) refl z);
           marks = λ z. refl;
-          not-lent = omega arith;
+          not-lent = inl (omega arith);
         })
 
   -- by what the stream's rule says
@@ -286,7 +284,6 @@ module _ (all : List Call) (n link : ℕ) (p m k : List ℕ) (v : View) (best : 
       let own : arriveRefusal p s a ≡ ownRefusal s (v .stream s) a = own-refusal p s a (h .opened) ∙ ap (λ (x : Stream). ownRefusal s x a) (sym (h .streams s)) in
       by-gate all n link p m k v best h (arriveRefusal p s a) (arriving s a tag) (arriveStep p m s a tag) _
       (λ z.
-      next-refused all n link p m k v best h (arriveRefusal p s a) (arriving s a tag) (arrive-numbers p s a)
-      (no-transmit (arriving s a tag) tt)
+      next-unchanged all n link p m k v best h (refusedBy (arriveRefusal p s a)) (arriving s a tag) (refusal-own (arriving s a tag) p) refl
       (refuses-arrival refl (record { refused = λ e. z (own ∙ e); reply = ap refusedBy own; queues = λ j. refl; streams = λ j. refl })))
       (arrive-next all n link p m k v best h sound s a tag counted here)

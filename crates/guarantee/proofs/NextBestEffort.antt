@@ -1,6 +1,7 @@
 -- Best effort on a port that holds a view, granted or refused. Assumes nothing.
 use Prim.Native.Nat.{ℕ, _+_, _≤_, _<_}
 use mathlib.Core.Path.{_≡_, refl, ap, _∙_}
+use mathlib.Core.Logic.{inl}
 use mathlib.Core.List.{List, [], _∷_, _++_}
 use native.Mathlib.Omega.{arith}
 use lib.ListN.{length, getD}
@@ -17,15 +18,17 @@ use Rattle.steps.specs.Roles.{roleAt}
 use Rattle.best_effort.specs.BestEffort.{bestEffortFrame, bestEffortStep}
 use Rattle.gates.specs.Refusals.{bestEffortRefusal}
 use Rattle.gates.proofs.GateLaws.{best-effort-allowed}
-use Rattle.port_laws.specs.Lists.{Call, ticking, joiningBestEffort, called}
-use Rattle.port_laws.proofs.GateNumbers.{best-effort-numbers}
-use Rattle.guarantee.specs.Events.{Marked, bestEffort as sentBestEffort, broughtBy, marked}
+use Rattle.steps.specs.Call.{Call, ticking, joiningBestEffort}
+use Rattle.port.specs.Calls.{called}
+use Rattle.port_laws.specs.Counting.{actionOf}
+use Rattle.port_laws.proofs.GateNumbers.{refusal-own}
+use Rattle.guarantee.specs.Events.{Marked, sentBestEffort, broughtBy, marked}
 use Rattle.guarantee.proofs.Run.{View, quiet}
 use Rattle.guarantee.proofs.Tied.{tied-joins}
 use Rattle.guarantee.proofs.CallLaws.{no-transmit}
 use Rattle.guarantee.proofs.BestEffortWritten.{written, written-keeps, written-here, written-stream, role-not-best-effort, written-role}
 use Rattle.guarantee.proofs.Held.{Holds, inRole, same-seen}
-use Rattle.guarantee.proofs.Next.{link-kept, Next, next-refused, by-gate}
+use Rattle.guarantee.proofs.Next.{link-kept, Next, by-quiet-gate}
 
 -- the queue of best effort and W after the step
 abbrev queueJoined : List ℕ → Queue
@@ -64,8 +67,6 @@ module _ (all : List Call) (n link : ℕ) (p m k : List ℕ) (v : View) (best : 
         best = best ++ (f ∷ []);
         effect = quiet tt refl (λ j. refl) (λ j. refl);
         same = refl;
-        long = joins-length m bestEffort x (bestEffortFrame a tag);
-        long-marked = joins-length k bestEffort x (bestEffortFrame a n);
         moved =
             record {
               keeps = link-kept _ _ (written-keeps p (queueJoined p) (waitsAt p + a));
@@ -74,19 +75,15 @@ module _ (all : List Call) (n link : ℕ) (p m k : List ℕ) (v : View) (best : 
               above = h .above;
               waits =
                   rw (best-effort-joins p a m (bestEffortFrame a tag) whole (h .long) (d .free), best-effort-joins p a k (bestEffortFrame a n) whole (h .long-marked) (d .free))
-                  (tied-joins all sentBestEffort (waiting m bestEffort x) (waiting k bestEffort x) best f (h .waits) (counted, ap (broughtBy n) here));
+                  (tied-joins all sentBestEffort (waiting m bestEffort x) (waiting k bestEffort x) best f (h .waits) (counted, ap (λ (c : Call). broughtBy n (actionOf c)) here));
             };
-        says = λ z. absurd (no-transmit (joiningBestEffort a tag) tt z);
+        says = λ z. absurd (no-transmit (joiningBestEffort a tag) refl z);
         marks = λ z. refl;
-        not-lent = omega arith;
+        not-lent = inl (omega arith);
       }
 
   pub next-best-effort : (a tag : ℕ) → n < length all → getD all n ticking ≡ joiningBestEffort a tag
       → Next all all n link p m k v (joiningBestEffort a tag) (called (joiningBestEffort a tag) p m) (called (marked n (joiningBestEffort a tag)) p k)
   next-best-effort a tag counted here =
-      by-gate all n link p m k v best h (bestEffortRefusal p a) (joiningBestEffort a tag) (bestEffortStep p m a tag) _
-      (λ z.
-      next-refused all n link p m k v best h (bestEffortRefusal p a) (joiningBestEffort a tag) (best-effort-numbers p a)
-      (no-transmit (joiningBestEffort a tag) tt)
-      (quiet tt refl (λ j. refl) (λ j. refl)))
+      by-quiet-gate all n link p m k v best h (bestEffortRefusal p a) (joiningBestEffort a tag) (bestEffortStep p m a tag) _ (refusal-own (joiningBestEffort a tag) p) tt
       (best-effort-next a tag counted here)

@@ -1,6 +1,7 @@
 -- Bind on a port that holds a view, granted or refused: it touches neither queues nor streams. Assumes nothing.
 use Prim.Native.Nat.{ℕ}
 use mathlib.Core.Path.{_≡_, refl}
+use mathlib.Core.Logic.{inl}
 use mathlib.Core.List.{List}
 use native.Mathlib.Omega.{arith}
 use Rattle.record.specs.Layout.{bestEffort}
@@ -10,13 +11,15 @@ use Rattle.steps.specs.Roles.{roleAt}
 use Rattle.steps.proofs.RoleLaws.{role-below}
 use Rattle.binding.specs.Binding.{bindStep}
 use Rattle.gates.specs.FrameRefusals.{bindRefusal}
-use Rattle.port_laws.specs.Lists.{Call, binding, called}
-use Rattle.port_laws.proofs.GateNumbers.{bind-numbers}
+use Rattle.steps.specs.Call.{Call, binding}
+use Rattle.port.specs.Calls.{called}
+use Rattle.port_laws.specs.Counting.{actionOf}
+use Rattle.port_laws.proofs.GateNumbers.{refusal-own}
 use Rattle.guarantee.specs.Events.{Marked, marked}
 use Rattle.guarantee.proofs.Run.{View, quiet}
 use Rattle.guarantee.proofs.CallLaws.{no-transmit}
 use Rattle.guarantee.proofs.Held.{Holds, role-kept, same-seen}
-use Rattle.guarantee.proofs.Next.{Next, next-refused, by-gate}
+use Rattle.guarantee.proofs.Next.{Next, by-quiet-gate}
 
 module _ (all : List Call) (n link : ℕ) (p m k : List ℕ) (v : View) (best : List Marked) (h : Holds all link p m k v best) where
   bind-next : (s : ℕ) (address : List ℕ) (vid : ℕ)
@@ -28,8 +31,6 @@ module _ (all : List Call) (n link : ℕ) (p m k : List ℕ) (v : View) (best : 
         best = best;
         effect = quiet tt refl (λ j. refl) (λ j. refl);
         same = refl;
-        long = refl;
-        long-marked = refl;
         moved =
             record {
               keeps = (open-binding p s address vid, link-binding p s address vid);
@@ -40,17 +41,13 @@ module _ (all : List Call) (n link : ℕ) (p m k : List ℕ) (v : View) (best : 
               above = h .above;
               waits = rw (queue-binding p s address vid bestEffort (omega arith)) (h .waits);
             };
-        says = λ z. absurd (no-transmit (binding s address vid) tt z);
+        says = λ z. absurd (no-transmit (binding s address vid) refl z);
         marks = λ z. refl;
-        not-lent = omega arith;
+        not-lent = inl (omega arith);
       }
 
   pub next-bind : (s : ℕ) (address : List ℕ) (vid : ℕ)
       → Next all all n link p m k v (binding s address vid) (called (binding s address vid) p m) (called (marked n (binding s address vid)) p k)
   next-bind s address vid =
-      by-gate all n link p m k v best h (bindRefusal p s address vid) (binding s address vid) (bindStep p m s address vid) (bindStep p k s address vid)
-      (λ z.
-      next-refused all n link p m k v best h (bindRefusal p s address vid) (binding s address vid) (bind-numbers p s address vid)
-      (no-transmit (binding s address vid) tt)
-      (quiet tt refl (λ j. refl) (λ j. refl)))
-      (λ z. bind-next s address vid)
+      by-quiet-gate all n link p m k v best h (bindRefusal p s address vid) (binding s address vid) (bindStep p m s address vid) (bindStep p k s address vid)
+      (refusal-own (binding s address vid) p) tt (λ z. bind-next s address vid)

@@ -1,9 +1,11 @@
 -- Reserve on a port that holds a view, granted or refused; and Open, which an open port refuses. Assumes nothing.
 use Prim.Native.Nat.{ℕ}
 use mathlib.Core.Path.{_≡_, refl, ap, _∙_}
+use mathlib.Core.Logic.{inl}
 use mathlib.Core.List.{List}
 use native.Mathlib.Omega.{arith}
 use Rattle.stream.specs.State.{reserveOf}
+use Rattle.stream.specs.Replies.{refusedBy}
 use Rattle.record.specs.Layout.{bestEffort}
 use Rattle.record.specs.Entry.{streamAt, withStream}
 use Rattle.record.proofs.EntryPairs.{stream-stream, other-stream, prior-stream, queue-stream}
@@ -15,13 +17,15 @@ use Rattle.steps.proofs.RoleLaws.{role-below}
 use Rattle.opening.specs.Opening.{openStep, reserveStep}
 use Rattle.gates.specs.Refusals.{openRefusal, reserveRefusal}
 use Rattle.gates.proofs.GateLaws.{reserve-allowed}
-use Rattle.port_laws.specs.Lists.{Call, opening, reserving, called}
-use Rattle.port_laws.proofs.GateNumbers.{reserve-numbers, open-taken}
+use Rattle.steps.specs.Call.{Terms, Call, opening, reserving}
+use Rattle.port.specs.Calls.{called}
+use Rattle.port_laws.specs.Counting.{actionOf}
+use Rattle.port_laws.proofs.GateNumbers.{refusal-own, open-taken}
 use Rattle.guarantee.specs.Events.{Marked, marked}
-use Rattle.guarantee.proofs.Run.{View, free, quiet, refuses-reservation, reserves}
+use Rattle.guarantee.proofs.Run.{View, free, refuses-reservation, reserves}
 use Rattle.guarantee.proofs.CallLaws.{no-transmit}
 use Rattle.guarantee.proofs.Held.{Holds, seen-below, seen-free, seen-sum, role-kept, changed, changed-here, changed-else, changed-seen}
-use Rattle.guarantee.proofs.Next.{link-kept, Next, next-refused, by-gate}
+use Rattle.guarantee.proofs.Next.{link-kept, Next, next-unchanged, by-gate, by-quiet-gate}
 
 module _ (all : List Call) (n link : ℕ) (p m k : List ℕ) (v : View) (best : List Marked) (h : Holds all link p m k v best) where
   -- Reserve, granted
@@ -46,8 +50,6 @@ module _ (all : List Call) (n link : ℕ) (p m k : List ℕ) (v : View) (best : 
               streams = (changed-here v s (reserveOf permitted), changed-else v s (reserveOf permitted));
             });
         same = refl;
-        long = refl;
-        long-marked = refl;
         moved =
             record {
               keeps = link-kept _ _ (keeps-stream p s (reserveOf permitted));
@@ -61,27 +63,21 @@ module _ (all : List Call) (n link : ℕ) (p m k : List ℕ) (v : View) (best : 
               above = h .above;
               waits = rw (queue-stream p s (reserveOf permitted) bestEffort (omega arith)) (h .waits);
             };
-        says = λ z. absurd (no-transmit (reserving s permitted) tt z);
+        says = λ z. absurd (no-transmit (reserving s permitted) refl z);
         marks = λ z. refl;
-        not-lent = omega arith;
+        not-lent = inl (omega arith);
       }
 
   pub next-reserve : (s permitted : ℕ) → Next all all n link p m k v (reserving s permitted) (called (reserving s permitted) p m) (called (marked n (reserving s permitted)) p k)
   next-reserve s permitted =
       by-gate all n link p m k v best h (reserveRefusal p s permitted) (reserving s permitted) (reserveStep p m s permitted) (reserveStep p k s permitted)
       (λ z.
-      next-refused all n link p m k v best h (reserveRefusal p s permitted) (reserving s permitted) (reserve-numbers p s permitted)
-      (no-transmit (reserving s permitted) tt)
+      next-unchanged all n link p m k v best h (refusedBy (reserveRefusal p s permitted)) (reserving s permitted) (refusal-own (reserving s permitted) p) refl
       (refuses-reservation z refl (λ j. refl) (λ j. refl)))
       (reserve-next s permitted)
 
   -- Open, refused
-  pub next-open : (l d : ℕ) → Next all all n link p m k v (opening l d) (called (opening l d) p m) (called (marked n (opening l d)) p k)
-  next-open l d =
-      let two = open-taken p l d (h .opened) in
-      by-gate all n link p m k v best h (openRefusal p l d) (opening l d) (openStep p m l d) (openStep p k l d)
-      (λ z.
-      next-refused all n link p m k v best h (openRefusal p l d) (opening l d) (omega (arith, two))
-      (no-transmit (opening l d) tt)
-      (quiet tt refl (λ j. refl) (λ j. refl)))
-      (λ z. absurd (omega (arith, two)))
+  pub next-open : (t : Terms) → Next all all n link p m k v (opening t) (called (opening t) p m) (called (marked n (opening t)) p k)
+  next-open t =
+      by-quiet-gate all n link p m k v best h (openRefusal p t) (opening t) (openStep p m t) (openStep p k t) (refusal-own (opening t) p) tt
+      (λ z. absurd (omega (arith, open-taken p t (h .opened))))

@@ -2,7 +2,7 @@
 use Prim.Native.Nat.{ℕ, zero, suc, _≤_, _<_}
 use mathlib.Core.Bool.{Bool, true, false, cond}
 use mathlib.Core.Path.{_≡_, refl, sym, ap, ap₂, _∙_}
-use mathlib.Core.Logic.{⊎-elim}
+use mathlib.Core.Logic.{inl, ⊎-elim}
 use mathlib.Core.List.{List, []}
 use native.Mathlib.Nat.{eq-or-lt-of-le}
 use native.Mathlib.Omega.{arith}
@@ -29,9 +29,11 @@ use Rattle.steps.specs.Moves.{moved}
 use Rattle.steps.proofs.RoleLaws.{role-below, role-nearer, role-wraps, role-apart}
 use Rattle.ticking.specs.Ticking.{tickedAt, tickedRecord, tickStep}
 use Rattle.gates.specs.Refusals.{closedRefusal}
-use Rattle.port_laws.specs.Lists.{Call, ticking, called}
+use Rattle.steps.specs.Call.{Call, ticking}
+use Rattle.port.specs.Calls.{called}
+use Rattle.port_laws.specs.Counting.{actionOf}
 use Rattle.port_laws.proofs.GateNumbers.{closed-passes}
-use Rattle.guarantee.specs.Events.{Marked, reserved, marked}
+use Rattle.guarantee.specs.Events.{Marked, sentReserved, marked}
 use Rattle.guarantee.proofs.Run.{View, free, octets, ticks}
 use Rattle.guarantee.proofs.Tied.{Tied, tied-empty, tied-length, tied-octets, tied-octets-shown}
 use Rattle.guarantee.proofs.CallLaws.{no-transmit}
@@ -183,11 +185,11 @@ module _ (all : List Call) (n link : ℕ) (p m k : List ℕ) (v : View) (best : 
   whole : Whole p
   whole = fit-record p m (h .fit) .long
 
-  tick-queues : (role : ℕ) → role < queueCount → Tied all reserved (inRole (tickedRecord p) m role) (inRole (tickedRecord p) k role) (v .queue (suc role))
+  tick-queues : (role : ℕ) → role < queueCount → Tied all sentReserved (inRole (tickedRecord p) m role) (inRole (tickedRecord p) k role) (v .queue (suc role))
   tick-queues role b =
       ⊎-elim
       (λ (e : suc role ≡ queueCount).
-      rw (ticked-last p whole m role e, ticked-last p whole k role e, h .above (suc role) (omega arith)) (tied-empty all reserved))
+      rw (ticked-last p whole m role e, ticked-last p whole k role e, h .above (suc role) (omega arith)) (tied-empty all sentReserved))
       (λ (c : suc role < queueCount). rw (ticked-frames p whole m role c, ticked-frames p whole k role c) (h .queues (suc role) c))
       (eq-or-lt-of-le b)
 
@@ -210,8 +212,8 @@ module _ (all : List Call) (n link : ℕ) (p m k : List ℕ) (v : View) (best : 
       let prior = h .queues priorRole (omega arith) in
       let x = queueAt p (roleAt p priorRole) in
       ap₂ granted
-      (sym (length-waiting m (roleAt p priorRole) x) ∙ tied-length all reserved (inRole p m priorRole) (inRole p k priorRole) (v .queue 0) prior)
-      (tied-octets all reserved (inRole p m priorRole) (inRole p k priorRole) (v .queue 0) prior)
+      (sym (length-waiting m (roleAt p priorRole) x) ∙ tied-length all sentReserved (inRole p m priorRole) (inRole p k priorRole) (v .queue 0) prior)
+      (tied-octets all sentReserved (inRole p m priorRole) (inRole p k priorRole) (v .queue 0) prior)
 
   -- as many octets in the memory of the marked calls
   tick-marks : tickStep p k .reply ≡ tickStep p m .reply
@@ -219,8 +221,8 @@ module _ (all : List Call) (n link : ℕ) (p m k : List ℕ) (v : View) (best : 
   tick-marks =
       let prior = h .queues priorRole (omega arith) in
       ap (granted (queueAt p (roleAt p priorRole) .count))
-      (tied-octets-shown all reserved (inRole p m priorRole) (inRole p k priorRole) (v .queue 0) prior
-      ∙ sym (tied-octets all reserved (inRole p m priorRole) (inRole p k priorRole) (v .queue 0) prior))
+      (tied-octets-shown all sentReserved (inRole p m priorRole) (inRole p k priorRole) (v .queue 0) prior
+      ∙ sym (tied-octets all sentReserved (inRole p m priorRole) (inRole p k priorRole) (v .queue 0) prior))
 
   tick-next : Next all all n link p m k v ticking (tickStep p m) (tickStep p k)
   unfolding tickStep
@@ -230,8 +232,6 @@ module _ (all : List Call) (n link : ℕ) (p m k : List ℕ) (v : View) (best : 
         best = best;
         effect = ticks refl (record { reply = tick-reply; queues = λ j. refl; streams = λ s. refl });
         same = refl;
-        long = refl;
-        long-marked = refl;
         moved =
             record {
               keeps = link-kept _ _ (ticked-keeps p whole);
@@ -240,9 +240,9 @@ module _ (all : List Call) (n link : ℕ) (p m k : List ℕ) (v : View) (best : 
               above = λ role b. h .above (suc role) (omega arith);
               waits = rw tick-waits (h .waits);
             };
-        says = λ z. absurd (no-transmit ticking tt z);
+        says = λ z. absurd (no-transmit ticking refl z);
         marks = λ z. tick-marks;
-        not-lent = omega arith;
+        not-lent = inl (omega arith);
       }
 
   pub next-tick : Next all all n link p m k v ticking (called ticking p m) (called (marked n ticking) p k)

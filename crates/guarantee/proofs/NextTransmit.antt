@@ -2,7 +2,7 @@
 use Prim.Native.Nat.{ℕ, _-_, _<_}
 use mathlib.Core.Bool.{cond}
 use mathlib.Core.Path.{_≡_, refl, sym, ap, subst, _∙_}
-use mathlib.Core.Logic.{⊎-elim}
+use mathlib.Core.Logic.{inl, ⊎-elim}
 use mathlib.Core.List.{List, []}
 use native.Mathlib.Omega.{arith}
 use borrow.Author.Tests.{eq-eqb, ne-eqb}
@@ -26,9 +26,11 @@ use Rattle.steps.proofs.RoleLaws.{role-below, role-apart, role-same}
 use Rattle.sending.specs.Sending.{sent, sentBestEffort, nothing, transmitStep}
 use Rattle.sending.proofs.SendLaws.{sends-prior, sends-current, sends-best-effort, sends-nothing}
 use Rattle.gates.specs.Refusals.{closedRefusal}
-use Rattle.port_laws.specs.Lists.{Call, ticking, transmitting, called}
+use Rattle.steps.specs.Call.{Call, ticking, transmitting}
+use Rattle.port.specs.Calls.{called}
+use Rattle.port_laws.specs.Counting.{actionOf}
 use Rattle.port_laws.proofs.GateNumbers.{closed-passes}
-use Rattle.guarantee.specs.Events.{Marked, Sent, reserved, bestEffort as bestEffortFrame, none, broughtBy, marked}
+use Rattle.guarantee.specs.Events.{Marked, Sent, sentReserved, sentBestEffort as bestEffortFrame, none, broughtBy, marked}
 use Rattle.guarantee.specs.Claims.{replyOfSent}
 use Rattle.lists.proofs.EachLaws.{none-long}
 use Rattle.guarantee.proofs.Run.{View, sends as sends-frame, idles}
@@ -46,7 +48,7 @@ module _ (all : List Call) (n link : ℕ) (p m k : List ℕ) (v : View) (best : 
   role-empty : (role : ℕ) → role < queueCount → queueAt p (roleAt p role) .count ≡ 0 → v .queue role ≡ []
   role-empty role b zero-count =
       none-long (v .queue role)
-      (sym (tied-length all reserved (inRole p m role) (inRole p k role) (v .queue role) (h .queues role b))
+      (sym (tied-length all sentReserved (inRole p m role) (inRole p k role) (v .queue role) (h .queues role b))
       ∙ length-waiting m (roleAt p role) (queueAt p (roleAt p role))
       ∙ zero-count)
 
@@ -60,8 +62,8 @@ module _ (all : List Call) (n link : ℕ) (p m k : List ℕ) (v : View) (best : 
   -- the marked call names the frame's call
   names : (kind : Marked → Sent) (number : ℕ) (x : Queue) (fs : List Marked)
       (o : Oldest all kind (frontOf m number x) (frontOf k number x) (waiting m number (sentQueue x)) (waiting k number (sentQueue x)) fs)
-      → broughtBy (frontOf k number x .tag) (getD all (frontOf k number x .tag) ticking) ≡ kind (o .first)
-  names kind number x fs o = ap (λ (g : Frame). broughtBy (g .tag) (getD all (g .tag) ticking)) (o .shown) ∙ o .known .1
+      → broughtBy (frontOf k number x .tag) (actionOf (getD all (frontOf k number x .tag) ticking)) ≡ kind (o .first)
+  names kind number x fs o = ap (λ (g : Frame). broughtBy (g .tag) (actionOf (getD all (g .tag) ticking))) (o .shown) ∙ o .known .1
 
   -- a reserved frame is sent from a role
   module _ (role : ℕ) (b : role < queueCount) (some : queueAt p (roleAt p role) .count ≡ 0 → ⊥) (earlier : (j : ℕ) → j < role → v .queue j ≡ []) where
@@ -74,8 +76,8 @@ module _ (all : List Call) (n link : ℕ) (p m k : List ℕ) (v : View) (best : 
     abbrev after : List ℕ
     after = withQueue p number (sentQueue there)
 
-    front : Oldest all reserved (frontOf m number there) (frontOf k number there) (waiting m number (sentQueue there)) (waiting k number (sentQueue there)) (v .queue role)
-    front = first-of reserved number there (v .queue role) (h .queues role b) some
+    front : Oldest all sentReserved (frontOf m number there) (frontOf k number there) (waiting m number (sentQueue there)) (waiting k number (sentQueue there)) (v .queue role)
+    front = first-of sentReserved number there (v .queue role) (h .queues role b) some
 
     abbrev sentView : View
     sentView = record { queue = λ j. cond (eqb j role) (front .others) (v .queue j); stream = v .stream }
@@ -96,7 +98,7 @@ module _ (all : List Call) (n link : ℕ) (p m k : List ℕ) (v : View) (best : 
     after-else l j c o =
         role-kept p after l j (prior-queue p number (sentQueue there)) (other-queue p number (sentQueue there) (roleAt p j) (role-apart p j role c b o))
 
-    sent-queues : (j : ℕ) → j < queueCount → Tied all reserved (inRole after m j) (inRole after k j) (sentView .queue j)
+    sent-queues : (j : ℕ) → j < queueCount → Tied all sentReserved (inRole after m j) (inRole after k j) (sentView .queue j)
     sent-queues j c =
         ⊎-elim
         (λ (e : j ≡ role). rw (e, after-here m, after-here k, sent-here) (front .rest))
@@ -106,7 +108,7 @@ module _ (all : List Call) (n link : ℕ) (p m k : List ℕ) (v : View) (best : 
     sent-next : Next all all n link p m k v transmitting (sent p m number there) (sent p k number there)
     sent-next =
         let f = front .first in
-        let sends-it = names reserved number there (v .queue role) front in
+        let sends-it = names sentReserved number there (v .queue role) front in
         let reply : granted (frontOf m number there .stream) (frontOf m number there .tag) ≡ granted (f .stream) (f .tag) =
         ap (λ (g : Frame). granted (g .stream) (g .tag)) (front .real) in
         record {
@@ -123,8 +125,6 @@ module _ (all : List Call) (n link : ℕ) (p m k : List ℕ) (v : View) (best : 
                 streams = λ s. refl;
               });
           same = refl;
-          long = refl;
-          long-marked = refl;
           moved =
               record {
                 keeps = link-kept _ _ (keeps-queue p number (sentQueue there) number-below);
@@ -138,7 +138,7 @@ module _ (all : List Call) (n link : ℕ) (p m k : List ℕ) (v : View) (best : 
             ap (λ (g : Frame). granted (g .stream) (g .tag)) (front .shown) ∙ sym (ap (replyOfSent (λ g. g .number)) sends-it),
           );
           marks = λ z. absurd (z refl);
-          not-lent = omega arith;
+          not-lent = inl (omega arith);
         }
 
   -- a frame of best effort is sent
@@ -164,8 +164,6 @@ module _ (all : List Call) (n link : ℕ) (p m k : List ℕ) (v : View) (best : 
           best = oldest-there .others;
           effect = idles prior-empty (λ g e. not-reserved f g (sym sends-it ∙ e)) (λ j. refl) (λ s. refl);
           same = ap (λ (charge : ℕ). written p (sentQueue waitingThere) (waitsAt p - charge)) same-charge;
-          long = refl;
-          long-marked = refl;
           moved =
               record {
                 keeps = link-kept _ _ (written-keeps p (sentQueue waitingThere) octets);
@@ -179,10 +177,10 @@ module _ (all : List Call) (n link : ℕ) (p m k : List ℕ) (v : View) (best : 
             ap (λ (g : Frame). granted (g .stream) (g .tag)) (oldest-there .shown) ∙ sym (ap (replyOfSent (λ g. g .number)) sends-it),
           );
           marks = λ z. absurd (z refl);
-          not-lent = omega arith;
+          not-lent = inl (omega arith);
         }
 
-  module _ (first : broughtBy 0 (getD all 0 ticking) ≡ none) where
+  module _ (first : broughtBy 0 (actionOf (getD all 0 ticking)) ≡ none) where
     -- nothing is sent
     nothing-next : v .queue 0 ≡ [] → Next all all n link p m k v transmitting (outcome (granted nothing 0) p m) (outcome (granted nothing 0) p k)
     nothing-next prior-empty =
@@ -191,12 +189,10 @@ module _ (all : List Call) (n link : ℕ) (p m k : List ℕ) (v : View) (best : 
           best = best;
           effect = idles prior-empty (λ g e. none-reserved g (sym first ∙ e)) (λ j. refl) (λ s. refl);
           same = refl;
-          long = refl;
-          long-marked = refl;
           moved = unmoved all n link p m k v best h;
           says = λ z. (sym (ap (replyOfSent (λ g. g .tag)) first), sym (ap (replyOfSent (λ g. g .number)) first));
           marks = λ z. absurd (z refl);
-          not-lent = omega arith;
+          not-lent = inl (omega arith);
         }
 
     -- by which queue has a frame

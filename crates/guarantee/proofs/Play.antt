@@ -2,6 +2,7 @@
 use Prim.Native.Nat.{ℕ, suc, _<_}
 use mathlib.Core.Bool.{Bool, true, false, cond}
 use mathlib.Core.Path.{_≡_, refl, sym, ap, ap₂, subst, _∙_}
+use mathlib.Core.Logic.{inl, inr}
 use mathlib.Core.List.{List, [], _∷_, _++_}
 use native.Mathlib.Omega.{arith}
 use lib.ListN.{length, getD, length-append}
@@ -15,14 +16,20 @@ use Rattle.steps.specs.Outcome.{Outcome}
 use Rattle.binding.specs.declared.Lookup.{Lookup}
 use Rattle.binding.specs.declared.Lookup.the-variants.{Bound, Unbound}
 use Rattle.binding.specs.Finding.{frameLookup}
-use Rattle.port_laws.specs.Lists.{Call, opening, reserving, arriving, ticking, transmitting, joiningBestEffort, binding, framing, called, quicklyCalled, becoming}
+use Rattle.steps.specs.Call.{Terms, Call, opening, reserving, arriving, ticking, transmitting, joiningBestEffort, binding, framing}
+use Rattle.gates.specs.Becoming.{becoming}
+use Rattle.port.specs.Calls.{called}
+use Rattle.port.specs.Quick.{quicklyCalled}
+use Rattle.port_laws.specs.Counting.{actionOf, countsAs}
+use Rattle.port_laws.proofs.GateNumbers.{Own}
+use Rattle.port_laws.proofs.SameLength.{memory-length}
 use Rattle.port_laws.proofs.FrameLaws.{frame-becomes}
 use Rattle.port_laws.proofs.QuickLaws.{quick-call}
 use Rattle.port_laws.proofs.StayLaws.{stays-fit}
-use Rattle.guarantee.specs.Events.{Marked, Sent, reserved, bestEffort as sentBestEffort, none, countsAs, broughtBy, marked, sentBy, Event, happened}
-use Rattle.guarantee.specs.Claims.{SaysWhatItSends, AlikeMarked, NotByHost}
+use Rattle.guarantee.specs.Events.{Marked, Sent, sentReserved, sentBestEffort, none, broughtBy, isTransmit, marked, Made, made, sentBy, Event, eventsAfter}
+use Rattle.guarantee.specs.Claims.{SameRecord, SaysWhatItSends, AlikeMarked, NotByHost}
 use Rattle.guarantee.proofs.Run.{View, Effect, Run}
-use Rattle.guarantee.proofs.CallLaws.{NoTransmit, no-transmit, sends-none}
+use Rattle.guarantee.proofs.CallLaws.{no-transmit, sends-none}
 use Rattle.guarantee.proofs.Room.{Sound, stays-sound}
 use Rattle.guarantee.proofs.Tied.{tied-later}
 use Rattle.guarantee.proofs.Held.{Holds, inRole}
@@ -50,7 +57,7 @@ module _ (earlier : List Call) (c : Call) where
         opened = h .opened;
         octets = h .octets;
         streams = h .streams;
-        queues = λ role b. tied-later earlier reserved c (inRole p m role) (inRole p k role) (v .queue role) (h .queues role b);
+        queues = λ role b. tied-later earlier sentReserved c (inRole p m role) (inRole p k role) (v .queue role) (h .queues role b);
         above = h .above;
         waits = tied-later earlier sentBestEffort c _ _ best (h .waits);
       }
@@ -60,7 +67,7 @@ module _ (earlier : List Call) (c : Call) where
       record {
         keeps = h .keeps;
         streams = h .streams;
-        queues = λ role b. tied-later earlier reserved c (inRole q m role) (inRole q k role) (w .queue role) (h .queues role b);
+        queues = λ role b. tied-later earlier sentReserved c (inRole q m role) (inRole q k role) (w .queue role) (h .queues role b);
         above = h .above;
         waits = tied-later earlier sentBestEffort c _ _ best (h .waits);
       }
@@ -78,18 +85,16 @@ module _ (earlier : List Call) (link : ℕ) (p m k : List ℕ) (v : View) where
   After c = AfterAs (countsAs p c) (called c p m) (called (marked (length earlier) c) p k)
 
   -- a call that sends nothing sends nothing by whichever calls
-  no-sender : (c : Call) (all : List Call) (o u : Outcome) → NoTransmit c → Next all all (length earlier) link p m k v c o u → Next earlier all (length earlier) link p m k v c o u
+  no-sender : (c : Call) (all : List Call) (o u : Outcome) → isTransmit (actionOf c) ≡ false → Next all all (length earlier) link p m k v c o u → Next earlier all (length earlier) link p m k v c o u
   no-sender c all o u h x =
       record {
         view = x .view;
         best = x .best;
         effect =
-            subst (λ (t : Sent). Effect lastPlace (shareOf link) (length earlier) v (x .view) (o .reply) t c)
+            subst (λ (t : Sent). Effect lastPlace (shareOf link) (length earlier) v (x .view) (o .reply) t (actionOf c))
             (sends-none all c (u .reply) h ∙ sym (sends-none earlier c (u .reply) h))
             (x .effect);
         same = x .same;
-        long = x .long;
-        long-marked = x .long-marked;
         moved = x .moved;
         says = λ e. absurd (no-transmit c h e);
         marks = x .marks;
@@ -104,8 +109,6 @@ module _ (earlier : List Call) (link : ℕ) (p m k : List ℕ) (v : View) where
         best = x .best;
         effect = x .effect;
         same = x .same;
-        long = x .long;
-        long-marked = x .long-marked;
         moved = moved-later earlier c p (o .port) (o .memory) (u .memory) (x .view) (x .best) (x .moved);
         says = x .says;
         marks = x .marks;
@@ -113,7 +116,7 @@ module _ (earlier : List Call) (link : ℕ) (p m k : List ℕ) (v : View) where
       }
 
   -- any call
-  module _ (best : List Marked) (h : Holds earlier link p m k v best) (sound : Sound lastPlace (shareOf link) v) (first : broughtBy 0 (getD earlier 0 ticking) ≡ none) where
+  module _ (best : List Marked) (h : Holds earlier link p m k v best) (sound : Sound lastPlace (shareOf link) v) (first : broughtBy 0 (actionOf (getD earlier 0 ticking)) ≡ none) where
     abbrev held : (c : Call) → Holds (withCall earlier c) link p m k v best
     held c = holds-later earlier c link p m k v best h
 
@@ -121,13 +124,13 @@ module _ (earlier : List Call) (link : ℕ) (p m k : List ℕ) (v : View) where
     next-arriving : (s charge tag : ℕ) → After (arriving s charge tag)
     next-arriving s charge tag =
         let c = arriving s charge tag in
-        no-sender c _ _ _ tt
+        no-sender c _ _ _ refl
         (next-arrive (withCall earlier c) (length earlier) link p m k v best (held c) sound s charge tag (counted earlier c) (getD-last earlier c ticking))
 
     next-joining : (charge tag : ℕ) → After (joiningBestEffort charge tag)
     next-joining charge tag =
         let c = joiningBestEffort charge tag in
-        no-sender c _ _ _ tt
+        no-sender c _ _ _ refl
         (next-best-effort (withCall earlier c) (length earlier) link p m k v best (held c) charge tag (counted earlier c) (getD-last earlier c ticking))
 
     -- a Frame, as what it becomes
@@ -147,21 +150,21 @@ module _ (earlier : List Call) (link : ℕ) (p m k : List ℕ) (v : View) where
             (subst (AfterAs d (called d p m)) (sym (frame-becomes p k octets (length earlier) fits)) (next-becoming octets tag (frameLookup p octets)))
         told false short =
             let c = framing octets tag in
-            no-sender c _ _ _ tt (next-refused-frame (withCall earlier c) (length earlier) link p m k v best (held c) octets tag short)
+            no-sender c _ _ _ refl (next-refused-frame (withCall earlier c) (length earlier) link p m k v best (held c) octets tag short)
 
     next-call : (c : Call) → After c
-    next-call (opening l d) =
-        no-sender (opening l d) _ _ _ tt (next-open (withCall earlier (opening l d)) (length earlier) link p m k v best (held (opening l d)) l d)
+    next-call (opening t) =
+        no-sender (opening t) _ _ _ refl (next-open (withCall earlier (opening t)) (length earlier) link p m k v best (held (opening t)) t)
     next-call (reserving s permitted) =
-        no-sender (reserving s permitted) _ _ _ tt
+        no-sender (reserving s permitted) _ _ _ refl
         (next-reserve (withCall earlier (reserving s permitted)) (length earlier) link p m k v best (held (reserving s permitted)) s permitted)
     next-call (arriving s charge tag) = next-arriving s charge tag
-    next-call ticking = no-sender ticking _ _ _ tt (next-tick (withCall earlier ticking) (length earlier) link p m k v best (held ticking))
+    next-call ticking = no-sender ticking _ _ _ refl (next-tick (withCall earlier ticking) (length earlier) link p m k v best (held ticking))
     next-call transmitting = sender transmitting _ _ (next-transmit earlier (length earlier) link p m k v best h first)
     next-call (joiningBestEffort charge tag) = next-joining charge tag
     next-call (binding s address vid) =
         let c = binding s address vid in
-        no-sender c _ _ _ tt (next-bind (withCall earlier c) (length earlier) link p m k v best (held c) s address vid)
+        no-sender c _ _ _ refl (next-bind (withCall earlier c) (length earlier) link p m k v best (held c) s address vid)
     next-call (framing octets tag) = next-framing octets tag
 
   -- the port holds the view after a call
@@ -174,8 +177,8 @@ module _ (earlier : List Call) (link : ℕ) (p m k : List ℕ) (v : View) where
         fit-marked =
             subst (λ (l : List ℕ). recordFits l (called (marked (length earlier) c) p k .memory) ≡ true) (next .same)
             (stays-fit (marked (length earlier) c) p k (h .fit-marked));
-        long = omega (arith, next .long, h .long);
-        long-marked = omega (arith, next .long-marked, h .long-marked);
+        long = omega (arith, memory-length c p m, h .long);
+        long-marked = omega (arith, memory-length (marked (length earlier) c) p k, h .long-marked);
         opened = moved .keeps .0 ∙ h .opened;
         octets = moved .keeps .1 ∙ h .octets;
         streams = moved .streams;
@@ -184,62 +187,90 @@ module _ (earlier : List Call) (link : ℕ) (p m k : List ℕ) (v : View) where
         waits = moved .waits;
       }
 
--- what is shown of the events from call number n on
-pub record Plays (link n : ℕ) (v : View) (es : List Event) : Type 0 where
-  pub run : Run lastPlace (shareOf link) n v es
-  pub says : All SaysWhatItSends es
-  pub marks : All AlikeMarked es
-  pub not-by-host : All NotByHost es
+-- what is shown of the calls that were made after `earlier`, and of their events
+pub record Plays (link n : ℕ) (v : View) (earlier : List Call) (xs : List Made) : Type 0 where
+  pub run : Run lastPlace (shareOf link) n v (eventsAfter earlier xs)
+  pub records : All SameRecord xs
+  pub says : All SaysWhatItSends (eventsAfter earlier xs)
+  pub marks : All AlikeMarked (eventsAfter earlier xs)
+  pub not-by-host : All NotByHost (eventsAfter earlier xs)
 
--- a refusal below 18 is none of the host's
-not-lent : (e : Event) → e .reply .refusal < 18 → NotByHost e
-not-lent e h = (λ z. omega arith, (λ z. omega arith, λ z. omega arith))
+-- a call's own refusal is none of the host's
+not-lent : (e : Event) → Own (e .reply .refusal) → NotByHost e
+not-lent e (inl h) = (λ z. omega arith, (λ z. omega arith, λ z. omega arith))
+not-lent e (inr h) = (λ z. omega arith, (λ z. omega arith, λ z. omega arith))
 
 -- the first call brings no frame
 abbrev pub FirstBringsNone : List Call → Type 0
-FirstBringsNone earlier = (0 < length earlier) × (broughtBy 0 (getD earlier 0 ticking) ≡ none)
+FirstBringsNone earlier = (0 < length earlier) × (broughtBy 0 (actionOf (getD earlier 0 ticking)) ≡ none)
 
 first-later : (earlier : List Call) (c : Call) → FirstBringsNone earlier → FirstBringsNone (earlier ++ (c ∷ []))
-first-later earlier c h = (omega (arith, h .0, length-append earlier (c ∷ [])), ap (broughtBy 0) (getD-before earlier c ticking 0 (h .0)) ∙ h .1)
+first-later earlier c h = (omega (arith, h .0, length-append earlier (c ∷ [])), ap (λ (d : Call). broughtBy 0 (actionOf d)) (getD-before earlier c ticking 0 (h .0)) ∙ h .1)
 
--- the event of a call whose outcome is o, and u where it is marked
-abbrev pub event : List Call → Call → Outcome → Outcome → Event
-event earlier c o u = record { call = c; reply = o .reply; shown = u .reply; sent = sentBy earlier c (u .reply) }
+-- a call that was made, with its outcome and that of the marked one, and its event
+abbrev pub one : Call → Outcome → Outcome → Made
+one d o u = record { call = d; real = o; shown = u }
+
+abbrev event : List Call → Made → Event
+event earlier x = record { call = x .call; reply = x .real .reply; shown = x .shown .reply; sent = sentBy earlier (x .call) (x .shown .reply) }
 
 module _ (link : ℕ) where
-  pub plays : (cs earlier : List Call) (p m k : List ℕ) (v : View) (best : List Marked) → Holds earlier link p m k v best → Sound lastPlace (shareOf link) v
-      → FirstBringsNone earlier → Plays link (length earlier) v (happened called earlier cs p m k)
-  plays [] earlier p m k v best h sound first = record { run = tt; says = tt; marks = tt; not-by-host = tt }
-  plays (c ∷ cs) earlier p m k v best h sound first =
+  -- what is to be shown of the calls cs: on record p and memory m, and marked on record q, which is p, and memory k
+  abbrev PlaysOn : List Call → Type 0
+  PlaysOn cs =
+      (earlier : List Call) (p m q k : List ℕ) (v : View) (best : List Marked) → Holds earlier link p m k v best → Sound lastPlace (shareOf link) v
+      → FirstBringsNone earlier → q ≡ p → Plays link (length earlier) v earlier (made called earlier cs p m q k)
+
+  plays-one : (c : Call) (cs : List Call) → PlaysOn cs → (earlier : List Call) (p m k : List ℕ) (v : View) (best : List Marked) → Holds earlier link p m k v best
+      → Sound lastPlace (shareOf link) v → FirstBringsNone earlier → Plays link (length earlier) v earlier (made called earlier (c ∷ cs) p m p k)
+  plays-one c cs rest earlier p m k v best h sound first =
       let next = next-call earlier link p m k v best h sound (first .1) c in
       let d = countsAs p c in
       let o = called c p m in
       let u = called (marked (length earlier) c) p k in
+      let xs = made called (earlier ++ (d ∷ [])) cs (o .port) (o .memory) (u .port) (u .memory) in
       let one-more : length (earlier ++ (d ∷ [])) ≡ suc (length earlier) = omega (arith, length-append earlier (d ∷ [])) in
-      let later =
-      subst (λ (n : ℕ). Plays link n (next .view) (happened called (earlier ++ (d ∷ [])) cs (o .port) (o .memory) (u .memory))) one-more
-      (plays cs (earlier ++ (d ∷ [])) (o .port) (o .memory) (u .memory) (next .view) (next .best) (holds-next earlier link p m k v best c h next)
-      (stays-sound lastPlace (shareOf link) (length earlier) v (next .view) (o .reply) _ d (omega arith) (next .effect) sound)
-      (first-later earlier d first)) in
+      let later : Plays link (suc (length earlier)) (next .view) (earlier ++ (d ∷ [])) xs =
+      subst (λ (n : ℕ). Plays link n (next .view) (earlier ++ (d ∷ [])) xs) one-more
+      (rest (earlier ++ (d ∷ [])) (o .port) (o .memory) (u .port) (u .memory) (next .view) (next .best) (holds-next earlier link p m k v best c h next)
+      (stays-sound lastPlace (shareOf link) (length earlier) v (next .view) (o .reply) _ (actionOf d) (omega arith) (next .effect) sound)
+      (first-later earlier d first) (next .same)) in
       record {
         run = (next .view, next .effect, later .run);
+        records = (next .same, later .records);
         says = (next .says, later .says);
         marks = (next .marks, later .marks);
-        not-by-host = (not-lent (event earlier d o u) (next .not-lent), later .not-by-host);
+        not-by-host = (not-lent (event earlier (one d o u)) (next .not-lent), later .not-by-host);
       }
 
+  pub plays : (cs : List Call) → PlaysOn cs
+  plays [] = λ earlier p m q k v best h sound first same. record { run = tt; records = tt; says = tt; marks = tt; not-by-host = tt }
+  plays (c ∷ cs) = λ earlier p m q k v best h sound first same.
+      subst (λ (q : List ℕ). Plays link (length earlier) v earlier (made called earlier (c ∷ cs) p m q k)) (sym same)
+      (plays-one c cs (plays cs) earlier p m k v best h sound first)
+
   -- the quick calls, which do not scan the record, do the same
-  pub quick-plays : (cs earlier : List Call) (p m k : List ℕ) (v : View) (best : List Marked) → Holds earlier link p m k v best → Sound lastPlace (shareOf link) v
-      → FirstBringsNone earlier → happened quicklyCalled earlier cs p m k ≡ happened called earlier cs p m k
-  quick-plays [] earlier p m k v best h sound first = refl
-  quick-plays (c ∷ cs) earlier p m k v best h sound first =
+  abbrev QuickOn : List Call → Type 0
+  QuickOn cs =
+      (earlier : List Call) (p m q k : List ℕ) (v : View) (best : List Marked) → Holds earlier link p m k v best → Sound lastPlace (shareOf link) v
+      → FirstBringsNone earlier → q ≡ p → made quicklyCalled earlier cs p m q k ≡ made called earlier cs p m q k
+
+  quick-one : (c : Call) (cs : List Call) → QuickOn cs → (earlier : List Call) (p m k : List ℕ) (v : View) (best : List Marked) → Holds earlier link p m k v best
+      → Sound lastPlace (shareOf link) v → FirstBringsNone earlier → made quicklyCalled earlier (c ∷ cs) p m p k ≡ made called earlier (c ∷ cs) p m p k
+  quick-one c cs rest earlier p m k v best h sound first =
       let next = next-call earlier link p m k v best h sound (first .1) c in
       let d = countsAs p c in
       let o = called c p m in
       let u = called (marked (length earlier) c) p k in
-      ap₂ (λ (x y : Outcome). event earlier d x y ∷ happened quicklyCalled (earlier ++ (d ∷ [])) cs (x .port) (x .memory) (y .memory))
+      ap₂ (λ (x y : Outcome). one d x y ∷ made quicklyCalled (earlier ++ (d ∷ [])) cs (x .port) (x .memory) (y .port) (y .memory))
       (quick-call c p m (h .fit)) (quick-call (marked (length earlier) c) p k (h .fit-marked))
-      ∙ ap (λ (es : List Event). event earlier d o u ∷ es)
-      (quick-plays cs (earlier ++ (d ∷ [])) (o .port) (o .memory) (u .memory) (next .view) (next .best) (holds-next earlier link p m k v best c h next)
-      (stays-sound lastPlace (shareOf link) (length earlier) v (next .view) (o .reply) _ d (omega arith) (next .effect) sound)
-      (first-later earlier d first))
+      ∙ ap (λ (xs : List Made). one d o u ∷ xs)
+      (rest (earlier ++ (d ∷ [])) (o .port) (o .memory) (u .port) (u .memory) (next .view) (next .best) (holds-next earlier link p m k v best c h next)
+      (stays-sound lastPlace (shareOf link) (length earlier) v (next .view) (o .reply) _ (actionOf d) (omega arith) (next .effect) sound)
+      (first-later earlier d first) (next .same))
+
+  pub quick-plays : (cs : List Call) → QuickOn cs
+  quick-plays [] = λ earlier p m q k v best h sound first same. refl
+  quick-plays (c ∷ cs) = λ earlier p m q k v best h sound first same.
+      subst (λ (q : List ℕ). made quicklyCalled earlier (c ∷ cs) p m q k ≡ made called earlier (c ∷ cs) p m q k) (sym same)
+      (quick-one c cs (quick-plays cs) earlier p m k v best h sound first)

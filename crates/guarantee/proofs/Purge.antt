@@ -16,13 +16,14 @@ use Rattle.stream.specs.State.{currentPlace, Fit}
 use Rattle.stream.specs.Steps.{arriveOf}
 use Rattle.stream.specs.Replies.{granted}
 use Rattle.stream.proofs.FitLaws.{joins-onward}
-use Rattle.port_laws.specs.Lists.{Call, reserving, arriving, transmitting}
+use Rattle.steps.specs.Call.{Call}
+use Rattle.port_laws.specs.Counting.{Action, actionOf, toArrive, toReserve, toTick, toTransmit, toBestEffort, toFrame, neither}
 use Rattle.ranges.specs.Ranges.{leastCharge}
-use Rattle.guarantee.specs.Events.{Marked, Sent, reserved, none, Event}
+use Rattle.guarantee.specs.Events.{Marked, Sent, sentReserved, none, isTransmit, Event, action}
 use Rattle.guarantee.specs.Claims.{isTick, Tick, NoTick, reservedCharge, reservedOctets, Idle, Linked, LinkCondition, PurgesNothing}
 use Rattle.lists.proofs.TurnLaws.{sumOf-snoc}
 use Rattle.lists.proofs.EachLaws.{differ, some-not-none, all-snoc, some-snoc}
-use Rattle.guarantee.proofs.CallLaws.{quiet-no-tick, no-transmit, quiet-no-transmit}
+use Rattle.guarantee.proofs.CallLaws.{quiet-no-tick, quiet-no-transmit}
 use Rattle.guarantee.proofs.Run.{View, octets, queueAfter, Ticks, Effect, quiet, refuses-reservation, reserves, refuses-arrival, arrives, ticks, sends, idles, Run}
 use Rattle.guarantee.proofs.Room.{Charged, Sound, octets-most, few-octets, stays-sound}
 
@@ -35,28 +36,28 @@ prior-keeps last x a f fs fit = told (arriveOf last x a) refl
     told (Discarded y) e = refl
 
 -- what a call that is no tick leaves in prior
-record Leaves (v w : View) (t : Sent) (c : Call) : Type 0 where
+record Leaves (v w : View) (t : Sent) (c : Action) : Type 0 where
   shrinks : (w .queue 0 ≡ []) ⊎ (reservedCharge t + octets (w .queue 0) ≤ octets (v .queue 0))
   stays-empty : v .queue 0 ≡ [] → w .queue 0 ≡ []
-  idle-empty : c ≡ transmitting → ((f : Marked) → t ≡ reserved f → ⊥) → w .queue 0 ≡ []
+  idle-empty : isTransmit c ≡ true → ((f : Marked) → t ≡ sentReserved f → ⊥) → w .queue 0 ≡ []
 
-kept-leaves : (v w : View) (t : Sent) (c : Call) → w .queue 0 ≡ v .queue 0 → t ≡ none → (c ≡ transmitting → ⊥) → Leaves v w t c
+kept-leaves : (v w : View) (t : Sent) (c : Action) → w .queue 0 ≡ v .queue 0 → t ≡ none → (isTransmit c ≡ false) → Leaves v w t c
 kept-leaves v w t c same nothing other =
     record {
       shrinks = inr (rw (same, nothing) (omega arith));
       stays-empty = λ e. same ∙ e;
-      idle-empty = λ e i. absurd (other e);
+      idle-empty = λ e i. differ (sym e ∙ other);
     }
 
-leaves : (last share n : ℕ) (v w : View) (r : Reply) (t : Sent) (c : Call) → Effect last share n v w r t c → Sound last share v → isTick c ≡ false → Leaves v w t c
-leaves last share n v w r t c (quiet q e queues streams) h no-tick = kept-leaves v w t c (queues 0) e (no-transmit c (quiet-no-transmit c q))
+leaves : (last share n : ℕ) (v w : View) (r : Reply) (t : Sent) (c : Action) → Effect last share n v w r t c → Sound last share v → isTick c ≡ false → Leaves v w t c
+leaves last share n v w r t c (quiet q e queues streams) h no-tick = kept-leaves v w t c (queues 0) e (quiet-no-transmit c q)
 leaves last share n v w r t c (refuses-reservation {s = s} {permitted = p} not-granted e queues streams) h no-tick =
-    kept-leaves v w t (reserving s p) (queues 0) e (no-transmit (reserving s p) tt)
-leaves last share n v w r t c (reserves {s = s} {permitted = p} e d) h no-tick = kept-leaves v w t (reserving s p) (d .queues 0) e (no-transmit (reserving s p) tt)
+    kept-leaves v w t (toReserve s p) (queues 0) e refl
+leaves last share n v w r t c (reserves {s = s} {permitted = p} e d) h no-tick = kept-leaves v w t (toReserve s p) (d .queues 0) e refl
 leaves last share n v w r t c (refuses-arrival {s = s} {charge = a} {tag = tag} e d) h no-tick =
-    kept-leaves v w t (arriving s a tag) (d .queues 0) e (no-transmit (arriving s a tag) tt)
+    kept-leaves v w t (toArrive s a tag) (d .queues 0) e refl
 leaves last share n v w r t c (arrives {s = s} {charge = a} {tag = tag} e d) h no-tick =
-    kept-leaves v w t (arriving s a tag) (d .queues 0 ∙ prior-keeps last (v .stream s) a _ (v .queue 0) (h .fit s)) e (no-transmit (arriving s a tag) tt)
+    kept-leaves v w t (toArrive s a tag) (d .queues 0 ∙ prior-keeps last (v .stream s) a _ (v .queue 0) (h .fit s)) e refl
 leaves last share n v w r t c (ticks e d) h no-tick = differ no-tick
 leaves last share n v w r t c (sends zero f fs d) h no-tick =
     record {
@@ -72,7 +73,7 @@ leaves last share n v w r t c (idles e i queues streams) h no-tick =
     record { shrinks = inl empty; stays-empty = λ _. empty; idle-empty = λ _ _. empty }
 
 -- a tick purges what is in prior
-pub tick-effect : (last share n : ℕ) (v w : View) (r : Reply) (t : Sent) (c : Call) → Effect last share n v w r t c → isTick c ≡ true → Ticks v w r
+pub tick-effect : (last share n : ℕ) (v w : View) (r : Reply) (t : Sent) (c : Action) → Effect last share n v w r t c → isTick c ≡ true → Ticks v w r
 tick-effect last share n v w r t c (quiet q e queues streams) tick = differ (sym tick ∙ quiet-no-tick c q)
 tick-effect last share n v w r t c (refuses-reservation not-granted e queues streams) tick = differ (sym tick)
 tick-effect last share n v w r t c (reserves e d) tick = differ (sym tick)
@@ -92,13 +93,13 @@ link-drop share xs ys link before between after t u e =
 abbrev Drains : ℕ → List Marked → List Event → Type 0
 Drains share prior between = (Some Idle between → prior ≡ []) × ((prior ≡ []) ⊎ (reservedOctets between + octets prior ≤ share))
 
-module _ (share : ℕ) (v w : View) (between : List Event) (e : Event) (d : Drains share (v .queue 0) between) (l : Leaves v w (e .sent) (e .call)) where
+module _ (share : ℕ) (v w : View) (between : List Event) (e : Event) (d : Drains share (v .queue 0) between) (l : Leaves v w (e .sent) (action e)) where
   drains-on : Drains share (w .queue 0) (between ++ (e ∷ []))
   drains-on = (
     λ some.
         ⊎-elim
         (λ (i : Some Idle between). l .stays-empty (d .0 i))
-        (λ (i : Idle e). l .idle-empty (i .0) (i .1))
+        (λ (i : Idle e). l .idle-empty (ap (λ (c : Call). isTransmit (actionOf c)) (i .0)) (i .1))
         (some-snoc Idle between e some),
     ⊎-elim
         (λ (empty : v .queue 0 ≡ []). inl (l .stays-empty empty))
@@ -136,14 +137,14 @@ module _ (last share asked : ℕ) (some : currentPlace ≤ last) (slack : share 
   fresh n v w e h d = (λ z. absurd z, inr (rw (d .queues 0) (omega (arith, octets-most last share v h 1))))
 
   following-step : (e : Event) (es : List Event) → FollowingPurge es → FollowingPurge (e ∷ es)
-  following-step e es rest t between n v (w, effect, run) h tick no-ticks link d = told (isTick (e .call)) refl
+  following-step e es rest t between n v (w, effect, run) h tick no-ticks link d = told (isTick (action e)) refl
     where
       sound : Sound last share w
-      sound = stays-sound last share n v w (e .reply) (e .sent) (e .call) some effect h
+      sound = stays-sound last share n v w (e .reply) (e .sent) (action e) some effect h
 
-      told : (b : Bool) → isTick (e .call) ≡ b → All PurgesNothing (e ∷ es)
+      told : (b : Bool) → isTick (action e) ≡ b → All PurgesNothing (e ∷ es)
       told true is =
-          let ticked = tick-effect last share n v w (e .reply) (e .sent) (e .call) effect is in
+          let ticked = tick-effect last share n v w (e .reply) (e .sent) (action e) effect is in
           let empty = drained share asked (v .queue 0) between (h .charged 0) slack d (link [] between es t e refl tick is no-ticks) in (
             λ z. purged-nothing v w (e .reply) ticked empty,
             rest e [] (suc n) w run sound is tt (link-drop asked (t ∷ between) (e ∷ es) link) (fresh n v w e h ticked),
@@ -152,7 +153,7 @@ module _ (last share asked : ℕ) (some : currentPlace ≤ last) (slack : share 
         λ z. differ (sym z ∙ is),
         rest t (between ++ (e ∷ [])) (suc n) w run sound tick (all-snoc NoTick between e no-ticks is)
             (subst (λ (zs : List Event). LinkCondition asked (t ∷ zs)) (sym (append-assoc between (e ∷ []) es)) link)
-            (drains-on share v w between e d (leaves last share n v w (e .reply) (e .sent) (e .call) effect h is)),
+            (drains-on share v w between e d (leaves last share n v w (e .reply) (e .sent) (action e) effect h is)),
       )
 
   following : (es : List Event) → FollowingPurge es
@@ -164,21 +165,21 @@ module _ (last share asked : ℕ) (some : currentPlace ≤ last) (slack : share 
   FromEmpty es = (n : ℕ) (v : View) → Run last share n v es → Sound last share v → LinkCondition asked es → v .queue 0 ≡ [] → All PurgesNothing es
 
   from-step : (e : Event) (es : List Event) → FromEmpty es → FromEmpty (e ∷ es)
-  from-step e es rest n v (w, effect, run) h link empty = told (isTick (e .call)) refl
+  from-step e es rest n v (w, effect, run) h link empty = told (isTick (action e)) refl
     where
       sound : Sound last share w
-      sound = stays-sound last share n v w (e .reply) (e .sent) (e .call) some effect h
+      sound = stays-sound last share n v w (e .reply) (e .sent) (action e) some effect h
 
-      told : (b : Bool) → isTick (e .call) ≡ b → All PurgesNothing (e ∷ es)
+      told : (b : Bool) → isTick (action e) ≡ b → All PurgesNothing (e ∷ es)
       told true is =
-          let ticked = tick-effect last share n v w (e .reply) (e .sent) (e .call) effect is in (
+          let ticked = tick-effect last share n v w (e .reply) (e .sent) (action e) effect is in (
             λ z. purged-nothing v w (e .reply) ticked empty,
             following es e [] (suc n) w run sound is tt link (fresh n v w e h ticked),
           )
       told false is = (
         λ z. differ (sym z ∙ is),
         rest (suc n) w run sound (link-drop asked (e ∷ []) es link)
-            (leaves last share n v w (e .reply) (e .sent) (e .call) effect h is .stays-empty empty),
+            (leaves last share n v w (e .reply) (e .sent) (action e) effect h is .stays-empty empty),
       )
 
   pub no-purge : (es : List Event) → FromEmpty es

@@ -23,7 +23,7 @@ use Rattle.stream.proofs.Used.{used, used-most, used-arrive, used-tick}
 use Rattle.record.specs.Layout.{streamCount}
 use Rattle.ranges.specs.Ranges.{leastCharge, greatestCharge}
 use Rattle.ranges.proofs.RangeLaws.{within-bounds}
-use Rattle.port_laws.specs.Lists.{Call}
+use Rattle.port_laws.specs.Counting.{Action, actionOf, toArrive, toReserve, toTick, toTransmit, toBestEffort, toFrame, neither}
 use Rattle.guarantee.specs.Events.{Marked, Sent}
 use Rattle.lists.proofs.EachLaws.{all-snoc}
 use Rattle.guarantee.proofs.Run.{View, free, octets, permittedOf, SameQueues, SameStreams, OneQueue, OneStream, queueAfter, Effect, quiet, refuses-reservation, reserves, refuses-arrival, arrives, ticks, sends, idles}
@@ -135,7 +135,7 @@ used-nearer : (last k : ℕ) (x : Stream) → Fit last x → used (suc k) x ≤ 
 used-nearer last k x f = let one-less : suc k - 1 ≡ k = omega arith in rw one-less at (used-tick last (suc k) x f)
 
 -- a call leaves a sound port sound
-pub stays-sound : (last share n : ℕ) (v w : View) (r : Reply) (t : Sent) (c : Call) → currentPlace ≤ last → Effect last share n v w r t c
+pub stays-sound : (last share n : ℕ) (v w : View) (r : Reply) (t : Sent) (c : Action) → currentPlace ≤ last → Effect last share n v w r t c
     → Sound last share v → Sound last share w
 stays-sound last share n v w r t c some (quiet q e queues streams) h = same-sound last share v w h queues streams
 stays-sound last share n v w r t c some (refuses-reservation not-granted e queues streams) h = same-sound last share v w h queues streams

@@ -16,8 +16,8 @@ use Rattle.stream.specs.Steps.{arriveOf, tickOf}
 use Rattle.stream.specs.Replies.{granted, refusedBy, replyOf, streamOf}
 use Rattle.record.specs.Layout.{streamCount}
 use Rattle.ranges.specs.Ranges.{chargeFits}
-use Rattle.port_laws.specs.Lists.{Call, opening, reserving, arriving, ticking, transmitting, joiningBestEffort, binding, framing}
-use Rattle.guarantee.specs.Events.{Marked, Sent, reserved, none, Event}
+use Rattle.port_laws.specs.Counting.{Action, actionOf, toArrive, toReserve, toTick, toTransmit, toBestEffort, toFrame, neither}
+use Rattle.guarantee.specs.Events.{Marked, Sent, sentReserved, none, Event, action}
 
 -- the queues, by role (0 prior, 1 current, and so on), and the streams
 pub record View : Type 0 where
@@ -59,16 +59,15 @@ abbrev pub queueAfter : ℕ → Marked → Arrival → List Marked → List Mark
 queueAfter k f (Joined place x) fs = cond (eqb place k) (fs ++ (f ∷ [])) fs
 queueAfter k f (Discarded x) fs = fs
 
--- the calls that touch neither queues nor streams
-abbrev pub Quiet : Call → Type 0
-Quiet (opening link delay) = Unit {0}
-Quiet (reserving s permitted) = ⊥
-Quiet (arriving s charge tag) = ⊥
-Quiet ticking = ⊥
-Quiet transmitting = ⊥
-Quiet (joiningBestEffort charge tag) = Unit {0}
-Quiet (binding s address vid) = Unit {0}
-Quiet (framing octets tag) = Unit {0}
+-- the actions that touch neither the queues for reserved traffic nor streams; a Frame that counts as itself is refused
+abbrev pub Quiet : Action → Type 0
+Quiet toTick = ⊥
+Quiet toTransmit = ⊥
+Quiet (toReserve s permitted) = ⊥
+Quiet (toArrive s charge tag) = ⊥
+Quiet (toBestEffort charge tag) = Unit {0}
+Quiet (toFrame octets tag) = Unit {0}
+Quiet neither = Unit {0}
 
 -- a Reserve that is granted
 pub record Reserves (share : ℕ) (v w : View) (r : Reply) (s permitted : ℕ) : Type 0 where
@@ -105,25 +104,25 @@ pub record Ticks (v w : View) (r : Reply) : Type 0 where
 pub record SendsFrom (v w : View) (r : Reply) (t : Sent) (k : ℕ) (f : Marked) (fs : List Marked) : Type 0 where
   pub waiting : v .queue k ≡ f ∷ fs
   pub earlier : (j : ℕ) → j < k → v .queue j ≡ []
-  pub sent : t ≡ reserved f
+  pub sent : t ≡ sentReserved f
   pub reply : r ≡ granted (f .stream) (f .tag)
   pub queues : OneQueue v w k fs
   pub streams : SameStreams v w
 
--- call number n, its reply and what it sent, between two views of a port with this last place and share
-pub data Effect (last share n : ℕ) (v w : View) (r : Reply) (t : Sent) : Call → Type 0 where
-  quiet : {c : Call} → Quiet c → t ≡ none → SameQueues v w → SameStreams v w → Effect last share n v w r t c
+-- call number n with its action, its reply and what it sent, between two views of a port with this last place and share
+pub data Effect (last share n : ℕ) (v w : View) (r : Reply) (t : Sent) : Action → Type 0 where
+  quiet : {c : Action} → Quiet c → t ≡ none → SameQueues v w → SameStreams v w → Effect last share n v w r t c
   refuses-reservation : {s permitted : ℕ} → (r .refusal ≡ 0 → ⊥) → t ≡ none → SameQueues v w → SameStreams v w
-      → Effect last share n v w r t (reserving s permitted)
-  reserves : {s permitted : ℕ} → t ≡ none → Reserves share v w r s permitted → Effect last share n v w r t (reserving s permitted)
-  refuses-arrival : {s charge tag : ℕ} → t ≡ none → RefusesArrival v w r s charge → Effect last share n v w r t (arriving s charge tag)
+      → Effect last share n v w r t (toReserve s permitted)
+  reserves : {s permitted : ℕ} → t ≡ none → Reserves share v w r s permitted → Effect last share n v w r t (toReserve s permitted)
+  refuses-arrival : {s charge tag : ℕ} → t ≡ none → RefusesArrival v w r s charge → Effect last share n v w r t (toArrive s charge tag)
   arrives : {s charge tag : ℕ} → t ≡ none → Arrives last v w r (record { stream = s; charge = charge; tag = tag; number = n })
-      → Effect last share n v w r t (arriving s charge tag)
-  ticks : t ≡ none → Ticks v w r → Effect last share n v w r t ticking
-  sends : (k : ℕ) (f : Marked) (fs : List Marked) → SendsFrom v w r t k f fs → Effect last share n v w r t transmitting
-  idles : v .queue 0 ≡ [] → ((f : Marked) → t ≡ reserved f → ⊥) → SameQueues v w → SameStreams v w → Effect last share n v w r t transmitting
+      → Effect last share n v w r t (toArrive s charge tag)
+  ticks : t ≡ none → Ticks v w r → Effect last share n v w r t toTick
+  sends : (k : ℕ) (f : Marked) (fs : List Marked) → SendsFrom v w r t k f fs → Effect last share n v w r t toTransmit
+  idles : v .queue 0 ≡ [] → ((f : Marked) → t ≡ sentReserved f → ⊥) → SameQueues v w → SameStreams v w → Effect last share n v w r t toTransmit
 
 -- events that happen one after the other, the first of them number n
 abbrev pub Run : ℕ → ℕ → ℕ → View → List Event → Type 0
 Run last share n v [] = Unit {0}
-Run last share n v (e ∷ es) = (w : View) × Effect last share n v w (e .reply) (e .sent) (e .call) × Run last share (suc n) w es
+Run last share n v (e ∷ es) = (w : View) × Effect last share n v w (e .reply) (e .sent) (action e) × Run last share (suc n) w es

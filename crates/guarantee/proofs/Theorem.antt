@@ -16,21 +16,22 @@ use Rattle.record.specs.Entry.{streamAt}
 use Rattle.ranges.specs.Ranges.{leastCharge, shareOf}
 use Rattle.fitness.specs.Fit.{recordFits, lentRefusal}
 use Rattle.fitness.proofs.FitLaws.{fit-record, lent-fit}
-use Rattle.steps.specs.Outcome.{Outcome}
+use Rattle.steps.specs.Outcome.{Outcome, gated}
 use Rattle.steps.specs.Roles.{roleAt}
 use Rattle.steps.proofs.RoleLaws.{role-below}
 use Rattle.opening.specs.Opening.{openedRecord, openStep}
 use Rattle.gates.specs.Refusals.{openRefusal}
-use Rattle.gates.specs.Gated.{opens}
-use Rattle.gates.proofs.GateLaws.{grants}
-use Rattle.port.specs.Calls.{openCall}
-use Rattle.port_laws.specs.Lists.{Call, opening, called, quicklyCalled}
+use Rattle.steps.proofs.OutcomeLaws.{grants, let-through}
+use Rattle.steps.specs.Call.{Terms, Call, opening}
+use Rattle.port.specs.Calls.{called}
+use Rattle.port.specs.Quick.{quicklyCalled}
+use Rattle.port_laws.specs.Counting.{actionOf}
 use Rattle.port_laws.proofs.QuickLaws.{quick-call}
-use Rattle.port_laws.proofs.StayLaws.{let-through, stays-fit}
+use Rattle.port_laws.proofs.StayLaws.{stays-fit}
 use Rattle.port_laws.proofs.OpenLaws.{opened-open, opened-link, opened-queue, opened-stream}
-use Rattle.guarantee.specs.Events.{reserved, bestEffort as sentBestEffort, Event, happened, events}
+use Rattle.guarantee.specs.Events.{sentReserved, sentBestEffort, Made, made, Event, eventsAfter, events}
 use Rattle.guarantee.specs.Claims.{LinkCondition}
-use Rattle.guarantee.specs.Demand3.{CallList, eventsOf, LinkHolds, Promised, Demand3}
+use Rattle.guarantee.specs.Demand3.{CallList, eventsIn, LinkHolds, Promised, Demand3}
 use Rattle.guarantee.specs.Beyond.{SentByReply}
 use Rattle.guarantee.proofs.Run.{View, free, octets, quiet, Run}
 use Rattle.guarantee.proofs.Room.{Sound}
@@ -41,7 +42,7 @@ use Rattle.guarantee.proofs.Conforming.{prompt}
 use Rattle.guarantee.proofs.Alone.{alike}
 use Rattle.guarantee.proofs.Tied.{tied-empty}
 use Rattle.guarantee.proofs.Held.{Holds, seenAt, seen-below, seen-above, seen-free}
-use Rattle.guarantee.proofs.Play.{Plays, event, plays, quick-plays}
+use Rattle.guarantee.proofs.Play.{Plays, one, plays, quick-plays}
 
 -- a port as Open leaves it: no frame waits, no stream is reserved
 abbrev emptyView : View
@@ -56,44 +57,47 @@ empty-sound last share some =
       charged = λ role. tt;
     }
 
-module _ (p m : List ℕ) (link delay : ℕ) (is : openCall p m link delay .reply .refusal ≡ 0) where
+module _ (p m : List ℕ) (t : Terms) (is : called (opening t) p m .reply .refusal ≡ 0) where
+  abbrev opens : Outcome
+  opens = gated (openRefusal p t) p m (openStep p m t)
+
   not-lent : lentRefusal p m ≡ 0
-  not-lent = let-through (lentRefusal p m) p m (opens p m link delay) is
+  not-lent = let-through (lentRefusal p m) p m opens is
 
   fit : recordFits p m ≡ true
   fit = lent-fit p m not-lent .1
 
   -- the granted Open is its step
-  open-so : openCall p m link delay ≡ openStep p m link delay
+  open-so : called (opening t) p m ≡ openStep p m t
   open-so =
-      let passed = grants (lentRefusal p m) p m (opens p m link delay) not-lent in
+      let passed = grants (lentRefusal p m) p m opens not-lent in
       passed
-      ∙ grants (openRefusal p link delay) p m (openStep p m link delay)
-      (let-through (openRefusal p link delay) p m (openStep p m link delay) (sym (ap (λ (o : Outcome). o .reply .refusal) passed) ∙ is))
+      ∙ grants (openRefusal p t) p m (openStep p m t)
+      (let-through (openRefusal p t) p m (openStep p m t) (sym (ap (λ (o : Outcome). o .reply .refusal) passed) ∙ is))
 
   whole : Whole p
   whole = fit-record p m fit .long
 
   abbrev after : List ℕ
-  after = openedRecord p link delay
+  after = openedRecord p t
 
   no-frames : (number : ℕ) → number ≤ bestEffort → waiting m number (queueAt after number) ≡ []
-  no-frames number b = ap (waiting m number) (opened-queue p link delay whole number (omega arith)) ∙ empty-waits m number
+  no-frames number b = ap (waiting m number) (opened-queue p t whole number (omega arith)) ∙ empty-waits m number
 
-  open-holds : (all : List Call) → Holds all link after m m emptyView []
+  open-holds : (all : List Call) → Holds all (t .link) after m m emptyView []
   open-holds all =
       let fit-after : recordFits after m ≡ true =
-      subst (λ (o : Outcome). recordFits (o .port) (o .memory) ≡ true) open-so (stays-fit (opening link delay) p m fit) in
+      subst (λ (o : Outcome). recordFits (o .port) (o .memory) ≡ true) open-so (stays-fit (opening t) p m fit) in
       let long = lent-fit p m not-lent .0 in
       record {
         fit = fit-after;
         fit-marked = fit-after;
         long = long;
         long-marked = long;
-        opened = opened-open p link delay whole;
-        octets = opened-link p link delay whole;
+        opened = opened-open p t whole;
+        octets = opened-link p t whole;
         streams = λ s. sym (seen-opened s);
-        queues = λ role b. rw (no-frames (roleAt after role) (omega (arith, role-below after role))) (tied-empty all reserved);
+        queues = λ role b. rw (no-frames (roleAt after role) (omega (arith, role-below after role))) (tied-empty all sentReserved);
         above = λ role b. refl;
         waits = rw (no-frames bestEffort (omega arith)) (tied-empty all sentBestEffort);
       }
@@ -102,34 +106,35 @@ module _ (p m : List ℕ) (link delay : ℕ) (is : openCall p m link delay .repl
       seen-opened s =
           ⊎-elim
           (λ (above : streamCount ≤ s). seen-above after s above)
-          (λ (b : s < streamCount). seen-below after s b ∙ seen-free (streamAt after s) (opened-stream p link delay whole s b))
+          (λ (b : s < streamCount). seen-below after s b ∙ seen-free (streamAt after s) (opened-stream p t whole s b))
           (le-or-lt streamCount s)
 
 -- the events after the Open, from the port that it leaves
 module _ (l : CallList) where
   -- the Open, and what it leaves
   abbrev first : List Call
-  first = opening (l .link) (l .delay) ∷ []
+  first = opening (l .terms) ∷ []
 
   abbrev opened : Outcome
-  opened = called (opening (l .link) (l .delay)) (l .port) (l .memory)
+  opened = called (opening (l .terms)) (l .port) (l .memory)
 
-  opened-so : opened ≡ openStep (l .port) (l .memory) (l .link) (l .delay)
-  opened-so = open-so (l .port) (l .memory) (l .link) (l .delay) (l .opened)
+  opened-so : opened ≡ openStep (l .port) (l .memory) (l .terms)
+  opened-so = open-so (l .port) (l .memory) (l .terms) (l .opened)
 
-  opened-holds : Holds first (l .link) (opened .port) (opened .memory) (opened .memory) emptyView []
+  opened-holds : Holds first (l .terms .link) (opened .port) (opened .memory) (opened .memory) emptyView []
   opened-holds =
-      subst (λ (o : Outcome). Holds first (l .link) (o .port) (o .memory) (o .memory) emptyView []) (sym opened-so)
-      (open-holds (l .port) (l .memory) (l .link) (l .delay) (l .opened) first)
+      subst (λ (o : Outcome). Holds first (l .terms .link) (o .port) (o .memory) (o .memory) emptyView []) (sym opened-so)
+      (open-holds (l .port) (l .memory) (l .terms) (l .opened) first)
 
-  opened-sound : Sound lastPlace (shareOf (l .link)) emptyView
-  opened-sound = empty-sound lastPlace (shareOf (l .link)) (omega arith)
+  opened-sound : Sound lastPlace (shareOf (l .terms .link)) emptyView
+  opened-sound = empty-sound lastPlace (shareOf (l .terms .link)) (omega arith)
 
-  later-plays : Plays (l .link) 1 emptyView (happened called first (l .later) (opened .port) (opened .memory) (opened .memory))
-  later-plays = plays (l .link) (l .later) first (opened .port) (opened .memory) (opened .memory) emptyView [] opened-holds opened-sound (omega arith, refl)
+  later-plays : Plays (l .terms .link) 1 emptyView first (made called first (l .later) (opened .port) (opened .memory) (opened .port) (opened .memory))
+  later-plays =
+      plays (l .terms .link) (l .later) first (opened .port) (opened .memory) (opened .port) (opened .memory) emptyView [] opened-holds opened-sound (omega arith, refl) refl
 
   -- the Open touches nothing of an empty view
-  run : Run lastPlace (shareOf (l .link)) 0 emptyView (eventsOf l)
+  run : Run lastPlace (shareOf (l .terms .link)) 0 emptyView (eventsIn l)
   run = (emptyView, quiet tt refl (λ role. refl) (λ s. refl), later-plays .run)
 
 -- what the link condition promises, whatever the number of queues, also where it asks less than the share by less than the least charge
@@ -148,29 +153,31 @@ promises last share asked es more slack run link =
 pub demand-3 : (l : CallList) → Demand3 l
 demand-3 l =
     record {
-      promised = promises lastPlace (shareOf (l .link)) (shareOf (l .link)) (eventsOf l) (omega arith) (omega arith) (run l);
+      promised = promises lastPlace (shareOf (l .terms .link)) (shareOf (l .terms .link)) (eventsIn l) (omega arith) (omega arith) (run l);
       alike = λ other s.
-          alike lastPlace (shareOf (l .link)) (shareOf (other .link)) s (eventsOf l) (eventsOf other) emptyView emptyView refl (run l) (run other);
-      says = (λ e. absurd (no-transmit (opening (l .link) (l .delay)) tt e), later-plays l .says);
+          alike lastPlace (shareOf (l .terms .link)) (shareOf (other .terms .link)) s (eventsIn l) (eventsIn other) emptyView emptyView refl (run l) (run other);
+      records = (refl, later-plays l .records);
+      says = (λ e. absurd (no-transmit (opening (l .terms)) refl e), later-plays l .says);
       marks = (λ e. refl, later-plays l .marks);
       not-by-host = ((λ e. omega (arith, l .opened), (λ e. omega (arith, l .opened), λ e. omega (arith, l .opened))), later-plays l .not-by-host);
     }
 
 -- and beyond the demand: less than the share would do, by less than the least charge
-pub promised-by-less : (l : CallList) (asked : ℕ) → shareOf (l .link) < asked + leastCharge → LinkCondition asked (eventsOf l) → Promised queueCount (eventsOf l)
-promised-by-less l asked slack = promises lastPlace (shareOf (l .link)) asked (eventsOf l) (omega arith) slack (run l)
+pub promised-by-less : (l : CallList) (asked : ℕ) → shareOf (l .terms .link) < asked + leastCharge → LinkCondition asked (eventsIn l) → Promised queueCount (eventsIn l)
+promised-by-less l asked slack = promises lastPlace (shareOf (l .terms .link)) asked (eventsIn l) (omega arith) slack (run l)
 
 -- and a frame is sent before the tick that its reply tells
-pub sent-as-replied : (l : CallList) → LinkHolds l → SentByReply (eventsOf l)
+pub sent-as-replied : (l : CallList) → LinkHolds l → SentByReply (eventsIn l)
 sent-as-replied l link =
-    sent-by-reply lastPlace (shareOf (l .link)) emptyView (eventsOf l) (omega arith) (run l) (empty-sound lastPlace (shareOf (l .link)) (omega arith))
+    sent-by-reply lastPlace (shareOf (l .terms .link)) emptyView (eventsIn l) (omega arith) (run l) (empty-sound lastPlace (shareOf (l .terms .link)) (omega arith))
     (demand-3 l .promised link .no-purge)
 
 -- the quick calls, which do not scan the record, are these calls in every such list
-pub quick-events : (l : CallList) → events quicklyCalled (opening (l .link) (l .delay) ∷ l .later) (l .port) (l .memory) ≡ eventsOf l
+pub quick-events : (l : CallList) → events quicklyCalled (opening (l .terms) ∷ l .later) (l .port) (l .memory) ≡ eventsIn l
 quick-events l =
-    let c = opening (l .link) (l .delay) in
-    let same = quick-call c (l .port) (l .memory) (fit (l .port) (l .memory) (l .link) (l .delay) (l .opened)) in
-    ap (λ (o : Outcome). event [] c o o ∷ happened quicklyCalled (first l) (l .later) (o .port) (o .memory) (o .memory)) same
-    ∙ ap (λ (es : List Event). event [] c (opened l) (opened l) ∷ es)
-    (quick-plays (l .link) (l .later) (first l) (opened l .port) (opened l .memory) (opened l .memory) emptyView [] (opened-holds l) (opened-sound l) (omega arith, refl))
+    let c = opening (l .terms) in
+    let same = quick-call c (l .port) (l .memory) (fit (l .port) (l .memory) (l .terms) (l .opened)) in
+    ap (eventsAfter [])
+    (ap (λ (o : Outcome). one c o o ∷ made quicklyCalled (first l) (l .later) (o .port) (o .memory) (o .port) (o .memory)) same
+    ∙ ap (λ (xs : List Made). one c (opened l) (opened l) ∷ xs)
+    (quick-plays (l .terms .link) (l .later) (first l) (opened l .port) (opened l .memory) (opened l .port) (opened l .memory) emptyView [] (opened-holds l) (opened-sound l) (omega arith, refl) refl))

@@ -7,7 +7,8 @@ use lib.ListN.{length, getD, length-append}
 use Rattle.lists.specs.Each.{All}
 use Rattle.queue.specs.declared.Frame.{Frame}
 use Rattle.queue.specs.Waiting.{chargesOf}
-use Rattle.port_laws.specs.Lists.{Call, ticking}
+use Rattle.steps.specs.Call.{Call, ticking}
+use Rattle.port_laws.specs.Counting.{actionOf}
 use Rattle.guarantee.specs.Events.{Marked, Sent, broughtBy}
 use Rattle.lists.proofs.EachLaws.{all-snoc, getD-before, all-map}
 use Rattle.guarantee.proofs.Run.{octets}
@@ -21,7 +22,7 @@ numbered f = record { stream = f .stream; charge = f .charge; tag = f .number }
 
 -- the frame is one that an earlier call brought, the one of its number
 abbrev pub Known : List Call → (Marked → Sent) → Marked → Type 0
-Known earlier kind f = (f .number < length earlier) × (broughtBy (f .number) (getD earlier (f .number) ticking) ≡ kind f)
+Known earlier kind f = (f .number < length earlier) × (broughtBy (f .number) (actionOf (getD earlier (f .number) ticking)) ≡ kind f)
 
 -- the frames of a queue in both memories
 pub record Tied (all : List Call) (kind : Marked → Sent) (ws ks : List Frame) (fs : List Marked) : Type 0 where
@@ -45,7 +46,7 @@ module _ (all : List Call) (kind : Marked → Sent) where
         shown = h .shown;
         known =
             all-map (Known all kind) (Known (all ++ (c ∷ [])) kind) fs
-            (λ f k. (omega (arith, k .0, length-append all (c ∷ [])), ap (broughtBy (f .number)) (getD-before all c ticking (f .number) (k .0)) ∙ k .1))
+            (λ f k. (omega (arith, k .0, length-append all (c ∷ [])), ap (λ (d : Call). broughtBy (f .number) (actionOf d)) (getD-before all c ticking (f .number) (k .0)) ∙ k .1))
             (h .known);
       }
 

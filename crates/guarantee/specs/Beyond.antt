@@ -3,7 +3,7 @@ use Prim.Native.Nat.{ℕ, _+_}
 use mathlib.Core.Path.{_≡_}
 use mathlib.Core.List.{List, _∷_, _++_}
 use lib.ListN.{length}
-use Rattle.port_laws.specs.Lists.{arriving}
+use Rattle.steps.specs.Call.{arriving}
 use Rattle.guarantee.specs.Events.{Event}
 use Rattle.guarantee.specs.Claims.{SentBefore}
 

@@ -13,33 +13,33 @@ use Rattle.stream.specs.Replies.{granted}
 use Rattle.stream.specs.State.{currentPlace}
 use Rattle.sending.specs.Sending.{nothing}
 use Rattle.ranges.specs.Ranges.{chargeFits}
-use Rattle.port_laws.specs.Lists.{Call, opening, reserving, arriving, ticking, transmitting, joiningBestEffort, binding, framing}
-use Rattle.guarantee.specs.Events.{Marked, Sent, reserved, bestEffort, none, Event}
+use Rattle.steps.specs.Call.{Call, reserving, arriving, transmitting}
+use Rattle.port_laws.specs.Counting.{Action, toTick, toTransmit, toReserve, toArrive, toBestEffort, toFrame, neither}
+use Rattle.guarantee.specs.Events.{Marked, Sent, sentReserved, sentBestEffort, none, Made, Event, action}
 
--- whether a call is a Tick, and how many of the events are
-abbrev pub isTick : Call → Bool
-isTick (opening link delay) = false
-isTick (reserving r permitted) = false
-isTick (arriving r charge tag) = false
-isTick ticking = true
-isTick transmitting = false
-isTick (joiningBestEffort charge tag) = false
-isTick (binding r address vid) = false
-isTick (framing octets tag) = false
+-- whether an action is a Tick, and how many of the events are
+abbrev pub isTick : Action → Bool
+isTick toTick = true
+isTick toTransmit = false
+isTick (toReserve r permitted) = false
+isTick (toArrive r charge tag) = false
+isTick (toBestEffort charge tag) = false
+isTick (toFrame octets tag) = false
+isTick neither = false
 
 abbrev pub Tick : Event → Type 0
-Tick e = isTick (e .call) ≡ true
+Tick e = isTick (action e) ≡ true
 
 abbrev pub NoTick : Event → Type 0
-NoTick e = isTick (e .call) ≡ false
+NoTick e = isTick (action e) ≡ false
 
-abbrev pub ticks : List Event → ℕ
-ticks = sumOf (λ e. cond (isTick (e .call)) 1 0)
+abbrev pub tickCount : List Event → ℕ
+tickCount = sumOf (λ e. cond (isTick (action e)) 1 0)
 
 -- "the reserved octets sent": "Octets sent or offered are sums of charges"
 abbrev pub reservedCharge : Sent → ℕ
-reservedCharge (reserved f) = f .charge
-reservedCharge (bestEffort f) = 0
+reservedCharge (sentReserved f) = f .charge
+reservedCharge (sentBestEffort f) = 0
 reservedCharge none = 0
 
 abbrev pub reservedOctets : List Event → ℕ
@@ -47,7 +47,7 @@ reservedOctets = sumOf (λ e. reservedCharge (e .sent))
 
 -- "some transmit sends no reserved frame"
 abbrev pub Idle : Event → Type 0
-Idle e = (e .call ≡ transmitting) × ((f : Marked) → e .sent ≡ reserved f → ⊥)
+Idle e = (e .call ≡ transmitting) × ((f : Marked) → e .sent ≡ sentReserved f → ⊥)
 
 -- "the reserved octets sent are at least the port's share or some transmit sends no reserved frame"
 abbrev pub Linked : ℕ → List Event → Type 0
@@ -66,8 +66,8 @@ PurgesNothing e = Tick e → e .reply ≡ granted 0 0
 -- "the reply is that frame's stream and tag", and where the tag is the call's number its stream and that; "stream (255 best effort, 254 nothing), tag
 -- (0 for nothing)"
 abbrev pub replyOfSent : (Marked → ℕ) → Sent → Reply
-replyOfSent tag (reserved f) = granted (f .stream) (tag f)
-replyOfSent tag (bestEffort f) = granted (f .stream) (tag f)
+replyOfSent tag (sentReserved f) = granted (f .stream) (tag f)
+replyOfSent tag (sentBestEffort f) = granted (f .stream) (tag f)
 replyOfSent tag none = granted nothing 0
 
 abbrev pub SaysWhatItSends : Event → Type 0
@@ -77,13 +77,17 @@ SaysWhatItSends e = e .call ≡ transmitting → (e .reply ≡ replyOfSent (λ f
 abbrev pub AlikeMarked : Event → Type 0
 AlikeMarked e = (e .call ≡ transmitting → ⊥) → e .shown ≡ e .reply
 
+-- the run whose frames are marked is a run of the same port: its record is the port's own after every call
+abbrev pub SameRecord : Made → Type 0
+SameRecord x = x .shown .port ≡ x .real .port
+
 -- a frame is sent before the tick of that number among the events after it: "claimed where the list reaches that tick"
 abbrev pub Sends : Marked → Event → Type 0
-Sends f e = (e .sent ≡ reserved f) × (e .reply ≡ granted (f .stream) (f .tag))
+Sends f e = (e .sent ≡ sentReserved f) × (e .reply ≡ granted (f .stream) (f .tag))
 
 abbrev pub SentBefore : ℕ → Marked → List Event → Type 0
 SentBefore number f es =
-    (between after : List Event) (u : Event) → es ≡ between ++ (u ∷ after) → Tick u → ticks between + 1 ≡ number → Some (Sends f) between
+    (between after : List Event) (u : Event) → es ≡ between ++ (u ∷ after) → Tick u → tickCount between + 1 ≡ number → Some (Sends f) between
 
 -- "every accepted reserved frame is sent before the fourth tick after it"; accepted "is a reply without refusal"
 abbrev pub AllSentBefore : ℕ → List Event → Type 0
@@ -93,18 +97,17 @@ AllSentBefore number es =
     → SentBefore number (record { stream = s; charge = charge; tag = tag; number = length before }) after
 
 -- a stream's offers: its arrivals "of a charge from 84 to 1,542"
-abbrev pub offer : ℕ → Call → ℕ
-offer s (opening link delay) = 0
-offer s (reserving r permitted) = 0
-offer s (arriving r charge tag) = cond (eqb r s && chargeFits charge) charge 0
-offer s ticking = 0
-offer s transmitting = 0
-offer s (joiningBestEffort charge tag) = 0
-offer s (binding r address vid) = 0
-offer s (framing octets tag) = 0
+abbrev pub offer : ℕ → Action → ℕ
+offer s toTick = 0
+offer s toTransmit = 0
+offer s (toReserve r permitted) = 0
+offer s (toArrive r charge tag) = cond (eqb r s && chargeFits charge) charge 0
+offer s (toBestEffort charge tag) = 0
+offer s (toFrame octets tag) = 0
+offer s neither = 0
 
 abbrev pub offers : ℕ → List Event → ℕ
-offers s = sumOf (λ e. offer s (e .call))
+offers s = sumOf (λ e. offer s (action e))
 
 -- "a stream that never offers more than its permitted octets between ticks", "also before the first tick and after the last": in no stretch without a
 -- tick
@@ -127,40 +130,38 @@ ConformingPrompt es =
     → Prompt (record { stream = s; charge = charge; tag = tag; number = length before + 1 + length earlier }) e (later ++ rest)
 
 -- "A stream's own calls are the Reserves and Arrives that name it"
-abbrev pub isReserveOf : ℕ → Call → Bool
-isReserveOf s (opening link delay) = false
-isReserveOf s (reserving r permitted) = eqb r s
-isReserveOf s (arriving r charge tag) = false
-isReserveOf s ticking = false
-isReserveOf s transmitting = false
-isReserveOf s (joiningBestEffort charge tag) = false
-isReserveOf s (binding r address vid) = false
-isReserveOf s (framing octets tag) = false
+abbrev pub isReserveOf : ℕ → Action → Bool
+isReserveOf s toTick = false
+isReserveOf s toTransmit = false
+isReserveOf s (toReserve r permitted) = eqb r s
+isReserveOf s (toArrive r charge tag) = false
+isReserveOf s (toBestEffort charge tag) = false
+isReserveOf s (toFrame octets tag) = false
+isReserveOf s neither = false
 
-abbrev pub isArriveOf : ℕ → Call → Bool
-isArriveOf s (opening link delay) = false
-isArriveOf s (reserving r permitted) = false
-isArriveOf s (arriving r charge tag) = eqb r s
-isArriveOf s ticking = false
-isArriveOf s transmitting = false
-isArriveOf s (joiningBestEffort charge tag) = false
-isArriveOf s (binding r address vid) = false
-isArriveOf s (framing octets tag) = false
+abbrev pub isArriveOf : ℕ → Action → Bool
+isArriveOf s toTick = false
+isArriveOf s toTransmit = false
+isArriveOf s (toReserve r permitted) = false
+isArriveOf s (toArrive r charge tag) = eqb r s
+isArriveOf s (toBestEffort charge tag) = false
+isArriveOf s (toFrame octets tag) = false
+isArriveOf s neither = false
 
 -- the ticks and the stream's own calls, "once all others are struck out"
 abbrev pub remaining : ℕ → List Event → List Call
 remaining s [] = []
-remaining s (e ∷ es) = cond (isTick (e .call) || (isReserveOf s (e .call) || isArriveOf s (e .call))) (e .call ∷ remaining s es) (remaining s es)
+remaining s (e ∷ es) = cond (isTick (action e) || (isReserveOf s (action e) || isArriveOf s (action e))) (e .call ∷ remaining s es) (remaining s es)
 
 -- "which of its reservations are granted"
 abbrev pub grants : ℕ → List Event → List Bool
 grants s [] = []
-grants s (e ∷ es) = cond (isReserveOf s (e .call)) (eqb (e .reply .refusal) 0 ∷ grants s es) (grants s es)
+grants s (e ∷ es) = cond (isReserveOf s (action e)) (eqb (e .reply .refusal) 0 ∷ grants s es) (grants s es)
 
 -- its arrivals' replies: "refusal or 0 and both reply numbers of each of its Arrives"
 abbrev pub answers : ℕ → List Event → List Reply
 answers s [] = []
-answers s (e ∷ es) = cond (isArriveOf s (e .call)) (e .reply ∷ answers s es) (answers s es)
+answers s (e ∷ es) = cond (isArriveOf s (action e)) (e .reply ∷ answers s es) (answers s es)
 
 -- "two lists alike in the order of ticks and one stream's own calls, and in which of its reservations are granted, give its arrivals the same
 -- replies, whatever was sent on other streams"

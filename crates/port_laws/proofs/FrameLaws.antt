@@ -33,6 +33,7 @@ use Rattle.binding.specs.declared.Lookup.the-variants.{Bound, Unbound}
 use Rattle.binding.specs.Finding.{frameLookup}
 use Rattle.gates.specs.Refusals.{arriveRefusal, bestEffortLimit, bestEffortRefusal}
 use Rattle.gates.specs.FrameRefusals.{frameRefusal}
+use Rattle.gates.proofs.TestLaws.{by-test}
 use Rattle.gates.specs.Becoming.{becoming, becomes, frameStep}
 use Rattle.port.specs.Calls.{called}
 
@@ -71,9 +72,12 @@ frame-refused p octets opened short = rw (opened, short)
 abbrev Not17 : ℕ → Type 0
 Not17 number = number ≡ 17 → ⊥
 
-by-test : (b : Bool) (number rest : ℕ) → Not17 number → Not17 rest → Not17 (cond b number rest)
-by-test true number rest h i = h
-by-test false number rest h i = i
+-- 0, and a test's number before the rest
+end : Not17 0
+end e = omega arith
+
+other : (b : Bool) (n rest : ℕ) → Not17 n → Not17 rest → Not17 (cond b n rest)
+other = by-test Not17
 
 gated-not-17 : (g : ℕ) (p m : List ℕ) (done : Outcome) → Not17 g → Not17 (done .reply .refusal) → Not17 (gated g p m done .reply .refusal)
 gated-not-17 g p m done h i =
@@ -100,21 +104,16 @@ becomes-not-17 : (p m : List ℕ) (charge tag : ℕ) (found : Lookup) → Not17 
 unfolding arriveRefusal bestEffortRefusal arriveStep bestEffortStep
 becomes-not-17 p m charge tag (Bound s) =
     gated-not-17 (arriveRefusal p s charge) p m (arriveStep p m s charge tag)
-    (by-test (not (openAt p)) 1 _ (λ e. omega arith)
-    (by-test (leb streamCount s) 5 _ (λ e. omega arith)
-    (by-test (not (streamAt p s .reserved)) 12 _ (λ e. omega arith) (by-test (not (chargeFits charge)) 13 0 (λ e. omega arith) (λ e. omega arith)))))
+    (other _ 1 _ (λ e. omega arith) (other _ 5 _ (λ e. omega arith) (other _ 12 _ (λ e. omega arith) (other _ 13 _ (λ e. omega arith) end))))
     (arrived-not-17 p m s (record { stream = s; charge = charge; tag = tag }) (arriveOf lastPlace (streamAt p s) charge))
 becomes-not-17 p m charge tag Unbound =
     gated-not-17 (bestEffortRefusal p charge) p m (bestEffortStep p m charge tag)
-    (by-test (not (openAt p)) 1 _ (λ e. omega arith)
-    (by-test (not (chargeFits charge)) 13 _ (λ e. omega arith)
-    (by-test (leb placeCount (queueAt p bestEffort .count)) 15 _ (λ e. omega arith)
-    (by-test (ltb (bestEffortLimit p) (waitsAt p + charge)) 16 0 (λ e. omega arith) (λ e. omega arith)))))
+    (other _ 1 _ (λ e. omega arith) (other _ 13 _ (λ e. omega arith) (other _ 15 _ (λ e. omega arith) (other _ 16 _ (λ e. omega arith) end))))
     (λ e. omega arith)
 
 pub frame-not-17 : (p m octets : List ℕ) (tag : ℕ) → lengthFits octets ≡ true → called (framing octets tag) p m .reply .refusal ≡ 17 → ⊥
 unfolding lentRefusal
 frame-not-17 p m octets tag fits =
     gated-not-17 (lentRefusal p m) p m (gated (frameRefusal p octets) p m (frameStep p m octets tag))
-    (by-test (ltb (length m) memoryLength) 18 _ (λ e. omega arith) (by-test (recordFits p m) 0 19 (λ e. omega arith) (λ e. omega arith)))
+    (other _ 18 _ (λ e. omega arith) (other _ 0 19 end (λ e. omega arith)))
     (subst (λ (o : Outcome). Not17 (o .reply .refusal)) (sym (frames-becomes p m octets tag fits)) (becomes-not-17 p m (chargeOf octets) tag (frameLookup p octets)))

@@ -1,20 +1,16 @@
 -- Which numbers a call's own refusals have, and what an open port refuses. Assumes nothing.
-use Prim.Native.Nat.{ℕ, _+_, _<_}
+use Prim.Native.Nat.{ℕ, _<_}
 use mathlib.Core.Path.{_≡_}
-use mathlib.Core.Bool.{Bool, true, false, not, cond}
+use mathlib.Core.Bool.{Bool, true, cond}
+use mathlib.Core.Logic.{_⊎_, inl}
 use mathlib.Core.List.{List}
 use native.Mathlib.Omega.{arith}
-use lib.Dec.{leb, ltb}
-use Rattle.queue.specs.Ring.{placeCount}
-use Rattle.record.specs.Layout.{bestEffort, streamCount}
-use Rattle.record.specs.Head.{openAt, linkAt, waitsAt, queueAt}
-use Rattle.record.specs.Entry.{streamAt, boundAt}
-use Rattle.ranges.specs.Ranges.{chargeFits, shareOf, permittedFits, vidFits}
-use Rattle.fitness.specs.Clauses.{permittedSum}
-use Rattle.binding.specs.Finding.{lookup, isBound}
-use Rattle.steps.specs.Call.{Terms}
-use Rattle.gates.specs.Refusals.{openRefusal, reserveRefusal, arriveRefusal, closedRefusal, bestEffortLimit, bestEffortRefusal}
-use Rattle.gates.specs.FrameRefusals.{bindRefusal}
+use Rattle.record.specs.Head.{openAt}
+use Rattle.steps.specs.Call.{Terms, Call, opening, reserving, arriving, ticking, transmitting, joiningBestEffort, binding, framing}
+use Rattle.gates.specs.Refusals.{openRefusal, reserveRefusal, arriveRefusal, closedRefusal, bestEffortRefusal}
+use Rattle.gates.specs.FrameRefusals.{bindRefusal, frameRefusal}
+use Rattle.gates.specs.Table.{refusalOf}
+use Rattle.gates.proofs.TestLaws.{by-test}
 
 -- an open port refuses Open with 2, and neither Tick nor Transmit
 pub open-taken : (p : List ℕ) (t : Terms) → openAt p ≡ true → openRefusal p t ≡ 2
@@ -25,42 +21,25 @@ pub closed-passes : (p : List ℕ) → openAt p ≡ true → closedRefusal p ≡
 unfolding closedRefusal
 closed-passes p opened = rw opened
 
--- a call's own refusals are none of the host's, 18 to 20
-gate-below : (b : Bool) (number rest : ℕ) → number < 18 → rest < 18 → cond b number rest < 18
-gate-below true number rest h i = h
-gate-below false number rest h i = i
+-- a number that is none of the host's, 18 to 20
+abbrev pub Own : ℕ → Type 0
+Own n = (n < 18) ⊎ (20 < n)
 
-pub reserve-numbers : (p : List ℕ) (s permitted : ℕ) → reserveRefusal p s permitted < 18
-unfolding reserveRefusal
-reserve-numbers p s permitted =
-    let eight = gate-below (ltb (shareOf (linkAt p)) (permittedSum p + permitted)) 8 0 (omega arith) (omega arith) in
-    let seven = gate-below (not (permittedFits permitted)) 7 _ (omega arith) eight in
-    let six = gate-below (streamAt p s .reserved) 6 _ (omega arith) seven in
-    let five = gate-below (leb streamCount s) 5 _ (omega arith) six in
-    gate-below (not (openAt p)) 1 _ (omega arith) five
+-- the least number of all, and the next test's number before the rest
+end : Own 0
+end = inl (omega arith)
 
-pub arrive-numbers : (p : List ℕ) (s charge : ℕ) → arriveRefusal p s charge < 18
-unfolding arriveRefusal
-arrive-numbers p s charge =
-    let thirteen = gate-below (not (chargeFits charge)) 13 0 (omega arith) (omega arith) in
-    let twelve = gate-below (not (streamAt p s .reserved)) 12 _ (omega arith) thirteen in
-    let five = gate-below (leb streamCount s) 5 _ (omega arith) twelve in
-    gate-below (not (openAt p)) 1 _ (omega arith) five
+below : (b : Bool) (n rest : ℕ) → n < 18 → Own rest → Own (cond b n rest)
+below b n rest h i = by-test Own b n rest (inl h) i
 
-pub best-effort-numbers : (p : List ℕ) (charge : ℕ) → bestEffortRefusal p charge < 18
-unfolding bestEffortRefusal
-best-effort-numbers p charge =
-    let sixteen = gate-below (ltb (bestEffortLimit p) (waitsAt p + charge)) 16 0 (omega arith) (omega arith) in
-    let fifteen = gate-below (leb placeCount (queueAt p bestEffort .count)) 15 _ (omega arith) sixteen in
-    let thirteen = gate-below (not (chargeFits charge)) 13 _ (omega arith) fifteen in
-    gate-below (not (openAt p)) 1 _ (omega arith) thirteen
-
-pub bind-numbers : (p : List ℕ) (s : ℕ) (address : List ℕ) (vid : ℕ) → bindRefusal p s address vid < 18
-unfolding bindRefusal
-bind-numbers p s address vid =
-    let eleven = gate-below (isBound (lookup p address vid)) 11 0 (omega arith) (omega arith) in
-    let ten = gate-below (boundAt p s) 10 _ (omega arith) eleven in
-    let nine = gate-below (not (vidFits vid)) 9 _ (omega arith) ten in
-    let twelve = gate-below (not (streamAt p s .reserved)) 12 _ (omega arith) nine in
-    let five = gate-below (leb streamCount s) 5 _ (omega arith) twelve in
-    gate-below (not (openAt p)) 1 _ (omega arith) five
+-- so are those of each call's own refusals
+pub refusal-own : (c : Call) (p : List ℕ) → Own (refusalOf c p)
+unfolding openRefusal reserveRefusal arriveRefusal closedRefusal bestEffortRefusal bindRefusal frameRefusal
+refusal-own (opening t) p = below _ 2 _ (omega arith) (below _ 3 _ (omega arith) (below _ 4 _ (omega arith) end))
+refusal-own (reserving s permitted) p = below _ 1 _ (omega arith) (below _ 5 _ (omega arith) (below _ 6 _ (omega arith) (below _ 7 _ (omega arith) (below _ 8 _ (omega arith) end))))
+refusal-own (arriving s charge tag) p = below _ 1 _ (omega arith) (below _ 5 _ (omega arith) (below _ 12 _ (omega arith) (below _ 13 _ (omega arith) end)))
+refusal-own ticking p = below _ 1 _ (omega arith) end
+refusal-own transmitting p = below _ 1 _ (omega arith) end
+refusal-own (joiningBestEffort charge tag) p = below _ 1 _ (omega arith) (below _ 13 _ (omega arith) (below _ 15 _ (omega arith) (below _ 16 _ (omega arith) end)))
+refusal-own (binding s address vid) p = below _ 1 _ (omega arith) (below _ 5 _ (omega arith) (below _ 12 _ (omega arith) (below _ 9 _ (omega arith) (below _ 10 _ (omega arith) (below _ 11 _ (omega arith) end)))))
+refusal-own (framing octets tag) p = below _ 1 _ (omega arith) (below _ 17 _ (omega arith) end)
