@@ -17,7 +17,8 @@ use Rattle.lists.proofs.WindowLaws.{put-append}
 use Rattle.lists.specs.Window.{put}
 use Rattle.port_laws.proofs.QuickLaws.{quick-call}
 use Rattle.port_laws.proofs.StayLaws.{stays-fit}
-use Rattle.port_laws.specs.Lists.{called, quicklyCalled}
+use Rattle.port.specs.Calls.{called}
+use Rattle.port.specs.Quick.{quicklyCalled}
 use Rattle.steps.specs.Outcome.{Outcome}
 use Rattle.text.specs.Lines.{Wrote}
 

@@ -2,7 +2,7 @@
 use Prim.Native.Nat.{ℕ}
 use mathlib.Core.List.{List}
 use Rattle.steps.specs.Outcome.{Outcome}
-use Rattle.port_laws.specs.Lists.{quicklyCalled}
+use Rattle.port.specs.Quick.{quicklyCalled}
 use Rattle.capture.specs.Events.{callAt}
 
 -- what the quick call of record i replies, and leaves of a record and a memory

@@ -6,7 +6,7 @@ ghost use Prim.Native.Nat.{_+_, _*_, _≤_, _<_};
 ghost use lib.ListN.{length};
 ghost use Rattle.fitness.specs.Fit.{recordFits};
 ghost use Rattle.steps.specs.Outcome.{outcome};
-ghost use Rattle.port_laws.specs.Lists.{quicklyCalled};
+ghost use Rattle.port.specs.Quick.{quicklyCalled};
 ghost use Rattle.text.specs.Lines.{Wrote};
 ghost use Rattle.capture_file.specs.File.{HasRecord, kindOf, mostEvents, chainWithin};
 ghost use Rattle.capture_file.specs.Checks.{mostOctets, chainRefusal};

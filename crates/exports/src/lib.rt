@@ -4,8 +4,18 @@ pub mod alone;
 pub mod unscanned;
 
 ghost use mathlib.Core.Path.{_≡_};
+ghost use Rattle.steps.specs.Call.{terms};
 ghost use Rattle.steps.specs.Outcome.{outcome};
-ghost use Rattle.port.specs.Calls.{openCall, reserveCall, arriveCall, tickCall, transmitCall, bestEffortCall, bindCall, frameCall};
+ghost use Rattle.opening.specs.Opening.{openStep, reserveStep};
+ghost use Rattle.arriving.specs.Arriving.{arriveStep};
+ghost use Rattle.ticking.specs.Ticking.{tickStep};
+ghost use Rattle.sending.specs.Sending.{transmitStep};
+ghost use Rattle.best_effort.specs.BestEffort.{bestEffortStep};
+ghost use Rattle.binding.specs.Binding.{bindStep};
+ghost use Rattle.gates.specs.Refusals.{openRefusal, reserveRefusal, arriveRefusal, closedRefusal, bestEffortRefusal};
+ghost use Rattle.gates.specs.FrameRefusals.{bindRefusal, frameRefusal};
+ghost use Rattle.gates.specs.Becoming.{frameStep};
+ghost use Rattle.port.specs.Calls.{checked};
 ghost use Rattle.exports.specs.Handed.{handed};
 
 // Open(L, K).
@@ -18,7 +28,7 @@ pub extern "C" fn bunnysolder_open(
     first: &mut u32,
     second: &mut u32,
 ) -> u8
-    ensures { λ r. ⌜ outcome (handed r (now (first .exit)) (now (second .exit))) (now (port .exit)) (now (memory .entry)) ≡ openCall (now (port .entry)) (now (memory .entry)) link delay ⌝ }
+    ensures { λ r. ⌜ outcome (handed r (now (first .exit)) (now (second .exit))) (now (port .exit)) (now (memory .entry)) ≡ checked (λ p. openRefusal p (terms link delay)) (λ p m. openStep p m (terms link delay)) (now (port .entry)) (now (memory .entry)) ⌝ }
 {
     let reply = port::open_port(port, memory, link, delay);
     *first = reply.first;
@@ -36,7 +46,7 @@ pub extern "C" fn bunnysolder_reserve(
     first: &mut u32,
     second: &mut u32,
 ) -> u8
-    ensures { λ r. ⌜ outcome (handed r (now (first .exit)) (now (second .exit))) (now (port .exit)) (now (memory .entry)) ≡ reserveCall (now (port .entry)) (now (memory .entry)) stream permitted ⌝ }
+    ensures { λ r. ⌜ outcome (handed r (now (first .exit)) (now (second .exit))) (now (port .exit)) (now (memory .entry)) ≡ checked (λ p. reserveRefusal p stream permitted) (λ p m. reserveStep p m stream permitted) (now (port .entry)) (now (memory .entry)) ⌝ }
 {
     let reply = port::reserve(port, memory, stream, permitted);
     *first = reply.first;
@@ -55,7 +65,7 @@ pub extern "C" fn bunnysolder_arrive(
     first: &mut u32,
     second: &mut u32,
 ) -> u8
-    ensures { λ r. ⌜ outcome (handed r (now (first .exit)) (now (second .exit))) (now (port .exit)) (now (memory .exit)) ≡ arriveCall (now (port .entry)) (now (memory .entry)) stream charge tag ⌝ }
+    ensures { λ r. ⌜ outcome (handed r (now (first .exit)) (now (second .exit))) (now (port .exit)) (now (memory .exit)) ≡ checked (λ p. arriveRefusal p stream charge) (λ p m. arriveStep p m stream charge tag) (now (port .entry)) (now (memory .entry)) ⌝ }
 {
     let reply = port::arrive(port, memory, stream, charge, tag);
     *first = reply.first;
@@ -71,7 +81,7 @@ pub extern "C" fn bunnysolder_tick(
     first: &mut u32,
     second: &mut u32,
 ) -> u8
-    ensures { λ r. ⌜ outcome (handed r (now (first .exit)) (now (second .exit))) (now (port .exit)) (now (memory .entry)) ≡ tickCall (now (port .entry)) (now (memory .entry)) ⌝ }
+    ensures { λ r. ⌜ outcome (handed r (now (first .exit)) (now (second .exit))) (now (port .exit)) (now (memory .entry)) ≡ checked closedRefusal tickStep (now (port .entry)) (now (memory .entry)) ⌝ }
 {
     let reply = port::tick(port, memory);
     *first = reply.first;
@@ -87,7 +97,7 @@ pub extern "C" fn bunnysolder_transmit(
     first: &mut u32,
     second: &mut u32,
 ) -> u8
-    ensures { λ r. ⌜ outcome (handed r (now (first .exit)) (now (second .exit))) (now (port .exit)) (now (memory .entry)) ≡ transmitCall (now (port .entry)) (now (memory .entry)) ⌝ }
+    ensures { λ r. ⌜ outcome (handed r (now (first .exit)) (now (second .exit))) (now (port .exit)) (now (memory .entry)) ≡ checked closedRefusal transmitStep (now (port .entry)) (now (memory .entry)) ⌝ }
 {
     let reply = port::transmit(port, memory);
     *first = reply.first;
@@ -105,7 +115,7 @@ pub extern "C" fn bunnysolder_best_effort(
     first: &mut u32,
     second: &mut u32,
 ) -> u8
-    ensures { λ r. ⌜ outcome (handed r (now (first .exit)) (now (second .exit))) (now (port .exit)) (now (memory .exit)) ≡ bestEffortCall (now (port .entry)) (now (memory .entry)) charge tag ⌝ }
+    ensures { λ r. ⌜ outcome (handed r (now (first .exit)) (now (second .exit))) (now (port .exit)) (now (memory .exit)) ≡ checked (λ p. bestEffortRefusal p charge) (λ p m. bestEffortStep p m charge tag) (now (port .entry)) (now (memory .entry)) ⌝ }
 {
     let reply = port::best_effort(port, memory, charge, tag);
     *first = reply.first;
@@ -124,7 +134,7 @@ pub extern "C" fn bunnysolder_bind(
     first: &mut u32,
     second: &mut u32,
 ) -> u8
-    ensures { λ r. ⌜ outcome (handed r (now (first .exit)) (now (second .exit))) (now (port .exit)) (now (memory .entry)) ≡ bindCall (now (port .entry)) (now (memory .entry)) stream (now (address .entry)) vid ⌝ }
+    ensures { λ r. ⌜ outcome (handed r (now (first .exit)) (now (second .exit))) (now (port .exit)) (now (memory .entry)) ≡ checked (λ p. bindRefusal p stream (now (address .entry)) vid) (λ p m. bindStep p m stream (now (address .entry)) vid) (now (port .entry)) (now (memory .entry)) ⌝ }
 {
     let reply = port::bind(port, memory, stream, address, vid);
     *first = reply.first;
@@ -142,7 +152,7 @@ pub extern "C" fn bunnysolder_frame(
     first: &mut u32,
     second: &mut u32,
 ) -> u8
-    ensures { λ r. ⌜ outcome (handed r (now (first .exit)) (now (second .exit))) (now (port .exit)) (now (memory .exit)) ≡ frameCall (now (port .entry)) (now (memory .entry)) (now (octets .entry)) tag ⌝ }
+    ensures { λ r. ⌜ outcome (handed r (now (first .exit)) (now (second .exit))) (now (port .exit)) (now (memory .exit)) ≡ checked (λ p. frameRefusal p (now (octets .entry))) (λ p m. frameStep p m (now (octets .entry)) tag) (now (port .entry)) (now (memory .entry)) ⌝ }
 {
     let reply = port::frame(port, memory, octets, tag);
     *first = reply.first;

@@ -1,8 +1,18 @@
 // The quick calls for a host in C or Rust that alone writes the record: nothing is scanned. On a fit record each equals the call of the same
 // name.
 ghost use mathlib.Core.Path.{_≡_};
+ghost use Rattle.steps.specs.Call.{terms};
 ghost use Rattle.steps.specs.Outcome.{outcome};
-ghost use Rattle.port.specs.Quick.{quickOpen, quickReserve, quickArrive, quickTick, quickTransmit, quickBestEffort, quickBind, quickFrame};
+ghost use Rattle.opening.specs.Opening.{openStep, reserveStep};
+ghost use Rattle.arriving.specs.Arriving.{arriveStep};
+ghost use Rattle.ticking.specs.Ticking.{tickStep};
+ghost use Rattle.sending.specs.Sending.{transmitStep};
+ghost use Rattle.best_effort.specs.BestEffort.{bestEffortStep};
+ghost use Rattle.binding.specs.Binding.{bindStep};
+ghost use Rattle.gates.specs.Refusals.{openRefusal, reserveRefusal, arriveRefusal, closedRefusal, bestEffortRefusal};
+ghost use Rattle.gates.specs.FrameRefusals.{bindRefusal, frameRefusal};
+ghost use Rattle.gates.specs.Becoming.{frameStep};
+ghost use Rattle.port.specs.Quick.{unscanned};
 ghost use Rattle.exports.specs.Handed.{handed};
 
 // Open(L, K); nothing is scanned.
@@ -15,7 +25,7 @@ pub extern "C" fn bunnysolder_open_unscanned(
     first: &mut u32,
     second: &mut u32,
 ) -> u8
-    ensures { λ r. ⌜ outcome (handed r (now (first .exit)) (now (second .exit))) (now (port .exit)) (now (memory .entry)) ≡ quickOpen (now (port .entry)) (now (memory .entry)) link delay ⌝ }
+    ensures { λ r. ⌜ outcome (handed r (now (first .exit)) (now (second .exit))) (now (port .exit)) (now (memory .entry)) ≡ unscanned (λ p. openRefusal p (terms link delay)) (λ p m. openStep p m (terms link delay)) (now (port .entry)) (now (memory .entry)) ⌝ }
 {
     let reply = port::quick::open_port(port, memory, link, delay);
     *first = reply.first;
@@ -33,7 +43,7 @@ pub extern "C" fn bunnysolder_reserve_unscanned(
     first: &mut u32,
     second: &mut u32,
 ) -> u8
-    ensures { λ r. ⌜ outcome (handed r (now (first .exit)) (now (second .exit))) (now (port .exit)) (now (memory .entry)) ≡ quickReserve (now (port .entry)) (now (memory .entry)) stream permitted ⌝ }
+    ensures { λ r. ⌜ outcome (handed r (now (first .exit)) (now (second .exit))) (now (port .exit)) (now (memory .entry)) ≡ unscanned (λ p. reserveRefusal p stream permitted) (λ p m. reserveStep p m stream permitted) (now (port .entry)) (now (memory .entry)) ⌝ }
 {
     let reply = port::quick::reserve(port, memory, stream, permitted);
     *first = reply.first;
@@ -52,7 +62,7 @@ pub extern "C" fn bunnysolder_arrive_unscanned(
     first: &mut u32,
     second: &mut u32,
 ) -> u8
-    ensures { λ r. ⌜ outcome (handed r (now (first .exit)) (now (second .exit))) (now (port .exit)) (now (memory .exit)) ≡ quickArrive (now (port .entry)) (now (memory .entry)) stream charge tag ⌝ }
+    ensures { λ r. ⌜ outcome (handed r (now (first .exit)) (now (second .exit))) (now (port .exit)) (now (memory .exit)) ≡ unscanned (λ p. arriveRefusal p stream charge) (λ p m. arriveStep p m stream charge tag) (now (port .entry)) (now (memory .entry)) ⌝ }
 {
     let reply = port::quick::arrive(port, memory, stream, charge, tag);
     *first = reply.first;
@@ -68,7 +78,7 @@ pub extern "C" fn bunnysolder_tick_unscanned(
     first: &mut u32,
     second: &mut u32,
 ) -> u8
-    ensures { λ r. ⌜ outcome (handed r (now (first .exit)) (now (second .exit))) (now (port .exit)) (now (memory .entry)) ≡ quickTick (now (port .entry)) (now (memory .entry)) ⌝ }
+    ensures { λ r. ⌜ outcome (handed r (now (first .exit)) (now (second .exit))) (now (port .exit)) (now (memory .entry)) ≡ unscanned closedRefusal tickStep (now (port .entry)) (now (memory .entry)) ⌝ }
 {
     let reply = port::quick::tick(port, memory);
     *first = reply.first;
@@ -84,7 +94,7 @@ pub extern "C" fn bunnysolder_transmit_unscanned(
     first: &mut u32,
     second: &mut u32,
 ) -> u8
-    ensures { λ r. ⌜ outcome (handed r (now (first .exit)) (now (second .exit))) (now (port .exit)) (now (memory .entry)) ≡ quickTransmit (now (port .entry)) (now (memory .entry)) ⌝ }
+    ensures { λ r. ⌜ outcome (handed r (now (first .exit)) (now (second .exit))) (now (port .exit)) (now (memory .entry)) ≡ unscanned closedRefusal transmitStep (now (port .entry)) (now (memory .entry)) ⌝ }
 {
     let reply = port::quick::transmit(port, memory);
     *first = reply.first;
@@ -102,7 +112,7 @@ pub extern "C" fn bunnysolder_best_effort_unscanned(
     first: &mut u32,
     second: &mut u32,
 ) -> u8
-    ensures { λ r. ⌜ outcome (handed r (now (first .exit)) (now (second .exit))) (now (port .exit)) (now (memory .exit)) ≡ quickBestEffort (now (port .entry)) (now (memory .entry)) charge tag ⌝ }
+    ensures { λ r. ⌜ outcome (handed r (now (first .exit)) (now (second .exit))) (now (port .exit)) (now (memory .exit)) ≡ unscanned (λ p. bestEffortRefusal p charge) (λ p m. bestEffortStep p m charge tag) (now (port .entry)) (now (memory .entry)) ⌝ }
 {
     let reply = port::quick::best_effort(port, memory, charge, tag);
     *first = reply.first;
@@ -121,7 +131,7 @@ pub extern "C" fn bunnysolder_bind_unscanned(
     first: &mut u32,
     second: &mut u32,
 ) -> u8
-    ensures { λ r. ⌜ outcome (handed r (now (first .exit)) (now (second .exit))) (now (port .exit)) (now (memory .entry)) ≡ quickBind (now (port .entry)) (now (memory .entry)) stream (now (address .entry)) vid ⌝ }
+    ensures { λ r. ⌜ outcome (handed r (now (first .exit)) (now (second .exit))) (now (port .exit)) (now (memory .entry)) ≡ unscanned (λ p. bindRefusal p stream (now (address .entry)) vid) (λ p m. bindStep p m stream (now (address .entry)) vid) (now (port .entry)) (now (memory .entry)) ⌝ }
 {
     let reply = port::quick::bind(port, memory, stream, address, vid);
     *first = reply.first;
@@ -139,7 +149,7 @@ pub extern "C" fn bunnysolder_frame_unscanned(
     first: &mut u32,
     second: &mut u32,
 ) -> u8
-    ensures { λ r. ⌜ outcome (handed r (now (first .exit)) (now (second .exit))) (now (port .exit)) (now (memory .exit)) ≡ quickFrame (now (port .entry)) (now (memory .entry)) (now (octets .entry)) tag ⌝ }
+    ensures { λ r. ⌜ outcome (handed r (now (first .exit)) (now (second .exit))) (now (port .exit)) (now (memory .exit)) ≡ unscanned (λ p. frameRefusal p (now (octets .entry))) (λ p m. frameStep p m (now (octets .entry)) tag) (now (port .entry)) (now (memory .entry)) ⌝ }
 {
     let reply = port::quick::frame(port, memory, octets, tag);
     *first = reply.first;

@@ -3,7 +3,8 @@ use borrow.Author.Needs.{needs}
 use mathlib.Core.Path.{_∙_, _≡_, ap, sym}
 use borrow.Author.Tests.{eq-eqb, ne-eqb}
 use Rattle.capture.specs.Events.{callOf}
-use Rattle.port_laws.specs.Lists.{Call, arriving, joiningBestEffort, opening, quicklyCalled, reserving, ticking, transmitting}
+use Rattle.steps.specs.Call.{terms, Call, arriving, joiningBestEffort, opening, reserving, ticking, transmitting}
+use Rattle.port.specs.Quick.{quicklyCalled}
 use Rattle.capture.proofs.events.call.Statement.{statement}
 use Rattle.capture.proofs.events.call.Tie as tie
 
@@ -19,7 +20,7 @@ same-length-2 c = search needs
 returns : tie.Need-returns
 returns c =
     let g = c .before .before .before .before .before .before .before .before .args in
-    let e : callOf (g .kind) (g .stream) (g .a) (g .b) ≡ opening (g .a) (g .b) = simp (eq-eqb _ _ (c .before .before .before .before .before .if1 .taken)) in
+    let e : callOf (g .kind) (g .stream) (g .a) (g .b) ≡ opening (terms (g .a) (g .b)) = simp (eq-eqb _ _ (c .before .before .before .before .before .if1 .taken)) in
     c .before .before .open-port .ensures ∙ ap (λ (x : Call). quicklyCalled x (g .port .now) (g .memory .now)) (sym e)
 
 reserve-requires : tie.Need-reserve-requires

@@ -2,7 +2,8 @@
 use borrow.Author.Needs.{needs}
 use mathlib.Core.Path.{_∙_, _≡_, ap, refl}
 use Rattle.capture.specs.Events.{callAt, callOf}
-use Rattle.port_laws.specs.Lists.{Call, quicklyCalled}
+use Rattle.steps.specs.Call.{Call}
+use Rattle.port.specs.Quick.{quicklyCalled}
 use Rattle.capture.proofs.events.play.Statement.{statement}
 use Rattle.capture.proofs.events.play.Tie as tie
 
