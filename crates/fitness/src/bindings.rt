@@ -7,7 +7,8 @@ ghost use lib.ListN.{length, getD, set};
 ghost use lib.Dec.{eqb};
 ghost use Rattle.lists.specs.Turns.{allTo};
 ghost use Rattle.record.specs.Layout.{Whole, streamCount};
-ghost use Rattle.record.specs.Entry.{boundAt, pairAt};
+ghost use Rattle.record.specs.Entry.{boundAt};
+ghost use Rattle.record.specs.PairNumber.{pairAt};
 ghost use Rattle.fitness.specs.Clauses.{bindingFits, bindingsFit};
 
 // Whether none of the first `count` pairs is this one.
