@@ -13,7 +13,7 @@ use Rattle.binding.specs.declared.Lookup.the-variants.{Bound, Unbound}
 abbrev pub boundTo : List ℕ → List ℕ → ℕ → ℕ → Bool
 boundTo p address vid s = boundAt p s && samePair (vidAt p s) (addressAt p s) vid (get address 0 addressLength)
 
--- the first of the n streams from s on that a test is true of, if it is of one
+-- the first of the n streams from s on of which the test is true, if there is one
 unfoldable pub lookupFrom : (ℕ → Bool) → ℕ → ℕ → Lookup
 lookupFrom f s zero = Unbound
 lookupFrom f s (suc n) = cond (f s) (Bound s) (lookupFrom f (s + 1) n)

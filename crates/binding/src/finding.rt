@@ -8,7 +8,7 @@ ghost use Rattle.header.specs.Header.{headerLength};
 ghost use Rattle.binding.specs.Finding.{lookupFrom, lookup, frameLookup};
 ghost use Rattle.binding.specs.ByNumber.{numberBound};
 
-// Whether the stream is bound to the pair.
+// Whether the stream is bound to the pair of this number.
 fn is_bound_to(port: &[u8], pair: u64, stream: u8) -> bool
     requires { ⌜ Whole (now port) × (stream < streamCount) ⌝ }
     ensures { λ r. ⌜ r ≡ numberBound (now (port .entry)) pair stream ⌝ }
@@ -19,7 +19,7 @@ fn is_bound_to(port: &[u8], pair: u64, stream: u8) -> bool
     record::entry::pair(port, stream) == pair
 }
 
-// The stream that is bound to the pair.
+// The stream that is bound to the pair of this number.
 fn of_number(port: &[u8], pair: u64) -> Lookup
     requires { ⌜ Whole (now port) ⌝ }
     ensures { λ r. ⌜ r ≡ lookupFrom (numberBound (now (port .entry)) pair) 0 streamCount ⌝ }

@@ -1,5 +1,5 @@
-// The clause of 19 on the bindings. The pairs of the bound streams are gathered as the scan goes, and each binding is compared with those
-// gathered before it, so that nothing of an unbound stream is read but that it is unbound.
+// The clause of 19 on the bindings. The pairs of the bound streams are gathered, by their numbers, as the scan goes, and each binding is compared with
+// those gathered before it, so that nothing of an unbound stream is read but that it is unbound.
 ghost use mathlib.Core.Path.{_≡_};
 ghost use mathlib.Core.Bool.{not, cond};
 ghost use Prim.Native.Nat.{_+_, _≤_, _<_};
