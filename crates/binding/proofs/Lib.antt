@@ -1,2 +1,3 @@
 -- The laws of the lookup, cited by the crates above.
 pub mod FindingLaws
+pub mod FindingExamples

@@ -2,25 +2,25 @@
 use Prim.Native.Nat.{ℕ, zero, suc, _+_}
 use mathlib.Core.Bool.{Bool, true, false, _&&_, cond}
 use mathlib.Core.List.{List}
-use lib.Dec.{eqb}
-use Rattle.record.specs.Layout.{streamCount}
-use Rattle.record.specs.Entry.{boundAt, pairAt, pairOf}
+use Rattle.lists.specs.Window.{get}
+use Rattle.record.specs.Layout.{streamCount, addressLength}
+use Rattle.record.specs.Entry.{boundAt, vidAt, addressAt, samePair}
 use Rattle.header.specs.Header.{taggedFrame, vidOf}
 use Rattle.binding.specs.declared.Lookup.{Lookup}
 use Rattle.binding.specs.declared.Lookup.the-variants.{Bound, Unbound}
 
--- whether stream s is bound to the pair of this number; VID and address are both equal where the numbers are (`pair-same`)
-abbrev pub boundTo : List ℕ → ℕ → ℕ → Bool
-boundTo p pair s = boundAt p s && eqb (pairAt p s) pair
+-- whether stream s is bound to an address, the first six of these octets, and a VID: "address and VID are both equal"
+abbrev pub boundTo : List ℕ → List ℕ → ℕ → ℕ → Bool
+boundTo p address vid s = boundAt p s && samePair (vidAt p s) (addressAt p s) vid (get address 0 addressLength)
 
--- the first of the n streams from s on that is bound to it, if one is
-unfoldable pub lookupFrom : List ℕ → ℕ → ℕ → ℕ → Lookup
-lookupFrom p pair s zero = Unbound
-lookupFrom p pair s (suc n) = cond (boundTo p pair s) (Bound s) (lookupFrom p pair (s + 1) n)
+-- the first of the n streams from s on of which the test is true, if there is one
+unfoldable pub lookupFrom : (ℕ → Bool) → ℕ → ℕ → Lookup
+lookupFrom f s zero = Unbound
+lookupFrom f s (suc n) = cond (f s) (Bound s) (lookupFrom f (s + 1) n)
 
--- the stream that is bound to an address, the first six of these octets, and a VID, if one is
+-- the stream that is bound to an address and a VID, if one is
 unfoldable pub lookup : List ℕ → List ℕ → ℕ → Lookup
-lookup p address vid = lookupFrom p (pairOf address vid) 0 streamCount
+lookup p address vid = lookupFrom (boundTo p address vid) 0 streamCount
 
 -- whether there is one
 abbrev pub isBound : Lookup → Bool

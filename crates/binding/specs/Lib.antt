@@ -1,3 +1,4 @@
 -- Bind, and the lookup of a pair among the bindings.
 pub mod Binding
 pub mod Finding
+pub mod ByNumber

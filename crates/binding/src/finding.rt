@@ -5,12 +5,13 @@ ghost use Prim.Native.Nat.{_≤_, _<_};
 ghost use lib.ListN.{length};
 ghost use Rattle.record.specs.Layout.{Whole, streamCount, addressLength};
 ghost use Rattle.header.specs.Header.{headerLength};
-ghost use Rattle.binding.specs.Finding.{boundTo, lookupFrom, lookup, frameLookup};
+ghost use Rattle.binding.specs.Finding.{lookupFrom, lookup, frameLookup};
+ghost use Rattle.binding.specs.ByNumber.{numberBound};
 
-// Whether the stream is bound to the pair.
+// Whether the stream is bound to the pair of this number.
 fn is_bound_to(port: &[u8], pair: u64, stream: u8) -> bool
     requires { ⌜ Whole (now port) × (stream < streamCount) ⌝ }
-    ensures { λ r. ⌜ r ≡ boundTo (now (port .entry)) pair stream ⌝ }
+    ensures { λ r. ⌜ r ≡ numberBound (now (port .entry)) pair stream ⌝ }
 {
     if !record::entry::is_bound(port, stream) {
         return false;
@@ -18,10 +19,10 @@ fn is_bound_to(port: &[u8], pair: u64, stream: u8) -> bool
     record::entry::pair(port, stream) == pair
 }
 
-// The stream that is bound to the pair.
+// The stream that is bound to the pair of this number.
 fn of_number(port: &[u8], pair: u64) -> Lookup
     requires { ⌜ Whole (now port) ⌝ }
-    ensures { λ r. ⌜ r ≡ lookupFrom (now (port .entry)) pair 0 streamCount ⌝ }
+    ensures { λ r. ⌜ r ≡ lookupFrom (numberBound (now (port .entry)) pair) 0 streamCount ⌝ }
 {
     let mut s: u8 = 0;
     while s < record::STREAMS {

@@ -2,3 +2,4 @@
 mod GatherLaws
 pub mod TestLaws
 pub mod FitLaws
+pub mod RepeatExamples

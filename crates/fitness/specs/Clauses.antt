@@ -12,7 +12,7 @@ use Rattle.queue.specs.Ring.{placeCount}
 use Rattle.queue.specs.Waiting.{waiting, chargesOf}
 use Rattle.record.specs.Layout.{queueCount, bestEffort, allQueues, streamCount}
 use Rattle.record.specs.Head.{openAt, priorAt, delayAt, linkAt, waitsAt, queueAt}
-use Rattle.record.specs.Entry.{streamAt, boundAt, vidAt, pairAt}
+use Rattle.record.specs.Entry.{streamAt, boundAt, vidAt, addressAt, samePair}
 use Rattle.ranges.specs.Ranges.{within, chargeFits, shareOf, linkFits, delayFits, permittedFits, vidFits}
 
 -- "prior above 3"
@@ -33,13 +33,13 @@ streamFits s = cond (s .reserved) (within currentPlace lastPlace (s .place) && l
 abbrev pub streamsFit : List ℕ → Bool
 streamsFit p = allTo (λ s. streamFits (streamAt p s)) streamCount
 
--- "a binding that repeats, belongs to an unreserved stream or has a VID outside 1 to 4,094"; `unlike` says whether its pair is another than that
--- of each binding before it. VID and address are both equal where the pairs' numbers are (`eight-same`)
+-- "a binding that repeats, belongs to an unreserved stream or has a VID outside 1 to 4,094"; `unlike` says that it repeats none before it
 abbrev pub bindingFits : List ℕ → ℕ → Bool → Bool
 bindingFits p s unlike = cond (boundAt p s) (streamAt p s .reserved && vidFits (vidAt p s) && unlike) true
 
+-- "A binding repeats if address and VID are both equal on two streams": those of s are not those of a bound stream before it
 abbrev pub unlikeEarlier : List ℕ → ℕ → Bool
-unlikeEarlier p s = allTo (λ t. cond (boundAt p t) (not (eqb (pairAt p t) (pairAt p s))) true) s
+unlikeEarlier p s = allTo (λ t. cond (boundAt p t) (not (samePair (vidAt p t) (addressAt p t) (vidAt p s) (addressAt p s))) true) s
 
 abbrev pub bindingsFit : List ℕ → Bool
 bindingsFit p = allTo (λ s. bindingFits p s (unlikeEarlier p s)) streamCount

@@ -1,5 +1,5 @@
-// The clause of 19 on the bindings. The pairs of the bound streams are gathered as the scan goes, and each binding is compared with those
-// gathered before it, so that nothing of an unbound stream is read but that it is unbound.
+// The clause of 19 on the bindings. The pairs of the bound streams are gathered, by their numbers, as the scan goes, and each binding is compared with
+// those gathered before it, so that nothing of an unbound stream is read but that it is unbound.
 ghost use mathlib.Core.Path.{_≡_};
 ghost use mathlib.Core.Bool.{not, cond};
 ghost use Prim.Native.Nat.{_+_, _≤_, _<_};
@@ -7,7 +7,8 @@ ghost use lib.ListN.{length, getD, set};
 ghost use lib.Dec.{eqb};
 ghost use Rattle.lists.specs.Turns.{allTo};
 ghost use Rattle.record.specs.Layout.{Whole, streamCount};
-ghost use Rattle.record.specs.Entry.{boundAt, pairAt};
+ghost use Rattle.record.specs.Entry.{boundAt};
+ghost use Rattle.record.specs.PairNumber.{pairAt};
 ghost use Rattle.fitness.specs.Clauses.{bindingFits, bindingsFit};
 
 // Whether none of the first `count` pairs is this one.

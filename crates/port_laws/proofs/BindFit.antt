@@ -5,13 +5,13 @@ use mathlib.Core.Bool.{Bool, true, false, not, _&&_, cond}
 use mathlib.Core.Logic.{⊎-elim}
 use mathlib.Core.List.{List}
 use native.Mathlib.Omega.{arith}
-use lib.Dec.{eqb}
-use borrow.Author.Tests.{eqb-false, ne-eqb}
+use Rattle.lists.specs.Window.{get}
 use Rattle.lists.proofs.Order.{eq-or-not}
 use Rattle.lists.proofs.TurnLaws.{both, allTo-at, allTo-all}
-use Rattle.record.specs.Layout.{bestEffort, streamCount}
-use Rattle.record.specs.Entry.{streamAt, boundAt, vidAt, pairAt, pairOf, withBinding}
-use Rattle.record.proofs.BindingPairs.{length-binding, open-binding, prior-binding, delay-binding, link-binding, waits-binding, queue-binding, stream-binding, bound-binding, vid-binding, pair-binding, other-bound-binding, other-vid-binding, other-pair-binding}
+use Rattle.record.specs.Layout.{bestEffort, streamCount, addressLength}
+use Rattle.record.specs.Entry.{streamAt, boundAt, vidAt, addressAt, samePair, withBinding}
+use Rattle.record.proofs.BindingPairs.{length-binding, open-binding, prior-binding, delay-binding, link-binding, waits-binding, queue-binding, stream-binding, bound-binding, vid-binding, address-binding, other-bound-binding, other-vid-binding, other-address-binding}
+use Rattle.record.proofs.PairLaws.{pair-back}
 use Rattle.ranges.specs.Ranges.{vidFits}
 use Rattle.fitness.specs.Clauses.{bindingFits, unlikeEarlier}
 use Rattle.fitness.specs.Fit.{recordFits}
@@ -21,13 +21,9 @@ use Rattle.binding.proofs.FindingLaws.{free-pair}
 use Rattle.port_laws.proofs.WriteFit.{plan-stays, same-stream}
 
 -- a stream that is not bound to a pair is unbound, or bound to another
-another : (bound : Bool) (x y : ℕ) → (bound && eqb x y) ≡ false → cond bound (not (eqb x y)) true ≡ true
-another true x y e = ap not e
-another false x y e = refl
-
--- the same, of a stream that is bound
-another-back : (x y : ℕ) → eqb x y ≡ false → not (eqb y x) ≡ true
-another-back x y e = ap not (ne-eqb y x (λ s. eqb-false x y e (sym s)))
+another : (bound same : Bool) → (bound && same) ≡ false → cond bound (not same) true ≡ true
+another true same e = ap not e
+another false same e = refl
 
 -- a binding is fit where its stream is not bound, and where it is and fits
 if-bound : (bound reserved vid unlike : Bool) → (bound ≡ true → (reserved && vid && unlike) ≡ true) → cond bound (reserved && vid && unlike) true ≡ true
@@ -41,24 +37,28 @@ module _ (p m : List ℕ) (fit : Fit p m) (s : ℕ) (address : List ℕ) (vid : 
   -- the new binding's pair is another than that of each before it
   new-unlike : unlikeEarlier after s ≡ true
   new-unlike =
-      allTo-all (λ t. cond (boundAt after t) (not (eqb (pairAt after t) (pairAt after s))) true) s
+      allTo-all (λ t. cond (boundAt after t) (not (samePair (vidAt after t) (addressAt after t) (vidAt after s) (addressAt after s))) true) s
       (λ t b.
-      rw (other-bound-binding p s address vid t (λ e. omega arith), other-pair-binding p s address vid t (λ e. omega arith), pair-binding p s address vid (fit .long) below)
-      (another (boundAt p t) (pairAt p t) (pairOf address vid) (free-pair p address vid free t (omega arith))))
+      let o : t ≡ s → ⊥ = λ e. omega arith in
+      rw (other-bound-binding p s address vid t o, other-vid-binding p s address vid t o, other-address-binding p s address vid t o, vid-binding p s address vid (fit .long) below, address-binding p s address vid (fit .long) below)
+      (another (boundAt p t) (samePair (vidAt p t) (addressAt p t) vid (get address 0 addressLength)) (free-pair p address vid free t (omega arith))))
 
   -- and that of each other binding is another than the new one's, and than those that it was before
   other-unlike : (t : ℕ) → t < streamCount → (t ≡ s → ⊥) → boundAt p t ≡ true → unlikeEarlier p t ≡ true → unlikeEarlier after t ≡ true
   other-unlike t b other bound unlike =
-      allTo-all (λ u. cond (boundAt after u) (not (eqb (pairAt after u) (pairAt after t))) true) t
+      allTo-all (λ u. cond (boundAt after u) (not (samePair (vidAt after u) (addressAt after u) (vidAt after t) (addressAt after t))) true) t
       (λ u c.
-      ⊎-elim
+      rw (other-vid-binding p s address vid t other, other-address-binding p s address vid t other)
+      (⊎-elim
       (λ (e : u ≡ s).
-      rw (e, bound-binding p s address vid (fit .long) below, pair-binding p s address vid (fit .long) below, other-pair-binding p s address vid t other)
-      (another-back (pairAt p t) (pairOf address vid) (sym (ap (λ (x : Bool). x && eqb (pairAt p t) (pairOf address vid)) bound) ∙ free-pair p address vid free t b)))
+      let differ : samePair (vidAt p t) (addressAt p t) vid (get address 0 addressLength) ≡ false =
+      sym (ap (λ (x : Bool). x && samePair (vidAt p t) (addressAt p t) vid (get address 0 addressLength)) bound) ∙ free-pair p address vid free t b in
+      rw (e, bound-binding p s address vid (fit .long) below, vid-binding p s address vid (fit .long) below, address-binding p s address vid (fit .long) below)
+      (ap not (pair-back vid (get address 0 addressLength) (vidAt p t) (addressAt p t) ∙ differ)))
       (λ (o : u ≡ s → ⊥).
-      rw (other-bound-binding p s address vid u o, other-pair-binding p s address vid u o, other-pair-binding p s address vid t other)
-      (allTo-at (λ i. cond (boundAt p i) (not (eqb (pairAt p i) (pairAt p t))) true) t u c unlike))
-      (eq-or-not u s))
+      rw (other-bound-binding p s address vid u o, other-vid-binding p s address vid u o, other-address-binding p s address vid u o)
+      (allTo-at (λ i. cond (boundAt p i) (not (samePair (vidAt p i) (addressAt p i) (vidAt p t) (addressAt p t))) true) t u c unlike))
+      (eq-or-not u s)))
 
   new-fits : streamAt p s .reserved ≡ true → vidFits vid ≡ true → bindingFits after s (unlikeEarlier after s) ≡ true
   new-fits reserved range =

@@ -3,13 +3,13 @@ use mathlib.Core.Path.{_≡_, refl}
 use mathlib.Core.List.{map}
 use Rattle.port_laws.specs.Cases.{cases, repliesTo}
 use Rattle.lists.specs.Turns.{allTo, sumTo, listTo, iterate}
-use Rattle.octets.specs.Numbers.{twoOf, fourOf, eightOf}
+use Rattle.octets.specs.Numbers.{twoOf, fourOf}
 use Rattle.stream.specs.Steps.{attempt, arriveOf, tickOf}
 use Rattle.queue.specs.Place.{frameAt, withFrame}
 use Rattle.queue.specs.Ring.{joinedMemory, frontOf}
 use Rattle.queue.specs.Waiting.{waiting}
 use Rattle.record.specs.Head.{openAt, withOpen, priorAt, withPrior, delayAt, withDelay, linkAt, withLink, waitsAt, withWaits, queueAt, withQueue}
-use Rattle.record.specs.Entry.{streamAt, withStream, withPlace, boundAt, vidAt, pairAt, dropped}
+use Rattle.record.specs.Entry.{streamAt, withStream, withPlace, boundAt, vidAt, dropped}
 use Rattle.fitness.specs.Fit.{recordFits, lentRefusal}
 use Rattle.steps.specs.Roles.{roleAt}
 use Rattle.opening.specs.Opening.{openedRecord}
@@ -20,5 +20,5 @@ use Rattle.best_effort.specs.BestEffort.{bestEffortStep}
 use Rattle.gates.specs.Refusals.{openRefusal, reserveRefusal, arriveRefusal, closedRefusal, bestEffortRefusal}
 
 pub cases-hold : map repliesTo cases ≡ map (λ c. c .expected) cases
-unfolding allTo sumTo listTo iterate twoOf fourOf eightOf attempt arriveOf tickOf frameAt withFrame joinedMemory frontOf waiting openAt withOpen priorAt withPrior delayAt withDelay linkAt withLink waitsAt withWaits queueAt withQueue streamAt withStream withPlace boundAt vidAt pairAt dropped recordFits lentRefusal roleAt openedRecord arriveStep tickedRecord tickStep transmitStep bestEffortStep openRefusal reserveRefusal arriveRefusal closedRefusal bestEffortRefusal
+unfolding allTo sumTo listTo iterate twoOf fourOf attempt arriveOf tickOf frameAt withFrame joinedMemory frontOf waiting openAt withOpen priorAt withPrior delayAt withDelay linkAt withLink waitsAt withWaits queueAt withQueue streamAt withStream withPlace boundAt vidAt dropped recordFits lentRefusal roleAt openedRecord arriveStep tickedRecord tickStep transmitStep bestEffortStep openRefusal reserveRefusal arriveRefusal closedRefusal bestEffortRefusal
 cases-hold = refl

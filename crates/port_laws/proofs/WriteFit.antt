@@ -41,8 +41,8 @@ module _ (p k m : List ℕ) (fit : Fit p m) (keeps : Keeps p k) where
   pub bindings-stay : ((s : ℕ) → s < streamCount → streamAt p s .reserved ≡ true → streamAt k s .reserved ≡ true)
       → (s : ℕ) → s < streamCount → bindingFits k s (unlikeEarlier k s) ≡ true
   bindings-stay still s b =
-      let unlike : unlikeEarlier k s ≡ unlikeEarlier p s = allTo-same _ _ s (λ t c. rw (keeps .bound t, keeps .pair t, keeps .pair s)) in
-      rw (keeps .bound s, keeps .vid s, unlike)
+      let unlike : unlikeEarlier k s ≡ unlikeEarlier p s = allTo-same _ _ s (λ t c. rw (keeps .bound t, keeps .vid t, keeps .address t, keeps .vid s, keeps .address s)) in
+      rw (unlike, keeps .bound s, keeps .vid s)
       (bound-still (boundAt p s) (streamAt p s .reserved) (streamAt k s .reserved) (vidFits (vidAt p s)) (unlikeEarlier p s) (still s b) (fit .bindings s b))
 
 -- the tests of a queue and its frames

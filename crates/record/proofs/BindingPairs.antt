@@ -7,11 +7,11 @@ use native.Mathlib.Omega.{arith}
 use lib.ListN.{length}
 use Rattle.lists.specs.Window.{get}
 use Rattle.lists.proofs.WindowLaws.{length-put, get-apart, get-put, get-get}
-use Rattle.octets.specs.Numbers.{twoOf, fourOf, eightOf}
+use Rattle.octets.specs.Numbers.{twoOf, fourOf}
 use Rattle.octets.proofs.NumberLaws.{two-octets}
 use Rattle.record.specs.Layout.{Whole, streamCount, headLength, openOffset, priorOffset, delayOffset, linkOffset, waitsOffset, queueOffset, queueLength, queueRoom, entryOffset, streamLength, boundOffset, pairOffset, addressOffset, addressLength}
 use Rattle.record.specs.Head.{octetOf, markOf, openAt, priorAt, delayAt, linkAt, waitsAt, queueOf, queueAt}
-use Rattle.record.specs.Entry.{streamOf, streamAt, boundAt, vidAt, addressAt, pairAt, pairOctets, pairOf, withBinding}
+use Rattle.record.specs.Entry.{streamOf, streamAt, boundAt, vidAt, addressAt, pairOctets, withBinding}
 
 module _ (l : List ℕ) (s : ℕ) (address : List ℕ) (vid : ℕ) where
   pub length-binding : length (withBinding l s address vid) ≡ length l
@@ -78,10 +78,6 @@ module _ (l : List ℕ) (s : ℕ) (address : List ℕ) (vid : ℕ) where
   unfolding addressAt
   address-binding h b = part-binding (entryOffset s + addressOffset) 3 addressLength h b (omega arith) (omega arith)
 
-  pub pair-binding : Whole l → s < streamCount → pairAt (withBinding l s address vid) s ≡ pairOf address vid
-  unfolding pairAt pairOf
-  pair-binding h b = ap eightOf (part-binding (entryOffset s + pairOffset) 1 8 h b (omega arith) (omega arith))
-
   -- and the others are as they were
   other-binding : (t i n : ℕ) → (t ≡ s → ⊥) → entryOffset t + boundOffset ≤ i → i + n ≤ entryOffset (t + 1) → get (withBinding l s address vid) i n ≡ get l i n
   unfolding withBinding
@@ -96,6 +92,6 @@ module _ (l : List ℕ) (s : ℕ) (address : List ℕ) (vid : ℕ) where
   unfolding vidAt
   other-vid-binding t other = ap twoOf (other-binding t (entryOffset t + pairOffset) 2 other (omega arith) (omega arith))
 
-  pub other-pair-binding : (t : ℕ) → (t ≡ s → ⊥) → pairAt (withBinding l s address vid) t ≡ pairAt l t
-  unfolding pairAt
-  other-pair-binding t other = ap eightOf (other-binding t (entryOffset t + pairOffset) 8 other (omega arith) (omega arith))
+  pub other-address-binding : (t : ℕ) → (t ≡ s → ⊥) → addressAt (withBinding l s address vid) t ≡ addressAt l t
+  unfolding addressAt
+  other-address-binding t other = other-binding t (entryOffset t + addressOffset) addressLength other (omega arith) (omega arith)

@@ -6,12 +6,12 @@ use native.Mathlib.Omega.{arith}
 use lib.ListN.{length}
 use Rattle.lists.specs.Window.{put, Apart}
 use Rattle.lists.proofs.WindowLaws.{length-put, get-apart}
-use Rattle.octets.specs.Numbers.{twoOf, eightOf, fourOctets}
+use Rattle.octets.specs.Numbers.{twoOf, fourOctets}
 use Rattle.stream.specs.declared.Stream.{Stream}
 use Rattle.queue.specs.declared.Queue.{Queue}
-use Rattle.record.specs.Layout.{openOffset, priorOffset, delayOffset, linkOffset, waitsOffset, queueOffset, queueRoom, entryOffset, entryLength, placeOffset, boundOffset, pairOffset}
+use Rattle.record.specs.Layout.{openOffset, priorOffset, delayOffset, linkOffset, waitsOffset, queueOffset, queueRoom, entryOffset, entryLength, placeOffset, boundOffset, pairOffset, addressOffset, addressLength}
 use Rattle.record.specs.Head.{octetOf, markOf, openAt, withPrior, delayAt, linkAt, withWaits, queueOctets, withQueue}
-use Rattle.record.specs.Entry.{placeOctets, streamOctets, withStream, withPlace, boundAt, vidAt, pairAt}
+use Rattle.record.specs.Entry.{placeOctets, streamOctets, withStream, withPlace, boundAt, vidAt, addressAt}
 
 -- record k has these as record l has them
 pub record Keeps (l k : List ℕ) : Type 0 where
@@ -21,11 +21,11 @@ pub record Keeps (l k : List ℕ) : Type 0 where
   pub link : linkAt k ≡ linkAt l
   pub bound : (s : ℕ) → boundAt k s ≡ boundAt l s
   pub vid : (s : ℕ) → vidAt k s ≡ vidAt l s
-  pub pair : (s : ℕ) → pairAt k s ≡ pairAt l s
+  pub address : (s : ℕ) → addressAt k s ≡ addressAt l s
 
 -- no change at all
 pub keeps-same : (l : List ℕ) → Keeps l l
-keeps-same l = record { long = refl; opened = refl; delay = refl; link = refl; bound = λ s. refl; vid = λ s. refl; pair = λ s. refl }
+keeps-same l = record { long = refl; opened = refl; delay = refl; link = refl; bound = λ s. refl; vid = λ s. refl; address = λ s. refl }
 
 -- one change after another
 pub keeps-both : (j k l : List ℕ) → Keeps j k → Keeps k l → Keeps j l
@@ -37,7 +37,7 @@ keeps-both j k l a b =
       link = b .link ∙ a .link;
       bound = λ s. b .bound s ∙ a .bound s;
       vid = λ s. b .vid s ∙ a .vid s;
-      pair = λ s. b .pair s ∙ a .pair s;
+      address = λ s. b .address s ∙ a .address s;
     }
 
 -- octets written apart from all of these keep them
@@ -47,7 +47,7 @@ keeps-put : (l : List ℕ) (i : ℕ) (vs : List ℕ)
     → Apart linkOffset 2 i (length vs)
     → ((s : ℕ) → Apart (entryOffset s + boundOffset) (entryLength - boundOffset) i (length vs))
     → Keeps l (put l i vs)
-unfolding openAt delayAt linkAt boundAt vidAt pairAt
+unfolding openAt delayAt linkAt boundAt vidAt addressAt
 keeps-put l i vs opened delay link binding =
     record {
       long = length-put l i vs;
@@ -56,7 +56,7 @@ keeps-put l i vs opened delay link binding =
       link = ap twoOf (get-apart l i vs linkOffset 2 link);
       bound = λ s. ap markOf (get-apart l i vs (entryOffset s + boundOffset) 1 (λ k a b c d. binding s k a (omega arith) c d));
       vid = λ s. ap twoOf (get-apart l i vs (entryOffset s + pairOffset) 2 (λ k a b c d. binding s k (omega arith) (omega arith) c d));
-      pair = λ s. ap eightOf (get-apart l i vs (entryOffset s + pairOffset) 8 (λ k a b c d. binding s k (omega arith) (omega arith) c d));
+      address = λ s. get-apart l i vs (entryOffset s + addressOffset) addressLength (λ k a b c d. binding s k (omega arith) (omega arith) c d);
     }
 
 module _ (l : List ℕ) where

@@ -1,10 +1,12 @@
 -- The fields of a stream's entry in the record, each read and written: the stream's reservation, and its binding.
 use Prim.Native.Nat.{ℕ, _+_}
-use mathlib.Core.Bool.{Bool, cond}
+use mathlib.Core.Bool.{Bool, _&&_, cond}
 use mathlib.Core.List.{List, [], _∷_, _++_}
 use lib.ListN.{getD}
+use lib.Dec.{eqb}
 use Rattle.lists.specs.Window.{put, get}
-use Rattle.octets.specs.Numbers.{twoOf, twoOctets, eightOf}
+use Rattle.lists.specs.Equal.{octetsEqual}
+use Rattle.octets.specs.Numbers.{twoOf, twoOctets}
 use Rattle.stream.specs.declared.Stream.{Stream}
 use Rattle.record.specs.Layout.{entryOffset, placeOffset, leftOffset, permittedOffset, streamLength, boundOffset, pairOffset, addressOffset, addressLength}
 use Rattle.record.specs.Head.{markOf}
@@ -29,7 +31,7 @@ withStream l s x = put l (entryOffset s) (streamOctets x)
 unfoldable pub withPlace : List ℕ → ℕ → ℕ → ℕ → List ℕ
 withPlace l s place left = put l (entryOffset s + placeOffset) (placeOctets place left)
 
--- whether stream s is bound, the VID and the address of its binding, and the pair of both as one number of eight octets
+-- whether stream s is bound, and the VID and the address of its binding
 unfoldable pub boundAt : List ℕ → ℕ → Bool
 boundAt l s = markOf (get l (entryOffset s + boundOffset) 1)
 
@@ -39,15 +41,13 @@ vidAt l s = twoOf (get l (entryOffset s + pairOffset) 2)
 unfoldable pub addressAt : List ℕ → ℕ → List ℕ
 addressAt l s = get l (entryOffset s + addressOffset) addressLength
 
-unfoldable pub pairAt : List ℕ → ℕ → ℕ
-pairAt l s = eightOf (get l (entryOffset s + pairOffset) 8)
+-- whether two pairs of a VID and an address are one: "address and VID are both equal"
+abbrev pub samePair : ℕ → List ℕ → ℕ → List ℕ → Bool
+samePair vid address otherVid otherAddress = eqb vid otherVid && octetsEqual address otherAddress
 
--- the pair of an address, which is the first six of these octets, and a VID: its octets as an entry has them, and its number
+-- the pair of an address, which is the first six of these octets, and a VID, in octets as an entry has them
 abbrev pub pairOctets : List ℕ → ℕ → List ℕ
 pairOctets address vid = twoOctets vid ++ get address 0 addressLength
-
-unfoldable pub pairOf : List ℕ → ℕ → ℕ
-pairOf address vid = eightOf (pairOctets address vid)
 
 -- the record with stream s bound to the pair: marked so, with VID and address; nothing else of the stream is written
 unfoldable pub withBinding : List ℕ → ℕ → List ℕ → ℕ → List ℕ

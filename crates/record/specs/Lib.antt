@@ -2,3 +2,4 @@
 pub mod Layout
 pub mod Head
 pub mod Entry
+pub mod PairNumber

@@ -5,7 +5,8 @@ ghost use mathlib.Core.Bool.{cond};
 ghost use Prim.Native.Nat.{_≤_, _<_};
 ghost use lib.ListN.{length};
 ghost use Rattle.record.specs.Layout.{Whole, streamCount, entryOffset, addressLength};
-ghost use Rattle.record.specs.Entry.{streamAt, withStream, withPlace, boundAt, vidAt, pairAt, pairOf, withBinding, dropped};
+ghost use Rattle.record.specs.Entry.{streamAt, withStream, withPlace, boundAt, vidAt, withBinding, dropped};
+ghost use Rattle.record.specs.PairNumber.{pairAt, pairOf};
 
 // Where the entries begin, and the octets of one.
 pub(crate) const START: usize = 64;

@@ -1,11 +1,7 @@
--- `binding::finding::is_bound_to` meets its contract. Whether the stream is bound, then its pair. Assumes nothing.
+-- `binding::finding::is_bound_to` meets its contract. Whether the stream is bound, then its pair's number. Assumes nothing.
 use mathlib.Core.Bool.{true, false}
 use mathlib.Core.Path.{_≡_, sym, _∙_}
 use borrow.Author.Needs.{needs}
-use borrow.Author.Tests.{not-true, not-false}
-use Rattle.record.specs.Entry.{boundAt}
-use mathlib.Core.Bool.{true, false}
-use mathlib.Core.Path.{_≡_, sym, _∙_}
 use borrow.Author.Tests.{not-true, not-false}
 use Rattle.record.specs.Entry.{boundAt}
 use Rattle.binding.proofs.finding.is_bound_to.Statement.{statement}

@@ -5,12 +5,13 @@ use native.Mathlib.Omega.{arith}
 use borrow.Author.Needs.{needs}
 use Rattle.record.specs.Layout.{streamCount}
 use Rattle.binding.specs.Finding.{lookupFrom}
+use Rattle.binding.specs.ByNumber.{numberBound}
 use Rattle.binding.proofs.FindingLaws.{found-here, passed-over}
 use Rattle.binding.proofs.finding.of_number.Statement.{statement}
 use Rattle.binding.proofs.finding.of_number.Tie as tie
 
 abbrev Inv-loop : tie.InvT-loop
-Inv-loop port pair s₀ s = (s ≤ streamCount) × (lookupFrom port pair 0 streamCount ≡ lookupFrom port pair s (streamCount - s))
+Inv-loop port pair s₀ s = (s ≤ streamCount) × (lookupFrom (numberBound port pair) 0 streamCount ≡ lookupFrom (numberBound port pair) s (streamCount - s))
 
 abbrev μ-loop : tie.MeasureT-loop
 μ-loop port pair s₀ s = streamCount - s
@@ -25,7 +26,7 @@ returns : tie.Need-returns Inv-loop μ-loop
 returns c =
     let a = c .before .before .before .before .before .args in
     let l = c .before .before .before .loop in
-    sym (l .inv .1 ∙ found-here (a .port .now) (a .pair) (l .s) (c .before .before .loop-test .taken) (sym (c .before .is-bound-to .ensures) ∙ c .if1 .taken))
+    sym (l .inv .1 ∙ found-here (numberBound (a .port .now) (a .pair)) (l .s) (c .before .before .loop-test .taken) (sym (c .before .is-bound-to .ensures) ∙ c .if1 .taken))
 
 add-s : tie.Need-add-s Inv-loop μ-loop
 add-s c = search needs
@@ -37,7 +38,7 @@ loop-again : tie.Need-loop-again Inv-loop μ-loop
 loop-again c =
     let a = c .before .before .before .before .before .args in
     let l = c .before .before .before .loop in
-    (omega arith, l .inv .1 ∙ passed-over (a .port .now) (a .pair) (l .s) (c .before .before .loop-test .taken) (sym (c .before .is-bound-to .ensures) ∙ c .if1 .left))
+    (omega arith, l .inv .1 ∙ passed-over (numberBound (a .port .now) (a .pair)) (l .s) (c .before .before .loop-test .taken) (sym (c .before .is-bound-to .ensures) ∙ c .if1 .left))
 
 returns-2 : tie.Need-returns-2 Inv-loop μ-loop
 unfolding lookupFrom
@@ -45,7 +46,7 @@ returns-2 c =
     let a = c .before .before .before .args in
     let l = c .before .loop in
     let none : streamCount - l .s ≡ 0 = omega arith in
-    sym (l .inv .1 ∙ ap (lookupFrom (a .port .now) (a .pair) (l .s)) none)
+    sym (l .inv .1 ∙ ap (lookupFrom (numberBound (a .port .now) (a .pair)) (l .s)) none)
 
 pub of-number-spec : {M : Type 1} → statement M
 of-number-spec =

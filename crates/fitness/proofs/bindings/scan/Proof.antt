@@ -1,18 +1,18 @@
 -- `fitness::bindings::scan` meets its contract. The loop's invariant: what the turns done so far answer, and that the pairs of the bound streams passed are gathered. Assumes nothing.
 use Prim.Native.Nat.{_≤_, _-_, ℕ}
-use mathlib.Core.Bool.{not, _&&_}
+use mathlib.Core.Bool.{_&&_}
 use mathlib.Core.List.{List}
 use mathlib.Core.Path.{_≡_, refl, _∙_, ap, ap₂}
 use native.Mathlib.Numerals.{add-one}
 use native.Mathlib.Omega.{arith}
-use lib.Dec.{eqb}
 use lib.ListN.{length, getD}
 use borrow.Author.Needs.{needs}
 use Rattle.lists.specs.Turns.{allTo}
-use Rattle.record.specs.Entry.{boundAt, pairAt}
+use Rattle.octets.proofs.NumberLaws.{Octets}
+use Rattle.record.specs.Entry.{boundAt}
 use Rattle.record.specs.Layout.{streamCount}
 use Rattle.fitness.specs.Clauses.{bindingFits, unlikeEarlier}
-use Rattle.fitness.proofs.GatherLaws.{Gathered, gathers, at-most-one}
+use Rattle.fitness.proofs.GatherLaws.{Gathered, gathers, unlike-gathered, at-most-one}
 use Rattle.fitness.proofs.bindings.scan.Statement.{statement}
 use Rattle.fitness.proofs.bindings.scan.Tie as tie
 
@@ -46,6 +46,7 @@ unfolding allTo
 loop-again c =
     let p = c .before .before .before .before .before .before .before .before .before .before .before .args .port .now in
     let l = c .before .before .before .before .before .before .before .before .loop in
+    let octets : Octets p = λ k. omega (arith, c .before .before .before .before .before .before .before .before .before .before .shared-slice-known .given k) in
     let g = c .before .before .gather in (
       omega arith,
       (
@@ -53,7 +54,7 @@ loop-again c =
         (
           search needs,
           (
-            rw (add-one (l .s)) (c .before .before .before .before .both .ensures ∙ ap₂ _&&_ (c .before .before .before .before .before .binding-fits .ensures ∙ ap (bindingFits p (l .s)) (l .inv .1 .1 .1 .1 (λ x. not (eqb x (pairAt p (l .s)))))) (l .inv .1 .1 .1 .0)),
+            rw (add-one (l .s)) (c .before .before .before .before .both .ensures ∙ ap₂ _&&_ (c .before .before .before .before .before .binding-fits .ensures ∙ ap (bindingFits p (l .s)) (unlike-gathered p (l .pairs) (l .count) (l .s) octets (l .inv .1 .1 .1 .1))) (l .inv .1 .1 .1 .0)),
             λ h. ap₂ (λ (pairs : List ℕ) (count : ℕ). allTo (λ i. h (getD pairs i 0)) count) (g .ensures .1) (g .ensures .0) ∙ gathers p (l .pairs) (l .count) (l .s) (omega arith) (l .inv .1 .1 .1 .1) h,
           ),
         ),

@@ -4,7 +4,7 @@ use mathlib.Core.Path.{_∙_, ap}
 use borrow.Author.Needs.{needs}
 use Rattle.lists.specs.Window.{get}
 use Rattle.octets.specs.Numbers.{eightOf}
-use Rattle.record.specs.Entry.{pairAt}
+use Rattle.record.specs.PairNumber.{pairAt}
 use Rattle.record.specs.Layout.{pairOffset}
 use Rattle.record.proofs.entry.pair.Statement.{statement}
 use Rattle.record.proofs.entry.pair.Tie as tie

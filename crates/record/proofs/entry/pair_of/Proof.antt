@@ -1,6 +1,6 @@
 -- `record::entry::pair_of` meets its contract. The pair by its octets. Assumes nothing.
 use Rattle.octets.specs.Numbers.{twoOf, fourOf, eightOf}
-use Rattle.record.specs.Entry.{pairOf}
+use Rattle.record.specs.PairNumber.{pairOf}
 use borrow.Author.Needs.{needs}
 use Rattle.record.proofs.entry.pair_of.Statement.{statement}
 use Rattle.record.proofs.entry.pair_of.Tie as tie
