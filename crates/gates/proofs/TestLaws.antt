@@ -3,6 +3,7 @@
 use Prim.Native.Nat.{ℕ, _≤_, _<_}
 use mathlib.Core.Path.{_≡_, sym, ap, _∙_}
 use mathlib.Core.Bool.{Bool, true, false, not, cond}
+use mathlib.Core.Logic.{_⊎_, inl, inr}
 use lib.Dec.{leb}
 use borrow.Author.Tests.{le-leb, lt-leb}
 use Rattle.stream.specs.declared.Stream.{Stream}
@@ -48,7 +49,28 @@ module _ (n rest : ℕ) where
   pub past-found : (r : ℕ) (x : Bool) (l y : Lookup) → l ≡ y → x ≡ isBound l → x ≡ false → r ≡ rest → r ≡ cond (isBound y) n rest
   past-found r x l y so told left decides = past-is r x (isBound y) (told ∙ ap isBound so) left decides
 
--- what is true of a test's number and of the rest is true of what the test decides
-pub by-test : (G : ℕ → Type 0) (b : Bool) (n rest : ℕ) → G n → G rest → G (cond b n rest)
-by-test G true n rest h i = h
-by-test G false n rest h i = i
+-- numbers that are none of those from the least to the greatest
+abbrev pub Outside : ℕ → ℕ → ℕ → Type 0
+Outside least greatest n = (n < least) ⊎ (greatest < n)
+
+pub outside-low : (least greatest n : ℕ) → n < least → Outside least greatest n
+outside-low least greatest n h = inl h
+
+pub outside-high : (least greatest n : ℕ) → greatest < n → Outside least greatest n
+outside-high least greatest n h = inr h
+
+-- what a chain of tests decides is none of them where each test's number is none
+module _ (least greatest : ℕ) (b : Bool) (n rest : ℕ) (h : Outside least greatest rest) where
+  pub low-test : n < least → Outside least greatest (cond b n rest)
+  low-test low = told b
+    where
+      told : (t : Bool) → Outside least greatest (cond t n rest)
+      told true = inl low
+      told false = h
+
+  pub high-test : greatest < n → Outside least greatest (cond b n rest)
+  high-test high = told b
+    where
+      told : (t : Bool) → Outside least greatest (cond t n rest)
+      told true = inr high
+      told false = h

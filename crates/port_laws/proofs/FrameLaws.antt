@@ -1,10 +1,11 @@
 -- A Frame is the call that it becomes. Assumes nothing.
-use Prim.Native.Nat.{ℕ, _+_}
+use Prim.Native.Nat.{ℕ, _<_}
 use mathlib.Core.Path.{_≡_, refl, sym, ap, subst, _∙_}
 use mathlib.Core.Bool.{Bool, true, false, not, cond}
-use mathlib.Core.Logic.{⊎-elim}
+use mathlib.Core.Logic.{inl, inr, ⊎-elim}
 use mathlib.Core.List.{List}
 use native.Mathlib.Omega.{arith}
+use borrow.Author.Needs.{needs}
 use lib.ListN.{length}
 use lib.Dec.{leb, ltb}
 use Rattle.lists.proofs.Order.{eq-or-not}
@@ -33,7 +34,7 @@ use Rattle.binding.specs.declared.Lookup.the-variants.{Bound, Unbound}
 use Rattle.binding.specs.Finding.{frameLookup}
 use Rattle.gates.specs.Refusals.{arriveRefusal, bestEffortLimit, bestEffortRefusal}
 use Rattle.gates.specs.FrameRefusals.{frameRefusal}
-use Rattle.gates.proofs.TestLaws.{by-test}
+use Rattle.gates.proofs.TestLaws.{Outside, outside-low, outside-high, low-test, high-test}
 use Rattle.gates.specs.Becoming.{becoming, becomes, frameStep}
 use Rattle.port.specs.Calls.{called}
 
@@ -70,14 +71,7 @@ frame-refused p octets opened short = rw (opened, short)
 
 -- what a frame becomes is not refused with 17, so 17 tells of the length alone: the numbers that it may reply
 abbrev Not17 : ℕ → Type 0
-Not17 number = number ≡ 17 → ⊥
-
--- 0, and a test's number before the rest
-end : Not17 0
-end e = omega arith
-
-other : (b : Bool) (n rest : ℕ) → Not17 n → Not17 rest → Not17 (cond b n rest)
-other = by-test Not17
+Not17 = Outside 17 17
 
 gated-not-17 : (g : ℕ) (p m : List ℕ) (done : Outcome) → Not17 g → Not17 (done .reply .refusal) → Not17 (gated g p m done .reply .refusal)
 gated-not-17 g p m done h i =
@@ -96,24 +90,27 @@ arrived-not-17 p m s f (Joined place next) = told (leb placeCount (queueAt p (ro
         (granted place (next .left))
         (withQueue (moved p s next) (roleAt p place) (joinedQueue (queueAt p (roleAt p place))))
         (joinedMemory m (roleAt p place) (queueAt p (roleAt p place)) f)) .reply .refusal)
-    told true e = omega arith
-    told false e = omega arith
-arrived-not-17 p m s f (Discarded spent) = λ e. omega arith
+    told true = inr (omega arith)
+    told false = inl (omega arith)
+arrived-not-17 p m s f (Discarded spent) = inl (omega arith)
 
 becomes-not-17 : (p m : List ℕ) (charge tag : ℕ) (found : Lookup) → Not17 (becomes p m charge tag found .reply .refusal)
 unfolding arriveRefusal bestEffortRefusal arriveStep bestEffortStep
 becomes-not-17 p m charge tag (Bound s) =
     gated-not-17 (arriveRefusal p s charge) p m (arriveStep p m s charge tag)
-    (other _ 1 _ (λ e. omega arith) (other _ 5 _ (λ e. omega arith) (other _ 12 _ (λ e. omega arith) (other _ 13 _ (λ e. omega arith) end))))
+    (search (low-test, high-test, outside-low, needs) depth 9)
     (arrived-not-17 p m s (record { stream = s; charge = charge; tag = tag }) (arriveOf lastPlace (streamAt p s) charge))
 becomes-not-17 p m charge tag Unbound =
     gated-not-17 (bestEffortRefusal p charge) p m (bestEffortStep p m charge tag)
-    (other _ 1 _ (λ e. omega arith) (other _ 13 _ (λ e. omega arith) (other _ 15 _ (λ e. omega arith) (other _ 16 _ (λ e. omega arith) end))))
-    (λ e. omega arith)
+    (search (low-test, high-test, outside-low, needs) depth 9)
+    (inl (omega arith))
 
 pub frame-not-17 : (p m octets : List ℕ) (tag : ℕ) → lengthFits octets ≡ true → called (framing octets tag) p m .reply .refusal ≡ 17 → ⊥
 unfolding lentRefusal
-frame-not-17 p m octets tag fits =
-    gated-not-17 (lentRefusal p m) p m (gated (frameRefusal p octets) p m (frameStep p m octets tag))
-    (other _ 18 _ (λ e. omega arith) (other _ 0 19 end (λ e. omega arith)))
-    (subst (λ (o : Outcome). Not17 (o .reply .refusal)) (sym (frames-becomes p m octets tag fits)) (becomes-not-17 p m (chargeOf octets) tag (frameLookup p octets)))
+frame-not-17 p m octets tag fits e =
+    ⊎-elim
+    (λ (low : called (framing octets tag) p m .reply .refusal < 17). omega arith)
+    (λ (high : 17 < called (framing octets tag) p m .reply .refusal). omega arith)
+    (gated-not-17 (lentRefusal p m) p m (gated (frameRefusal p octets) p m (frameStep p m octets tag))
+    (search (low-test, high-test, outside-low, outside-high, needs) depth 9)
+    (subst (λ (o : Outcome). Not17 (o .reply .refusal)) (sym (frames-becomes p m octets tag fits)) (becomes-not-17 p m (chargeOf octets) tag (frameLookup p octets))))
