@@ -9,6 +9,7 @@ use lib.Dec.{eqb}
 use Rattle.lists.specs.Each.{All, Some}
 use Rattle.lists.proofs.EachLaws.{differ}
 use Rattle.lists.proofs.TurnLaws.{both}
+use Rattle.stream.specs.declared.Reply.{Reply}
 use Rattle.record.specs.Layout.{queueCount}
 use Rattle.ranges.specs.Ranges.{shareOf}
 use Rattle.port_laws.specs.Lists.{Call, opening, reserving, arriving, ticking, transmitting, joiningBestEffort, binding, framing}
@@ -32,6 +33,10 @@ linkOf (framing octets tag) = 0
 abbrev pub firstLink : List Event → ℕ
 firstLink [] = 0
 firstLink (e ∷ es) = linkOf (e .call)
+
+-- replies with the same numbers are the same
+pub by-numbers : (a b : Reply) → a .refusal ≡ b .refusal → a .first ≡ b .first → a .second ≡ b .second → a ≡ b
+by-numbers a b refusal first second = rw (refusal, first, second)
 
 module _ (es : List Event) (happens : Happens es) where
   -- what the link condition promises

@@ -1,6 +1,6 @@
 -- What demand 3 says of the lists with open parts. Assumes nothing.
 use Prim.Native.Nat.{ℕ}
-use mathlib.Core.Path.{_≡_, refl, sym}
+use mathlib.Core.Path.{_≡_, refl, sym, ap, _∙_}
 use mathlib.Core.List.{List, [], _∷_, _++_}
 use native.Mathlib.Omega.{arith}
 use Rattle.lists.specs.Each.{Some}
@@ -17,7 +17,8 @@ use Rattle.guarantee_examples.specs.LeftOpen.{transmitted, crowdedOpenin
 use Rattle.guarantee_examples.specs.Derived.{DemandSays}
 use Rattle.guarantee_examples.proofs.LinkTest.{link-holds}
 use Rattle.guarantee_examples.proofs.OffersTest.{within-holds}
-use Rattle.guarantee_examples.proofs.Applied.{promised-of, alike-of, says-of, marks-of, not-by-host-of, only}
+use Rattle.guarantee_examples.proofs.AddUp.{crowded-six}
+use Rattle.guarantee_examples.proofs.Applied.{by-numbers, promised-of, alike-of, says-of, marks-of, not-by-host-of, only}
 use Rattle.guarantee_examples.proofs.OpenPartsHappen.{crowded-made, listOf}
 
 module _ (reply : Reply) (sent : Sent) (said shown : Reply) where
@@ -54,8 +55,9 @@ module _ (sent : Sent) (said shown : Reply) where
 -- from `no-purge`
 fourth-tick : (reply : Reply) → Happens (busyWith busySecond busyThird reply) → reply ≡ purgesNone
 fourth-tick reply happens =
-    all-rest PurgesNothing (busyBefore ++ (busyNextArrival ∷ busyLastArrival ∷ busyToFourthTick busySecond busyThird)) (replied ticking reply ∷ [])
-    (promised-of (busyWith busySecond busyThird reply) happens (link-holds (shareOf 1626) (busyWith busySecond busyThird reply) refl) .no-purge) .0 refl
+    let z = all-rest PurgesNothing (busyBefore ++ (busyNextArrival ∷ busyLastArrival ∷ busyToFourthTick busySecond busyThird)) (replied ticking reply ∷ [])
+    (promised-of (busyWith busySecond busyThird reply) happens (link-holds (shareOf 1626) (busyWith busySecond busyThird reply) refl) .no-purge) .0 refl in
+    by-numbers reply purgesNone (omega (arith, ap (λ (r : Reply). r .refusal) z)) (omega (arith, ap (λ (r : Reply). r .first) z)) (omega (arith, ap (λ (r : Reply). r .second) z))
 
 -- `crowded` as it was made
 crowded-happens : Happens crowded
@@ -90,14 +92,14 @@ demand-says =
       prompt-sends = crowded-sends;
       prompt-sends-third = λ reply sent said shown happens link.
           only crowdedFrame crowdedBetween crowdedFourth (transmitted sent said shown) refl refl (crowded-sends reply sent said shown happens link);
-      prompt-not-sooner = λ sooner. sooner [] _ (replied ticking (granted 0 0)) refl refl refl;
+      prompt-not-sooner = λ sooner. sooner [] _ (replied ticking (granted 0 0)) refl refl (omega arith);
       prompt-six-offers = six-offers;
       all-sent-third = λ sent said shown happens link.
           only thirdFrame (busyToThirdTick busySecond ++ (replied ticking (granted 0 0) ∷ [])) [] (transmitted sent said shown) refl refl
           (busy-sends sent said shown happens link);
       no-purge-zeros = fourth-tick;
       alike-six = λ first second third fourth happens.
-          sym (alike-of crowded crowded-happens (aloneWith first second third fourth) 6 happens refl refl);
+          sym (alike-of crowded crowded-happens (aloneWith first second third fourth) 6 happens refl refl) ∙ crowded-six;
       says-frame = third-says;
       marks-discard = discard-marked;
       never-18 = λ happens. never tooShort happens .0 (omega arith);

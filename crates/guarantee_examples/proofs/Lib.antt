@@ -4,6 +4,7 @@ pub mod OffersTest
 pub mod ExamplesHappen
 pub mod ExamplesShow
 pub mod OpenPartsHappen
+pub mod AddUp
 pub mod Applied
 pub mod Derived
 pub mod TheoremsSay

@@ -1,6 +1,6 @@
 -- The lists with open parts happen as they are written, on a port never opened. Assumes nothing.
 use Prim.Native.Nat.{ℕ, _-_}
-use mathlib.Core.Bool.{true, false}
+use mathlib.Core.Bool.{false}
 use mathlib.Core.Path.{_≡_, refl}
 use mathlib.Core.List.{List, _∷_}
 use Rattle.lists.specs.Turns.{allTo, sumTo, listTo, iterate}
@@ -74,11 +74,7 @@ pub unfit-opened : quickOpen unfitRecord freshMemory 2142 1 .reply ≡ granted 6
 unfolding allTo sumTo listTo iterate twoOf fourOf eightOf attempt arriveOf tickOf frameAt withFrame joinedMemory frontOf waiting openAt withOpen priorAt withPrior delayAt withDelay linkAt withLink waitsAt withWaits queueAt withQueue streamAt withStream withPlace boundAt vidAt pairAt pairOf withBinding dropped recordFits lentRefusal roleAt openedRecord arriveStep tickedRecord tickStep transmitStep bestEffortStep openRefusal reserveRefusal arriveRefusal closedRefusal bestEffortRefusal bindRefusal frameRefusal lookupFrom lookup frameLookup octetsEqual chargeOf lengthFits taggedFrame vidOf lengthRefusal
 unfit-opened = refl
 
--- the shortest frame is in the range of lengths, and one that is an octet shorter is refused
-pub shortest-fits : lengthFits (untagged shortestFrame) ≡ true
-unfolding lengthFits
-shortest-fits = refl
-
+-- a frame that is an octet too short
 pub untagged-short : called (framing (untagged (shortestFrame - 1)) 9) (called (opening 2142 1) freshRecord freshMemory .port) freshMemory .reply ≡ refusedBy 17
 unfolding allTo sumTo listTo iterate twoOf fourOf eightOf attempt arriveOf tickOf frameAt withFrame joinedMemory frontOf waiting openAt withOpen priorAt withPrior delayAt withDelay linkAt withLink waitsAt withWaits queueAt withQueue streamAt withStream withPlace boundAt vidAt pairAt pairOf withBinding dropped recordFits lentRefusal roleAt openedRecord arriveStep tickedRecord tickStep transmitStep bestEffortStep openRefusal reserveRefusal arriveRefusal closedRefusal bestEffortRefusal bindRefusal frameRefusal lookupFrom lookup frameLookup octetsEqual chargeOf lengthFits taggedFrame vidOf
 untagged-short = refl

@@ -1,5 +1,6 @@
 -- What the theorems beside demand 3 say of lists and records in hand. Assumes nothing.
 use Prim.Native.Nat.{ℕ, _+_, _-_, _≤_}
+use mathlib.Core.Bool.{true}
 use mathlib.Core.Path.{_≡_, refl, sym, ap, subst, _∙_}
 use mathlib.Core.Logic.{_⊎_, inl, inr}
 use mathlib.Core.List.{List, [], _∷_, _++_, map}
@@ -27,9 +28,10 @@ use Rattle.guarantee.proofs.Theorem.{promised-by-less, sent-as-replied, quick-e
 use Rattle.guarantee_examples.specs.Examples.{replied, Happens, untagged}
 use Rattle.guarantee_examples.specs.LeftOpen.{transmitted, busyBefore, busyNextArrival, busyLastArrival, busyToSecondTick, busyToThirdTick, busyAfter, busyWith, secondFrame, busySecond, busyThird, purgesNone, nearlyBefore, nearlyEpoch, nearlyWith, nearly, crowded, aloneCalls, alone, unfitRecord, shortestFrame}
 use Rattle.guarantee_examples.specs.Derived.{OpenPartsHappen, TheoremsSay}
-use Rattle.guarantee_examples.proofs.LinkTest.{link-holds, none-idle}
-use Rattle.guarantee_examples.proofs.Applied.{firstLink, none-sends, only}
-use Rattle.guarantee_examples.proofs.OpenPartsHappen.{listOf, crowded-made, nearly-made, alone-made, unfit-before, unfit-refused, unfit-opened, shortest-fits, untagged-short, busy-made, arrived-made}
+use Rattle.guarantee_examples.proofs.LinkTest.{links, link-holds, none-idle}
+use Rattle.guarantee_examples.proofs.AddUp.{shortest-fits}
+use Rattle.guarantee_examples.proofs.Applied.{by-numbers, firstLink, none-sends, only}
+use Rattle.guarantee_examples.proofs.OpenPartsHappen.{listOf, crowded-made, nearly-made, alone-made, unfit-before, unfit-refused, unfit-opened, untagged-short, busy-made, arrived-made}
 
 module _ (sent : Sent) (said shown : Reply) where
   abbrev busyNext : Event
@@ -73,10 +75,14 @@ nearly-promised es happens link-so link =
     subst (Promised queueCount) (happens .so)
     (promised-by-less (happens .list) leastAsked (rw same (omega arith)) (subst (LinkCondition leastAsked) (sym (happens .so)) link))
 
+nearly-links : links leastAsked nearly ≡ true
+nearly-links = refl
+
 second-tick : (reply : Reply) → Happens (nearlyWith reply) → reply ≡ purgesNone
 second-tick reply happens =
-    all-rest PurgesNothing (nearlyBefore ++ (replied ticking (granted 0 0) ∷ nearlyEpoch)) (replied ticking reply ∷ [])
-    (nearly-promised (nearlyWith reply) happens refl (link-holds leastAsked (nearlyWith reply) refl) .no-purge) .0 refl
+    let z = all-rest PurgesNothing (nearlyBefore ++ (replied ticking (granted 0 0) ∷ nearlyEpoch)) (replied ticking reply ∷ [])
+    (nearly-promised (nearlyWith reply) happens refl (link-holds leastAsked (nearlyWith reply) refl) .no-purge) .0 refl in
+    by-numbers reply purgesNone (omega (arith, ap (λ (r : Reply). r .refusal) z)) (omega (arith, ap (λ (r : Reply). r .first) z)) (omega (arith, ap (λ (r : Reply). r .second) z))
 
 -- the replies of a list's events are the replies of its calls
 replies-of : (cs earlier : List Call) (p m k : List ℕ) → map (λ (e : Event). e .reply) (happened called earlier cs p m k) ≡ replies called cs p m

@@ -15,7 +15,7 @@ use Rattle.port_laws.specs.Lists.{Call, opening, joiningBestEffort, framing, ca
 use Rattle.guarantee.specs.Events.{Sent, reserved, Event, events}
 use Rattle.guarantee.specs.Claims.{LinkCondition, Sends, SentBefore, OffersWithin}
 use Rattle.guarantee_examples.specs.Examples.{Happens, untagged, busy, permitted100}
-use Rattle.guarantee_examples.specs.LeftOpen.{transmitted, laterCalls, crowdedBefore, crowdedToSecondTick, crowdedAfter, crowdedWith, crowdedPlace, crowdedFrame, crowdedThird, crowded, busyLastArrival, busyAfter, busyWith, secondFrame, thirdFrame, busySecond, busyThird, purgesNone, nearlyWith, nearly, aloneCalls, aloneWith, sixAnswers, alone, arrivedWith, discards, tooShort, unfit, queueFull, shortestFrame, unfitRecord}
+use Rattle.guarantee_examples.specs.LeftOpen.{transmitted, laterCalls, crowdedBefore, crowdedToSecondTick, crowdedAfter, crowdedWith, crowdedPlace, crowdedFrame, tooSoon, crowdedThird, crowded, busyLastArrival, busyAfter, busyWith, secondFrame, thirdFrame, busySecond, busyThird, purgesNone, nearlyWith, nearly, aloneCalls, aloneWith, sixAnswers, alone, arrivedWith, discards, tooShort, unfit, queueFull, shortestFrame, unfitRecord}
 
 -- the lists happen, on a port never opened, with the open parts as they are written; so nothing below is said of no list
 pub record OpenPartsHappen : Type 0 where
@@ -37,7 +37,7 @@ pub record DemandSays : Type 0 where
   pub prompt-sends-third : (reply : Reply) (sent : Sent) (said shown : Reply) → let es = crowdedWith reply (transmitted sent said shown) in
       Happens es → LinkCondition (shareOf 2142) es → sent ≡ reserved crowdedFrame
   -- it is not sent before the first tick, and stream 6 does not conform
-  pub prompt-not-sooner : SentBefore 1 crowdedFrame (crowdedAfter crowdedThird) → ⊥
+  pub prompt-not-sooner : SentBefore tooSoon crowdedFrame (crowdedAfter crowdedThird) → ⊥
   pub prompt-six-offers : OffersWithin 6 200 crowdedBefore → ⊥
   -- `all-sent`: the frame that joined last is sent after the third tick, before the fourth (`busy-not-by-third`)
   pub all-sent-third : (sent : Sent) (said shown : Reply) → let es = busyWith busySecond (transmitted sent said shown) purgesNone in

@@ -71,6 +71,10 @@ crowdedPlace = 1
 abbrev pub crowdedFrame : Marked
 crowdedFrame = frameOf 5 120 7 10
 
+-- the tick before which it is not sent
+abbrev pub tooSoon : ℕ
+tooSoon = 1
+
 abbrev pub crowdedThird : Event
 crowdedThird = transmitted (reserved crowdedFrame) (granted 5 7) (granted 5 10)
 
@@ -115,21 +119,27 @@ busySecond = transmitted (reserved secondFrame) (granted 5 7) (granted 5 3)
 abbrev pub busyThird : Event
 busyThird = transmitted (reserved thirdFrame) (granted 5 7) (granted 5 4)
 
--- a tick that purges nothing replies this
+-- the frames that a tick purges under the link condition, and its reply
+abbrev pub purgedFrames : ℕ
+purgedFrames = 0
+
 abbrev pub purgesNone : Reply
-purgesNone = granted 0 0
+purgesNone = granted purgedFrames 0
 
 -- share 600, and an epoch that sends 83 octets less than that, and no transmit without a reserved frame. Open is what the tick after it replies
+abbrev pub nearlyCharge : ℕ
+nearlyCharge = 517
+
 abbrev pub nearlyBefore : List Event
 nearlyBefore =
     replied (opening 2142 1) (granted 600 0)
     ∷ replied (reserving 5 600) (granted 0 0)
-    ∷ replied (arriving 5 517 7) (granted 1 83)
+    ∷ replied (arriving 5 nearlyCharge 7) (granted 1 83)
     ∷ replied (arriving 5 84 8) (granted 2 516)
     ∷ []
 
 abbrev pub nearlyEpoch : List Event
-nearlyEpoch = sending (reserved (frameOf 5 517 7 2)) (granted 5 7) ∷ []
+nearlyEpoch = sending (reserved (frameOf 5 nearlyCharge 7 2)) (granted 5 7) ∷ []
 
 abbrev pub nearlyWith : Reply → List Event
 nearlyWith reply = nearlyBefore ++ (replied ticking (granted 0 0) ∷ (nearlyEpoch ++ (replied ticking reply ∷ [])))

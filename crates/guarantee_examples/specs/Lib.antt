@@ -2,4 +2,5 @@
 pub mod Examples
 pub mod Shown
 pub mod LeftOpen
+pub mod AddUp
 pub mod Derived
