@@ -81,7 +81,7 @@ discard-marked shown happens = marks-of (arrivedWith (refusedBy discards) shown)
 never : (number : ℕ) → Happens (arrivedWith (refusedBy number) (refusedBy number)) → (number ≡ 18 → ⊥) × ((number ≡ 19 → ⊥) × (number ≡ 20 → ⊥))
 never number happens = not-by-host-of (arrivedWith (refusedBy number) (refusedBy number)) happens .1 .1 .0
 
--- stream 6 offers four times its P, and 84 more, before the first tick
+-- stream 6 offers three times its P, and 84 more, before the first tick
 six-offers : OffersWithin 6 200 crowdedBefore → ⊥
 six-offers within = let z = within [] crowdedBefore [] refl (refl, (refl, (refl, (refl, (refl, (refl, (refl, (refl, tt)))))))) in omega arith
 

@@ -1,5 +1,5 @@
 -- The lists with open parts happen as they are written, on a port never opened. Assumes nothing.
-use Prim.Native.Nat.{ℕ, _-_}
+use Prim.Native.Nat.{ℕ}
 use mathlib.Core.Bool.{false}
 use mathlib.Core.Path.{_≡_, refl}
 use mathlib.Core.List.{List, _∷_}
@@ -26,11 +26,11 @@ use Rattle.gates.specs.FrameRefusals.{bindRefusal, frameRefusal}
 use Rattle.port.specs.Calls.{openCall}
 use Rattle.port.specs.Quick.{lengthRefusal, quickOpen}
 use Rattle.stream.specs.Replies.{granted, refusedBy}
-use Rattle.port_laws.specs.Lists.{Call, opening, framing, called, freshRecord, freshMemory}
+use Rattle.port_laws.specs.Lists.{Call, opening, called, freshRecord, freshMemory}
 use Rattle.guarantee.specs.Events.{Event, events}
 use Rattle.guarantee.specs.Demand3.{CallList}
-use Rattle.guarantee_examples.specs.Examples.{untagged, busy, permitted100}
-use Rattle.guarantee_examples.specs.LeftOpen.{laterCalls, crowded, busyWith, busySecond, busyThird, purgesNone, nearly, aloneCalls, alone, arrivedWith, discards, unfitRecord, shortestFrame}
+use Rattle.guarantee_examples.specs.Examples.{busy, permitted100}
+use Rattle.guarantee_examples.specs.LeftOpen.{laterCalls, crowded, busyWith, busySecond, busyThird, purgesNone, nearly, aloneCalls, alone, arrivedWith, discards, unfitRecord}
 
 -- a list of calls that is made on a port never opened, and its events
 pub record Made (link delay : ℕ) (later : List Call) (es : List Event) : Type 0 where
@@ -63,18 +63,13 @@ arrived-made = refl
 
 -- the unfit record is so, Open refuses it, and the quick Open does not
 pub unfit-before : recordFits unfitRecord freshMemory ≡ false
-unfolding allTo sumTo listTo iterate twoOf fourOf eightOf attempt arriveOf tickOf frameAt withFrame joinedMemory frontOf waiting openAt withOpen priorAt withPrior delayAt withDelay linkAt withLink waitsAt withWaits queueAt withQueue streamAt withStream withPlace boundAt vidAt pairAt pairOf withBinding dropped recordFits lentRefusal roleAt openedRecord arriveStep tickedRecord tickStep transmitStep bestEffortStep openRefusal reserveRefusal arriveRefusal closedRefusal bestEffortRefusal bindRefusal frameRefusal lookupFrom lookup frameLookup octetsEqual chargeOf lengthFits taggedFrame vidOf
+unfolding allTo sumTo listTo twoOf fourOf eightOf waiting openAt priorAt delayAt linkAt waitsAt queueAt streamAt boundAt vidAt pairAt recordFits
 unfit-before = refl
 
 pub unfit-refused : openCall unfitRecord freshMemory 2142 1 .reply ≡ refusedBy 19
-unfolding allTo sumTo listTo iterate twoOf fourOf eightOf attempt arriveOf tickOf frameAt withFrame joinedMemory frontOf waiting openAt withOpen priorAt withPrior delayAt withDelay linkAt withLink waitsAt withWaits queueAt withQueue streamAt withStream withPlace boundAt vidAt pairAt pairOf withBinding dropped recordFits lentRefusal roleAt openedRecord arriveStep tickedRecord tickStep transmitStep bestEffortStep openRefusal reserveRefusal arriveRefusal closedRefusal bestEffortRefusal bindRefusal frameRefusal lookupFrom lookup frameLookup octetsEqual chargeOf lengthFits taggedFrame vidOf
+unfolding allTo sumTo listTo twoOf fourOf eightOf waiting openAt priorAt delayAt linkAt waitsAt queueAt streamAt boundAt vidAt pairAt recordFits lentRefusal
 unfit-refused = refl
 
 pub unfit-opened : quickOpen unfitRecord freshMemory 2142 1 .reply ≡ granted 600 0
-unfolding allTo sumTo listTo iterate twoOf fourOf eightOf attempt arriveOf tickOf frameAt withFrame joinedMemory frontOf waiting openAt withOpen priorAt withPrior delayAt withDelay linkAt withLink waitsAt withWaits queueAt withQueue streamAt withStream withPlace boundAt vidAt pairAt pairOf withBinding dropped recordFits lentRefusal roleAt openedRecord arriveStep tickedRecord tickStep transmitStep bestEffortStep openRefusal reserveRefusal arriveRefusal closedRefusal bestEffortRefusal bindRefusal frameRefusal lookupFrom lookup frameLookup octetsEqual chargeOf lengthFits taggedFrame vidOf lengthRefusal
+unfolding openAt openRefusal lengthRefusal
 unfit-opened = refl
-
--- a frame that is an octet too short
-pub untagged-short : called (framing (untagged (shortestFrame - 1)) 9) (called (opening 2142 1) freshRecord freshMemory .port) freshMemory .reply ≡ refusedBy 17
-unfolding allTo sumTo listTo iterate twoOf fourOf eightOf attempt arriveOf tickOf frameAt withFrame joinedMemory frontOf waiting openAt withOpen priorAt withPrior delayAt withDelay linkAt withLink waitsAt withWaits queueAt withQueue streamAt withStream withPlace boundAt vidAt pairAt pairOf withBinding dropped recordFits lentRefusal roleAt openedRecord arriveStep tickedRecord tickStep transmitStep bestEffortStep openRefusal reserveRefusal arriveRefusal closedRefusal bestEffortRefusal bindRefusal frameRefusal lookupFrom lookup frameLookup octetsEqual chargeOf lengthFits taggedFrame vidOf
-untagged-short = refl

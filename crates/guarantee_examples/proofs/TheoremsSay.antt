@@ -1,6 +1,6 @@
 -- What the theorems beside demand 3 say of lists and records in hand. Assumes nothing.
 use Prim.Native.Nat.{ℕ, _+_, _-_, _≤_}
-use mathlib.Core.Bool.{true}
+use mathlib.Core.Bool.{true, false}
 use mathlib.Core.Path.{_≡_, refl, sym, ap, subst, _∙_}
 use mathlib.Core.Logic.{_⊎_, inl, inr}
 use mathlib.Core.List.{List, [], _∷_, _++_, map}
@@ -11,7 +11,7 @@ use Rattle.stream.specs.declared.Reply.{Reply}
 use Rattle.stream.specs.Replies.{granted}
 use Rattle.record.specs.Layout.{queueCount}
 use Rattle.ranges.specs.Ranges.{shareOf, leastCharge}
-use Rattle.header.specs.Header.{chargeOf, taggedFrame}
+use Rattle.header.specs.Header.{chargeOf, lengthFits, taggedFrame}
 use Rattle.binding.specs.Finding.{frameLookup}
 use Rattle.lists.specs.Equal.{octetsEqual}
 use Rattle.lists.specs.Turns.{allTo}
@@ -19,7 +19,7 @@ use Rattle.port_laws.specs.Lists.{Call, opening, ticking, joiningBestEffort, fr
 use Rattle.port_laws.proofs.FreshFit.{fresh-fits}
 use Rattle.port_laws.proofs.QuickLaws.{quick-call}
 use Rattle.port_laws.proofs.StayLaws.{stays-fit, granted-open-fits, quick-replies}
-use Rattle.port_laws.proofs.FrameLaws.{frame-becomes}
+use Rattle.port_laws.proofs.FrameLaws.{frame-becomes, frame-refused, frame-not-17}
 use Rattle.guarantee.specs.Events.{Sent, reserved, Event, happened}
 use Rattle.guarantee.specs.Claims.{reservedOctets, Idle, LinkCondition, PurgesNothing, Sends, SentBefore}
 use Rattle.guarantee.specs.Beyond.{SentByReply}
@@ -31,7 +31,7 @@ use Rattle.guarantee_examples.specs.Derived.{OpenPartsHappen, TheoremsSa
 use Rattle.guarantee_examples.proofs.LinkTest.{links, link-holds, none-idle}
 use Rattle.guarantee_examples.proofs.AddUp.{shortest-fits}
 use Rattle.guarantee_examples.proofs.Applied.{by-numbers, firstLink, none-sends, only}
-use Rattle.guarantee_examples.proofs.OpenPartsHappen.{listOf, crowded-made, nearly-made, alone-made, unfit-before, unfit-refused, unfit-opened, untagged-short, busy-made, arrived-made}
+use Rattle.guarantee_examples.proofs.OpenPartsHappen.{listOf, crowded-made, nearly-made, alone-made, unfit-before, unfit-refused, unfit-opened, busy-made, arrived-made}
 
 module _ (sent : Sent) (said shown : Reply) where
   abbrev busyNext : Event
@@ -100,6 +100,10 @@ untagged-so : (p m : List ℕ) → called (framing (untagged shortestFrame) 9) p
 unfolding chargeOf taggedFrame frameLookup octetsEqual allTo
 untagged-so p m = frame-becomes p m (untagged shortestFrame) 9 shortest-fits
 
+short-unfit : lengthFits (untagged (shortestFrame - 1)) ≡ false
+unfolding lengthFits
+short-unfit = refl
+
 pub theorems-say : TheoremsSay
 theorems-say =
     record {
@@ -115,7 +119,8 @@ theorems-say =
       unfit-opened = unfit-opened;
       fit-after = granted-open-fits unfitRecord freshMemory 2142 1 (ap (λ (r : Reply). r .refusal) unfit-opened);
       untagged-joins = untagged-so;
-      untagged-short = untagged-short;
+      untagged-not-17 = λ p m. frame-not-17 p m (untagged shortestFrame) 9 shortest-fits;
+      untagged-short = λ p opened. frame-refused p (untagged (shortestFrame - 1)) opened short-unfit;
     }
 
 pub open-parts-happen : OpenPartsHappen

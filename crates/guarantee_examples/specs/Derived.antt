@@ -1,5 +1,5 @@
--- What demand 3 says of these lists. Each line follows from the theorem that its comment names; what it says of open parts it says of every list of calls
--- with such events, on whatever record and memory; and with any number in it one less it would be false.
+-- What demand 3 says of these lists. Each line follows from the theorem that its comment names, and would be lost with it. What it says of an open part
+-- it says of every list of calls with such events, on whatever record and memory; that no more can be said is shown beside it or in Shown.
 use Prim.Native.Nat.{ℕ, _-_}
 use mathlib.Core.Bool.{true, false}
 use mathlib.Core.Path.{_≡_}
@@ -7,8 +7,10 @@ use mathlib.Core.List.{List, [], _∷_, map}
 use Rattle.lists.specs.Each.{Some}
 use Rattle.stream.specs.declared.Reply.{Reply}
 use Rattle.stream.specs.Replies.{granted, refusedBy}
+use Rattle.record.specs.Head.{openAt}
 use Rattle.ranges.specs.Ranges.{shareOf}
 use Rattle.fitness.specs.Fit.{recordFits}
+use Rattle.gates.specs.FrameRefusals.{frameRefusal}
 use Rattle.port.specs.Calls.{openCall}
 use Rattle.port.specs.Quick.{quickOpen}
 use Rattle.port_laws.specs.Lists.{Call, opening, joiningBestEffort, framing, called, quicklyCalled, replies, freshRecord, freshMemory}
@@ -76,6 +78,8 @@ pub record TheoremsSay : Type 0 where
   pub unfit-refused : openCall unfitRecord freshMemory 2142 1 .reply ≡ refusedBy 19
   pub unfit-opened : quickOpen unfitRecord freshMemory 2142 1 .reply ≡ granted 600 0
   pub fit-after : let o = quickOpen unfitRecord freshMemory 2142 1 in recordFits (o .port) (o .memory) ≡ true
-  -- `frame-becomes`: a frame without a VLAN tag is a Best effort on every record, where it has the fewest octets, and with one less it is not
+  -- `frame-becomes`: a frame without a VLAN tag, of the fewest octets that it may have, is a Best effort on every record and memory ..
   pub untagged-joins : (p m : List ℕ) → called (framing (untagged shortestFrame) 9) p m ≡ called (joiningBestEffort 84 9) p m
-  pub untagged-short : called (framing (untagged (shortestFrame - 1)) 9) (called (opening 2142 1) freshRecord freshMemory .port) freshMemory .reply ≡ refusedBy 17
+  -- .. `frame-not-17`: it is nowhere refused with 17; `frame-refused`: with an octet less it is, on every open port
+  pub untagged-not-17 : (p m : List ℕ) → called (framing (untagged shortestFrame) 9) p m .reply .refusal ≡ 17 → ⊥
+  pub untagged-short : (p : List ℕ) → openAt p ≡ true → frameRefusal p (untagged (shortestFrame - 1)) ≡ 17
