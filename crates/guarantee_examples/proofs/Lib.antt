@@ -1,4 +1,10 @@
--- What the examples show, proved.
+-- What the examples show, and what demand 3 says of them, proved.
 pub mod LinkTest
+pub mod OffersTest
 pub mod ExamplesHappen
 pub mod ExamplesShow
+pub mod OpenPartsHappen
+pub mod AddUp
+pub mod Applied
+pub mod Derived
+pub mod TheoremsSay

@@ -90,10 +90,10 @@ abbrev pub address : List ℕ
 address = 1 ∷ 0 ∷ 94 ∷ 0 ∷ 0 ∷ 5 ∷ []
 
 abbrev pub taggedTo : ℕ → ℕ → List ℕ
-taggedTo vid length = (address ++ replicate {A = ℕ} 6 0) ++ ((vlanTag ++ twoOctets (57344 + vid)) ++ replicate {A = ℕ} (length - 16) 0)
+taggedTo vid octets = (address ++ replicate {A = ℕ} 6 0) ++ ((vlanTag ++ twoOctets (57344 + vid)) ++ replicate {A = ℕ} (octets - 16) 0)
 
 abbrev pub untagged : ℕ → List ℕ
-untagged length = address ++ replicate {A = ℕ} (length - 6) 0
+untagged octets = address ++ replicate {A = ℕ} (octets - 6) 0
 
 -- calls with a binding and frames: of the bound VID, of another, without a VLAN tag, and one octet too short
 abbrev pub framedCalls : List Call

@@ -1,3 +1,6 @@
--- Lists of calls that show demand 3 at work.
+-- Lists of calls that show demand 3 at work, and what it says of them.
 pub mod Examples
 pub mod Shown
+pub mod LeftOpen
+pub mod AddUp
+pub mod Derived

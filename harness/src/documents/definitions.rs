@@ -1,4 +1,4 @@
-//! The definitions that the crates have, by module, as docs/RULE.md names them: `stream/Steps` is crates/stream/specs/Steps.antt,
+//! The definitions that the crates have, by module, as the documents name them: `stream/Steps` is crates/stream/specs/Steps.antt,
 //! `stream/declared` are the types that crates/stream/src declares, `stream/proofs/CasesHold` is crates/stream/proofs/CasesHold.antt.
 
 use std::fs;
@@ -44,6 +44,24 @@ pub fn of(module: &str) -> Option<Vec<String>> {
     }
 }
 
+/// The fields that the records of a module of definitions have for others, each after its record's name.
+pub fn fields(module: &str) -> Vec<String> {
+    let text = match module.split('/').collect::<Vec<_>>()[..] {
+        [name, file] => text_of(name, SPECS, file).unwrap_or_default(),
+        _ => String::new(),
+    };
+    let mut record = None;
+    let mut fields = Vec::new();
+    for line in text.lines() {
+        if !line.starts_with(' ') {
+            record = line.strip_prefix("pub record ").and_then(|rest| rest.split_whitespace().next());
+        } else if let (Some(record), Some(name)) = (record, defined(line.trim_start())) {
+            fields.push(format!("{record}.{name}"));
+        }
+    }
+    fields
+}
+
 /// The text of a module of definitions or theorems, if there is one.
 fn text_of(name: &str, kind: &str, file: &str) -> Option<String> {
     fs::read_to_string(folder(name).join(kind).join(format!("{file}.antt"))).ok()
@@ -77,17 +95,27 @@ fn declares(line: &str) -> Option<&str> {
 
 /// The modules of all crates' definitions, by name.
 pub fn modules() -> Vec<String> {
+    in_crates(SPECS, |name, file| format!("{name}/{file}"))
+}
+
+/// The modules of all crates' theorems, by name.
+pub fn theorems() -> Vec<String> {
+    in_crates(PROOFS, |name, file| format!("{name}/{PROOFS}/{file}"))
+}
+
+/// The modules in a folder of all crates, sorted, each named out of its crate and its file as is said.
+fn in_crates(kind: &str, module: impl Fn(&str, &str) -> String) -> Vec<String> {
     let crates = entries(&repository().join("crates"));
-    let mut modules: Vec<String> = crates.iter().flat_map(|name| modules_of(name)).collect();
+    let mut modules: Vec<String> =
+        crates.iter().flat_map(|name| files_of(name, kind).into_iter().map(|file| module(name, &file))).collect();
     modules.sort();
     modules
 }
 
-/// The modules of a crate's definitions.
-fn modules_of(name: &str) -> Vec<String> {
-    let files = entries(&folder(name).join(SPECS));
-    let modules = files.iter().filter_map(|file| file.strip_suffix(".antt")).filter(|&module| module != LIST);
-    modules.map(|module| format!("{name}/{module}")).collect()
+/// The modules in a folder of a crate but for the one that only lists the others.
+fn files_of(name: &str, kind: &str) -> Vec<String> {
+    let files = entries(&folder(name).join(kind));
+    files.iter().filter_map(|file| file.strip_suffix(".antt")).filter(|&file| file != LIST).map(String::from).collect()
 }
 
 /// The names in a folder.

@@ -1,9 +1,10 @@
-//! docs/RULE.md held against the repository, so that it names and quotes only what is there. `pieces` takes a document apart, `naming` finds
-//! the definitions that it names, `definitions` those that the crates have, `quoting` what it says that captures print, and `checking` says
-//! what is wrong.
+//! docs/RULE.md and docs/GUARANTEE.md held against the repository, so that they name and quote only what is there. `document` says what each has to
+//! name, `pieces` takes a document apart, `naming` finds the definitions that it names, `definitions` those that the crates have, `quoting`
+//! what it says that captures print, and `checking` says what is wrong.
 
 mod checking;
 mod definitions;
+mod document;
 mod naming;
 mod pieces;
 mod quoting;

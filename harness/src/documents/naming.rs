@@ -2,16 +2,13 @@
 //! table whose head ends in a module and a middle dot has definitions of it alone. The index has for each definition the sections that name it.
 
 use super::definitions::is_module;
+use super::document::Document;
 use super::pieces::{spans, Content, Piece};
 
 /// Stands between a module and its definitions.
 pub const DOT: &str = " · ";
 /// Stands between two definitions.
 const COMMA: &str = ", ";
-/// The section of the index.
-pub const INDEX: &str = "12.1";
-/// The section of the definitions that the text leaves out; a module alone stands for all of its own.
-pub const LEFT_OUT: &str = "12.2";
 
 /// A definition that is named, or a module alone.
 #[derive(Debug, PartialEq, Eq)]
@@ -21,13 +18,18 @@ pub struct Named {
     pub definition: Option<String>,
 }
 
-/// What is named in the pieces of a document but for the index.
-pub fn named(pieces: &[Piece]) -> Vec<Named> {
-    pieces.iter().filter(|piece| piece.section != INDEX).flat_map(in_piece).collect()
+/// What is named in the pieces of a document but for its index.
+pub fn named(document: &Document, pieces: &[Piece]) -> Vec<Named> {
+    pieces.iter().filter(|piece| !is_index(document, piece)).flat_map(in_piece).collect()
+}
+
+/// Whether a piece is of the index.
+fn is_index(document: &Document, piece: &Piece) -> bool {
+    document.index == Some(piece.section.as_str())
 }
 
 /// What is named in a piece.
-fn in_piece(piece: &Piece) -> Vec<Named> {
+pub fn in_piece(piece: &Piece) -> Vec<Named> {
     let found: Vec<(&str, Option<&str>)> = match &piece.content {
         Content::Prose(text) => in_text(text, None),
         Content::Row { heads, cells } => cells.iter().zip(heads).flat_map(|(cell, head)| in_text(cell, module_of(head))).collect(),
@@ -72,8 +74,8 @@ pub struct Indexed {
 }
 
 /// The definitions in the index.
-pub fn indexed(pieces: &[Piece]) -> Vec<Indexed> {
-    let rows = pieces.iter().filter(|piece| piece.section == INDEX).map(Piece::texts);
+pub fn indexed(document: &Document, pieces: &[Piece]) -> Vec<Indexed> {
+    let rows = pieces.iter().filter(|piece| is_index(document, piece)).map(Piece::texts);
     rows.filter(|cells| cells.len() == 2).flat_map(|cells| in_row(cells[0], cells[1])).collect()
 }
 

@@ -1,4 +1,4 @@
-//! A document in Markdown piece by piece, each with the number of the section that it stands in.
+//! A document in Markdown piece by piece, each with the section that it stands in.
 
 /// The line that begins and ends a fenced text.
 const FENCE: &str = "```";
@@ -12,7 +12,7 @@ const CODE: char = '`';
 /// A piece of a document.
 #[derive(Debug, PartialEq, Eq)]
 pub struct Piece {
-    /// The number in the heading above it, or nothing where that has none.
+    /// The number in the heading above it, or the heading itself where that has none.
     pub section: String,
     pub content: Content,
 }
@@ -123,8 +123,9 @@ impl Reader {
     /// A heading begins a section.
     fn heading(&mut self, line: &str) {
         self.end_prose();
-        let word = line.trim_start_matches(HEADING).split_whitespace().next().unwrap_or_default();
-        self.section = String::from(if word.starts_with(|letter: char| letter.is_ascii_digit()) { word } else { "" });
+        let heading = line.trim_start_matches(HEADING).trim();
+        let word = heading.split_whitespace().next().unwrap_or_default();
+        self.section = String::from(if word.starts_with(|letter: char| letter.is_ascii_digit()) { word } else { heading });
     }
 
     /// The paragraph or item ends, if there is one.

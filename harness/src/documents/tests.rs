@@ -1,50 +1,58 @@
-//! docs/RULE.md has no fault, and each fault that it could have is found.
+//! docs/RULE.md and docs/GUARANTEE.md have no fault, and each fault that they could have is found.
 
 use std::fs;
 
-use super::checking::{misindexed, misquoted, not_there, unknown, unnamed};
+use super::checking::{misindexed, misquoted, not_there, unknown, unnamed, unplaced};
 use super::definitions::repository;
+use super::document::{Document, GUARANTEE, RULE};
 use super::pieces::{pieces, Content, Piece};
 
-/// docs/RULE.md.
-fn rule() -> String {
-    fs::read_to_string(repository().join("docs/RULE.md")).expect("the rule can be read")
+/// What finds faults in the pieces of a document.
+type Check = fn(&Document, &[Piece]) -> Vec<String>;
+
+/// A check finds nothing in a document.
+fn passes(document: &Document, check: Check) {
+    let wrong = check(document, &document.pieces());
+    assert!(wrong.is_empty(), "docs/{}\n{}", document.file, wrong.join("\n"));
 }
 
-/// A check finds nothing in docs/RULE.md.
-fn passes(check: fn(&[Piece]) -> Vec<String>) {
-    let wrong = check(&pieces(&rule()));
-    assert!(wrong.is_empty(), "docs/RULE.md\n{}", wrong.join("\n"));
-}
-
-/// A check finds just these faults in a text.
-fn finds(check: fn(&[Piece]) -> Vec<String>, text: &str, faults: &[&str]) {
-    assert_eq!(check(&pieces(text)), faults, "in\n{text}");
+/// A check finds just these faults in a text that is held to what docs/RULE.md is.
+fn finds(check: Check, text: &str, faults: &[&str]) {
+    assert_eq!(check(&RULE, &pieces(text)), faults, "in\n{text}");
 }
 
 #[test]
-fn every_definition_that_the_rule_names_is_there() {
-    passes(unknown);
+fn every_definition_that_a_document_names_is_there() {
+    passes(&RULE, unknown);
+    passes(&GUARANTEE, unknown);
 }
 
 #[test]
 fn the_index_of_the_rule_is_of_its_text() {
-    passes(misindexed);
+    passes(&RULE, misindexed);
 }
 
 #[test]
-fn the_rule_names_every_definition_or_says_that_it_leaves_it_out() {
-    passes(unnamed);
+fn a_document_names_every_definition_or_says_that_it_leaves_it_out() {
+    passes(&RULE, unnamed);
+    passes(&GUARANTEE, unnamed);
 }
 
 #[test]
-fn every_picture_document_and_capture_of_the_rule_is_there() {
-    passes(not_there);
+fn the_guarantee_says_the_module_of_every_name() {
+    passes(&GUARANTEE, unplaced);
 }
 
 #[test]
-fn every_output_in_the_rule_is_that_of_its_capture() {
-    passes(misquoted);
+fn every_picture_document_and_capture_of_a_document_is_there() {
+    passes(&RULE, not_there);
+    passes(&GUARANTEE, not_there);
+}
+
+#[test]
+fn every_output_in_a_document_is_that_of_its_capture() {
+    passes(&RULE, misquoted);
+    passes(&GUARANTEE, misquoted);
 }
 
 #[test]
@@ -55,7 +63,7 @@ fn a_text_is_taken_apart() {
     let prose = |section, text: &str| piece(section, Content::Prose(String::from(text)));
     let cells = |texts: [&str; 2]| texts.map(String::from).to_vec();
     let expected = [
-        prose("", "One two."),
+        prose("Title", "One two."),
         prose("3", "1. First goes on."),
         prose("3", "2. Second."),
         piece("3", Content::Row { heads: cells(["a", "`b`"]), cells: cells(["1", ""]) }),
@@ -152,11 +160,48 @@ fn an_index_that_is_not_of_its_text_is_found() {
 
 #[test]
 fn a_definition_that_is_left_out_is_found() {
-    let without = rule().replace("`tickedAt`", "").replace("| `stream/Alone` |", "| |");
-    let missing = unnamed(&pieces(&without)).join("\n");
+    let without = RULE.text().replace("`tickedAt`", "").replace("| `stream/Alone` |", "| |");
+    let missing = unnamed(&RULE, &pieces(&without)).join("\n");
     assert!(missing.contains("`ticking/Ticking` · `tickedAt` is nowhere named; give it a sentence, or a line in 12.2"), "{missing}");
     assert!(missing.contains("`stream/Alone` · `octetsInto` is nowhere named"), "{missing}");
     assert!(!missing.contains("tickStep"), "{missing}");
+}
+
+/// A check finds just these faults in docs/GUARANTEE.md where some of its words, which it has once, are others.
+fn finds_where(check: Check, words: &str, others: &str, faults: &[&str]) {
+    let text = GUARANTEE.text();
+    assert_eq!(text.matches(words).count(), 1, "docs/GUARANTEE.md has '{words}' once");
+    assert_eq!(check(&GUARANTEE, &pieces(&text.replace(words, others))), faults, "with '{others}' for '{words}'");
+}
+
+#[test]
+fn a_claim_of_the_guarantee_that_is_left_out_is_found() {
+    let nowhere =
+        |name: &str| format!("`guarantee/Demand3` · `{name}` is nowhere named; give it a sentence, or a line in {}", GUARANTEE.left_out);
+    finds_where(unnamed, "`Demand3.alike`", "", &[&nowhere("Demand3.alike")]);
+    finds_where(unnamed, "`Promised.prompt`", "", &[&nowhere("Promised.prompt")]);
+    finds_where(unnamed, "`guarantee/Demand3` · `LinkHolds`", "", &[&nowhere("LinkHolds")]);
+}
+
+#[test]
+fn a_name_in_the_guarantee_that_is_not_where_it_says_is_found() {
+    let table = |module: &str, name: &str| format!("Where it stands: `{module}` does not define `{name}`; name a definition that it has");
+    finds_where(unknown, "`Demand3.alike`", "`Demand3.prompt`", &[&table("guarantee/Demand3", "Demand3.prompt")]);
+    finds_where(unknown, "`NotByHost`", "`NotByHosts`", &[&table("guarantee/Claims", "NotByHosts")]);
+    finds_where(unknown, "`demand-3`", "`demand-4`", &[&table("guarantee/proofs/Theorem", "demand-4")]);
+    finds_where(
+        unknown,
+        "`guarantee/Beyond` · `SentByReply`",
+        "`guarantee/Claims` · `SentByReply`",
+        &[&table("guarantee/Claims", "SentByReply")],
+    );
+}
+
+#[test]
+fn a_name_in_the_guarantee_without_its_module_is_found() {
+    let alone = |name: &str| format!("Where it stands: `{name}` stands after no module; write the one that has it before it");
+    finds_where(unplaced, "`guarantee/proofs/Theorem` · `quick-events`", "`quick-events`", &[&alone("quick-events")]);
+    finds_where(unplaced, "`guarantee/Beyond` · `SentByReply`", "(Beyond) `SentByReply`", &[&alone("SentByReply")]);
 }
 
 #[test]
