@@ -37,7 +37,7 @@ use Rattle.gates.specs.Refusals.{arriveRefusal}
 use Rattle.gates.proofs.GateLaws.{arrive-allowed}
 use Rattle.steps.specs.Call.{Call, arriving, ticking}
 use Rattle.port.specs.Calls.{called}
-use Rattle.port_laws.specs.Counting.{actionOf}
+use Rattle.port_laws.specs.Counting.{toArrive, actionOf}
 use Rattle.port_laws.proofs.GateNumbers.{refusal-own}
 use Rattle.guarantee.specs.Events.{Marked, sentReserved, none, broughtBy, marked}
 use Rattle.guarantee.proofs.Run.{View, octets, ownRefusal, queueAfter, Effect, arrives, refuses-arrival}
@@ -118,7 +118,7 @@ module _ (all : List Call) (n link : ℕ) (p m k : List ℕ) (v : View) (best : 
   seen-held = h .streams s ∙ seen-below p s below ∙ seen-as-is held is-reserved
 
   -- so the stream's rule answers alike, and the call does to the view what it does
-  arrival-effect : (z : Arrival) → arriveOf lastPlace held a ≡ z → Effect lastPlace (shareOf link) n v (arrivedView v s frame z) (replyOf z) none (arriving s a tag)
+  arrival-effect : (z : Arrival) → arriveOf lastPlace held a ≡ z → Effect lastPlace (shareOf link) n v (arrivedView v s frame z) (replyOf z) none (toArrive s a tag)
   arrival-effect z e =
       let rule : arriveOf lastPlace (v .stream s) a ≡ z = ap (λ (x : Stream). arriveOf lastPlace x a) seen-held ∙ e in
       arrives refl
@@ -145,7 +145,7 @@ module _ (all : List Call) (n link : ℕ) (p m k : List ℕ) (v : View) (best : 
     room : queueAt p (roleAt p place) .count < placeCount
     room =
         let w = arrivedView v s frame (Joined place next) in
-        let later = stays-sound lastPlace (shareOf link) n v w (granted place (next .left)) none (arriving s a tag) (omega arith) (arrival-effect (Joined place next) e) sound in
+        let later = stays-sound lastPlace (shareOf link) n v w (granted place (next .left)) none (toArrive s a tag) (omega arith) (arrival-effect (Joined place next) e) sound in
         let fs = v .queue place in
         let joined : w .queue place ≡ fs ++ (frame ∷ []) = after-here frame place next fs in
         omega (
