@@ -24,10 +24,7 @@ quiet-no-transmit (toBestEffort charge tag) q = refl
 quiet-no-transmit (toFrame octets tag) q = refl
 quiet-no-transmit neither q = refl
 
--- a call that is no transmit is not that call, and sends nothing
-pub no-transmit : (c : Call) → isTransmit (actionOf c) ≡ false → c ≡ transmitting → ⊥
-no-transmit c h e = differ (sym (ap (λ (d : Call). isTransmit (actionOf d)) e) ∙ h)
-
+-- a call that is no transmit sends nothing
 pub sends-none : (earlier : List Call) (c : Call) (shown : Reply) → isTransmit (actionOf c) ≡ false → sentBy earlier c shown ≡ none
 sends-none earlier c shown h = ap (λ (b : Bool). cond b (broughtBy (shown .second) (actionOf (getD earlier (shown .second) ticking))) none) h
 

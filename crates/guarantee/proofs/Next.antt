@@ -1,9 +1,10 @@
 -- What is to be shown of each call on a port that holds a view, and the calls that are refused. Assumes nothing.
 use Prim.Native.Nat.{ℕ, _≤_, _<_}
-use mathlib.Core.Bool.{false}
-use mathlib.Core.Path.{_≡_, refl, sym, subst}
+use mathlib.Core.Bool.{true, false}
+use mathlib.Core.Path.{_≡_, refl, sym, subst, _∙_}
 use mathlib.Core.Logic.{⊎-elim}
 use mathlib.Core.List.{List, []}
+use Rattle.lists.proofs.EachLaws.{differ}
 use Rattle.lists.proofs.Order.{eq-or-not}
 use Rattle.stream.specs.declared.Reply.{Reply}
 use Rattle.stream.specs.State.{lastPlace}
@@ -17,13 +18,13 @@ use Rattle.fitness.specs.Fit.{lentRefusal}
 use Rattle.fitness.proofs.FitLaws.{fit-lent}
 use Rattle.steps.specs.Outcome.{Outcome, outcome, refused, gated}
 use Rattle.steps.proofs.OutcomeLaws.{grants, refuses}
-use Rattle.steps.specs.Call.{Call, transmitting}
+use Rattle.steps.specs.Call.{Call}
 use Rattle.port_laws.specs.Counting.{actionOf}
 use Rattle.port_laws.proofs.GateNumbers.{Own}
 use Rattle.guarantee.specs.Events.{Marked, Sent, sentReserved, sentBestEffort, none, isTransmit, sentBy}
 use Rattle.guarantee.specs.Claims.{replyOfSent}
 use Rattle.guarantee.proofs.Run.{View, Quiet, Effect, quiet}
-use Rattle.guarantee.proofs.CallLaws.{quiet-no-transmit, no-transmit, sends-none}
+use Rattle.guarantee.proofs.CallLaws.{quiet-no-transmit, sends-none}
 use Rattle.guarantee.proofs.Tied.{Tied}
 use Rattle.guarantee.proofs.Held.{seenAt, inRole, Holds}
 
@@ -54,8 +55,8 @@ pub record Next (earlier all : List Call) (n link : ℕ) (p m k : List ℕ) (v :
   pub effect : Effect lastPlace (shareOf link) n v view (o .reply) (sentBy earlier c (u .reply)) (actionOf c)
   pub same : u .port ≡ o .port
   pub moved : Moved all p (o .port) (o .memory) (u .memory) view best
-  pub says : c ≡ transmitting → Says (o .reply) (u .reply) (sentBy earlier c (u .reply))
-  pub marks : (c ≡ transmitting → ⊥) → u .reply ≡ o .reply
+  pub says : isTransmit (actionOf c) ≡ true → Says (o .reply) (u .reply) (sentBy earlier c (u .reply))
+  pub marks : isTransmit (actionOf c) ≡ false → u .reply ≡ o .reply
   pub not-lent : Own (o .reply .refusal)
 
 module _ (all : List Call) (n link : ℕ) (p m k : List ℕ) (v : View) (best : List Marked) (h : Holds all link p m k v best) where
@@ -72,7 +73,7 @@ module _ (all : List Call) (n link : ℕ) (p m k : List ℕ) (v : View) (best : 
         effect = subst (λ (t : Sent). Effect lastPlace (shareOf link) n v v r t (actionOf c)) (sym (sends-none all c r other)) effect;
         same = refl;
         moved = unmoved;
-        says = λ e. absurd (no-transmit c other e);
+        says = λ e. differ (sym e ∙ other);
         marks = λ e. refl;
         not-lent = own;
       }

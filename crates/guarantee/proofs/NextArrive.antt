@@ -19,6 +19,7 @@ use Rattle.queue.specs.declared.Frame.{Frame}
 use Rattle.queue.specs.Ring.{placeCount, joinedMemory, joinedQueue}
 use Rattle.queue.specs.Waiting.{waiting}
 use Rattle.queue.proofs.WaitingLaws.{joins, joins-elsewhere, joins-length, length-waiting}
+use Rattle.lists.proofs.EachLaws.{differ}
 use Rattle.record.specs.Layout.{Whole, queueCount, bestEffort, streamCount, memoryLength}
 use Rattle.record.specs.Head.{priorAt, linkAt, queueAt, withQueue}
 use Rattle.record.specs.Entry.{streamAt}
@@ -43,7 +44,6 @@ use Rattle.guarantee.specs.Events.{Marked, sentReserved, none, broughtBy
 use Rattle.guarantee.proofs.Run.{View, octets, ownRefusal, queueAfter, Effect, arrives, refuses-arrival}
 use Rattle.guarantee.proofs.Room.{Sound, octets-most, charged-length, stays-sound}
 use Rattle.guarantee.proofs.Tied.{Tied, plain, numbered, tied-joins, tied-length}
-use Rattle.guarantee.proofs.CallLaws.{no-transmit}
 use Rattle.guarantee.proofs.Held.{Holds, inRole, seen-below, seen-as-is, own-refusal, role-kept, changed, changed-here, changed-else, changed-seen}
 use Rattle.guarantee.proofs.Next.{link-kept, Moved, Next, next-unchanged, by-gate}
 
@@ -230,7 +230,7 @@ module _ (all : List Call) (n link : ℕ) (p m k : List ℕ) (v : View) (best : 
           effect = arrival-effect (Joined place next) e;
           same = refl;
           moved = joined-moved;
-          says = λ z. absurd (no-transmit (arriving s a tag) refl z);
+          says = λ z. differ (sym z);
           marks = λ z. refl;
           not-lent = inl (omega arith);
         })
@@ -264,7 +264,7 @@ module _ (all : List Call) (n link : ℕ) (p m k : List ℕ) (v : View) (best : 
                 above = h .above;
                 waits = rw (queue-place p s (spent .place) (spent .left) bestEffort (omega arith)) (h .waits);
               };
-          says = λ z. absurd (no-transmit (arriving s a tag) refl z);
+          says = λ z. differ (sym z);
           marks = λ z. refl;
           not-lent = inl (omega arith);
         })

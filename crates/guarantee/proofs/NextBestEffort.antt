@@ -1,6 +1,6 @@
 -- Best effort on a port that holds a view, granted or refused. Assumes nothing.
 use Prim.Native.Nat.{ℕ, _+_, _≤_, _<_}
-use mathlib.Core.Path.{_≡_, refl, ap, _∙_}
+use mathlib.Core.Path.{_≡_, refl, sym, ap, _∙_}
 use mathlib.Core.Logic.{inl}
 use mathlib.Core.List.{List, [], _∷_, _++_}
 use native.Mathlib.Omega.{arith}
@@ -10,6 +10,7 @@ use Rattle.queue.specs.declared.Queue.{Queue}
 use Rattle.queue.specs.Ring.{placeCount, joinedMemory, joinedQueue}
 use Rattle.queue.specs.Waiting.{waiting}
 use Rattle.queue.proofs.WaitingLaws.{joins, joins-elsewhere, joins-length}
+use Rattle.lists.proofs.EachLaws.{differ}
 use Rattle.record.specs.Layout.{Whole, bestEffort, memoryLength}
 use Rattle.record.specs.Head.{waitsAt, queueAt}
 use Rattle.fitness.specs.Clauses.{bestEffortStream}
@@ -25,7 +26,6 @@ use Rattle.port_laws.proofs.GateNumbers.{refusal-own}
 use Rattle.guarantee.specs.Events.{Marked, sentBestEffort, broughtBy, marked}
 use Rattle.guarantee.proofs.Run.{View, quiet}
 use Rattle.guarantee.proofs.Tied.{tied-joins}
-use Rattle.guarantee.proofs.CallLaws.{no-transmit}
 use Rattle.guarantee.proofs.BestEffortWritten.{written, written-keeps, written-here, written-stream, role-not-best-effort, written-role}
 use Rattle.guarantee.proofs.Held.{Holds, inRole, same-seen}
 use Rattle.guarantee.proofs.Next.{link-kept, Next, by-quiet-gate}
@@ -77,7 +77,7 @@ module _ (all : List Call) (n link : ℕ) (p m k : List ℕ) (v : View) (best : 
                   rw (best-effort-joins p a m (bestEffortFrame a tag) whole (h .long) (d .free), best-effort-joins p a k (bestEffortFrame a n) whole (h .long-marked) (d .free))
                   (tied-joins all sentBestEffort (waiting m bestEffort x) (waiting k bestEffort x) best f (h .waits) (counted, ap (λ (c : Call). broughtBy n (actionOf c)) here));
             };
-        says = λ z. absurd (no-transmit (joiningBestEffort a tag) refl z);
+        says = λ z. differ (sym z);
         marks = λ z. refl;
         not-lent = inl (omega arith);
       }

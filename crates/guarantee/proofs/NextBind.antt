@@ -1,9 +1,10 @@
 -- Bind on a port that holds a view, granted or refused: it touches neither queues nor streams. Assumes nothing.
 use Prim.Native.Nat.{ℕ}
-use mathlib.Core.Path.{_≡_, refl}
+use mathlib.Core.Path.{_≡_, refl, sym}
 use mathlib.Core.Logic.{inl}
 use mathlib.Core.List.{List}
 use native.Mathlib.Omega.{arith}
+use Rattle.lists.proofs.EachLaws.{differ}
 use Rattle.record.specs.Layout.{bestEffort}
 use Rattle.record.specs.Entry.{withBinding}
 use Rattle.record.proofs.BindingPairs.{open-binding, prior-binding, link-binding, queue-binding, stream-binding}
@@ -17,7 +18,6 @@ use Rattle.port_laws.specs.Counting.{actionOf}
 use Rattle.port_laws.proofs.GateNumbers.{refusal-own}
 use Rattle.guarantee.specs.Events.{Marked, marked}
 use Rattle.guarantee.proofs.Run.{View, quiet}
-use Rattle.guarantee.proofs.CallLaws.{no-transmit}
 use Rattle.guarantee.proofs.Held.{Holds, role-kept, same-seen}
 use Rattle.guarantee.proofs.Next.{Next, by-quiet-gate}
 
@@ -41,7 +41,7 @@ module _ (all : List Call) (n link : ℕ) (p m k : List ℕ) (v : View) (best : 
               above = h .above;
               waits = rw (queue-binding p s address vid bestEffort (omega arith)) (h .waits);
             };
-        says = λ z. absurd (no-transmit (binding s address vid) refl z);
+        says = λ z. differ (sym z);
         marks = λ z. refl;
         not-lent = inl (omega arith);
       }

@@ -15,7 +15,6 @@ use Rattle.port_laws.proofs.FrameLaws.{frame-refused}
 use Rattle.port_laws.proofs.GateNumbers.{refusal-own}
 use Rattle.guarantee.specs.Events.{Marked, marked}
 use Rattle.guarantee.proofs.Run.{View, quiet}
-use Rattle.guarantee.proofs.CallLaws.{no-transmit}
 use Rattle.guarantee.proofs.Held.{Holds}
 use Rattle.guarantee.proofs.Next.{Next, by-quiet-gate}
 

@@ -1,11 +1,12 @@
 -- Reserve on a port that holds a view, granted or refused; and Open, which an open port refuses. Assumes nothing.
 use Prim.Native.Nat.{ℕ}
-use mathlib.Core.Path.{_≡_, refl, ap, _∙_}
+use mathlib.Core.Path.{_≡_, refl, sym, ap, _∙_}
 use mathlib.Core.Logic.{inl}
 use mathlib.Core.List.{List}
 use native.Mathlib.Omega.{arith}
 use Rattle.stream.specs.State.{reserveOf}
 use Rattle.stream.specs.Replies.{refusedBy}
+use Rattle.lists.proofs.EachLaws.{differ}
 use Rattle.record.specs.Layout.{bestEffort}
 use Rattle.record.specs.Entry.{streamAt, withStream}
 use Rattle.record.proofs.EntryPairs.{stream-stream, other-stream, prior-stream, queue-stream}
@@ -23,7 +24,6 @@ use Rattle.port_laws.specs.Counting.{actionOf}
 use Rattle.port_laws.proofs.GateNumbers.{refusal-own, open-taken}
 use Rattle.guarantee.specs.Events.{Marked, marked}
 use Rattle.guarantee.proofs.Run.{View, free, refuses-reservation, reserves}
-use Rattle.guarantee.proofs.CallLaws.{no-transmit}
 use Rattle.guarantee.proofs.Held.{Holds, seen-below, seen-free, seen-sum, role-kept, changed, changed-here, changed-else, changed-seen}
 use Rattle.guarantee.proofs.Next.{link-kept, Next, next-unchanged, by-gate, by-quiet-gate}
 
@@ -63,7 +63,7 @@ module _ (all : List Call) (n link : ℕ) (p m k : List ℕ) (v : View) (best : 
               above = h .above;
               waits = rw (queue-stream p s (reserveOf permitted) bestEffort (omega arith)) (h .waits);
             };
-        says = λ z. absurd (no-transmit (reserving s permitted) refl z);
+        says = λ z. differ (sym z);
         marks = λ z. refl;
         not-lent = inl (omega arith);
       }

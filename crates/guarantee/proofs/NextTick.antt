@@ -17,6 +17,7 @@ use Rattle.stream.proofs.FitLaws.{tick-moves}
 use Rattle.stream.proofs.TickLaws.{stays-current}
 use Rattle.queue.specs.Ring.{emptyQueue}
 use Rattle.queue.proofs.WaitingLaws.{empty-waits, length-waiting}
+use Rattle.lists.proofs.EachLaws.{differ}
 use Rattle.record.specs.Layout.{Whole, queueCount, bestEffort, queueRoom, streamCount}
 use Rattle.record.specs.Head.{priorAt, withPrior, queueAt, withQueue}
 use Rattle.record.specs.Entry.{streamAt}
@@ -36,7 +37,6 @@ use Rattle.port_laws.proofs.GateNumbers.{closed-passes}
 use Rattle.guarantee.specs.Events.{Marked, sentReserved, marked}
 use Rattle.guarantee.proofs.Run.{View, free, octets, ticks}
 use Rattle.guarantee.proofs.Tied.{Tied, tied-empty, tied-length, tied-octets, tied-octets-shown}
-use Rattle.guarantee.proofs.CallLaws.{no-transmit}
 use Rattle.guarantee.proofs.Held.{Holds, inRole, seen, seenAt, seen-below, seen-above, seen-as-is, seen-free}
 use Rattle.guarantee.proofs.Next.{link-kept, Next, by-gate}
 
@@ -240,7 +240,7 @@ module _ (all : List Call) (n link : ℕ) (p m k : List ℕ) (v : View) (best : 
               above = λ role b. h .above (suc role) (omega arith);
               waits = rw tick-waits (h .waits);
             };
-        says = λ z. absurd (no-transmit ticking refl z);
+        says = λ z. differ (sym z);
         marks = λ z. tick-marks;
         not-lent = inl (omega arith);
       }

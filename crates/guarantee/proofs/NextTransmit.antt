@@ -32,7 +32,7 @@ use Rattle.port_laws.specs.Counting.{actionOf}
 use Rattle.port_laws.proofs.GateNumbers.{closed-passes}
 use Rattle.guarantee.specs.Events.{Marked, Sent, sentReserved, sentBestEffort as bestEffortFrame, none, broughtBy, marked}
 use Rattle.guarantee.specs.Claims.{replyOfSent}
-use Rattle.lists.proofs.EachLaws.{none-long}
+use Rattle.lists.proofs.EachLaws.{differ, none-long}
 use Rattle.guarantee.proofs.Run.{View, sends as sends-frame, idles}
 use Rattle.guarantee.proofs.CallLaws.{not-reserved, none-reserved}
 use Rattle.guarantee.proofs.Tied.{Tied, Oldest, oldest, tied-length}
@@ -137,7 +137,7 @@ module _ (all : List Call) (n link : ℕ) (p m k : List ℕ) (v : View) (best : 
             reply ∙ sym (ap (replyOfSent (λ g. g .tag)) sends-it),
             ap (λ (g : Frame). granted (g .stream) (g .tag)) (front .shown) ∙ sym (ap (replyOfSent (λ g. g .number)) sends-it),
           );
-          marks = λ z. absurd (z refl);
+          marks = λ z. differ z;
           not-lent = inl (omega arith);
         }
 
@@ -176,7 +176,7 @@ module _ (all : List Call) (n link : ℕ) (p m k : List ℕ) (v : View) (best : 
             ap (λ (g : Frame). granted (g .stream) (g .tag)) (oldest-there .real) ∙ sym (ap (replyOfSent (λ g. g .tag)) sends-it),
             ap (λ (g : Frame). granted (g .stream) (g .tag)) (oldest-there .shown) ∙ sym (ap (replyOfSent (λ g. g .number)) sends-it),
           );
-          marks = λ z. absurd (z refl);
+          marks = λ z. differ z;
           not-lent = inl (omega arith);
         }
 
@@ -191,7 +191,7 @@ module _ (all : List Call) (n link : ℕ) (p m k : List ℕ) (v : View) (best : 
           same = refl;
           moved = unmoved all n link p m k v best h;
           says = λ z. (sym (ap (replyOfSent (λ g. g .tag)) first), sym (ap (replyOfSent (λ g. g .number)) first));
-          marks = λ z. absurd (z refl);
+          marks = λ z. differ z;
           not-lent = inl (omega arith);
         }
 

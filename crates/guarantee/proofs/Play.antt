@@ -7,7 +7,7 @@ use mathlib.Core.List.{List, [], _∷_, _++_}
 use native.Mathlib.Omega.{arith}
 use lib.ListN.{length, getD, length-append}
 use Rattle.lists.specs.Each.{All}
-use Rattle.lists.proofs.EachLaws.{getD-before, getD-last}
+use Rattle.lists.proofs.EachLaws.{differ, getD-before, getD-last}
 use Rattle.stream.specs.State.{lastPlace}
 use Rattle.ranges.specs.Ranges.{shareOf}
 use Rattle.header.specs.Header.{chargeOf, lengthFits}
@@ -29,7 +29,7 @@ use Rattle.port_laws.proofs.StayLaws.{stays-fit}
 use Rattle.guarantee.specs.Events.{Marked, Sent, sentReserved, sentBestEffort, none, broughtBy, isTransmit, marked, Made, made, sentBy, Event, eventsAfter}
 use Rattle.guarantee.specs.Claims.{SameRecord, SaysWhatItSends, AlikeMarked, NotByHost}
 use Rattle.guarantee.proofs.Run.{View, Effect, Run}
-use Rattle.guarantee.proofs.CallLaws.{no-transmit, sends-none}
+use Rattle.guarantee.proofs.CallLaws.{sends-none}
 use Rattle.guarantee.proofs.Room.{Sound, stays-sound}
 use Rattle.guarantee.proofs.Tied.{tied-later}
 use Rattle.guarantee.proofs.Held.{Holds, inRole}
@@ -96,7 +96,7 @@ module _ (earlier : List Call) (link : ℕ) (p m k : List ℕ) (v : View) where
             (x .effect);
         same = x .same;
         moved = x .moved;
-        says = λ e. absurd (no-transmit c h e);
+        says = λ e. differ (sym e ∙ h);
         marks = x .marks;
         not-lent = x .not-lent;
       }

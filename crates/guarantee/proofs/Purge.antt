@@ -99,7 +99,7 @@ module _ (share : ℕ) (v w : View) (between : List Event) (e : Event) (d : Drai
     λ some.
         ⊎-elim
         (λ (i : Some Idle between). l .stays-empty (d .0 i))
-        (λ (i : Idle e). l .idle-empty (ap (λ (c : Call). isTransmit (actionOf c)) (i .0)) (i .1))
+        (λ (i : Idle e). l .idle-empty (i .0) (i .1))
         (some-snoc Idle between e some),
     ⊎-elim
         (λ (empty : v .queue 0 ≡ []). inl (l .stays-empty empty))

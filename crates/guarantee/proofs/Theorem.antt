@@ -6,8 +6,10 @@ use mathlib.Core.Logic.{⊎-elim}
 use mathlib.Core.List.{List, [], _∷_}
 use native.Mathlib.Omega.{arith}
 use Rattle.lists.proofs.TurnLaws.{sumTo-none}
+use Rattle.lists.proofs.EachLaws.{differ}
 use Rattle.lists.proofs.Order.{le-or-lt}
 use Rattle.stream.specs.State.{currentPlace, lastPlace}
+use Rattle.stream.specs.Replies.{granted}
 use Rattle.queue.specs.Waiting.{waiting}
 use Rattle.queue.proofs.WaitingLaws.{empty-waits}
 use Rattle.record.specs.Layout.{Whole, queueCount, bestEffort, streamCount}
@@ -35,7 +37,6 @@ use Rattle.guarantee.specs.Demand3.{CallList, eventsIn, LinkHolds, Promi
 use Rattle.guarantee.specs.Beyond.{SentByReply}
 use Rattle.guarantee.proofs.Run.{View, free, octets, quiet, Run}
 use Rattle.guarantee.proofs.Room.{Sound}
-use Rattle.guarantee.proofs.CallLaws.{no-transmit}
 use Rattle.guarantee.proofs.Purge.{no-purge}
 use Rattle.guarantee.proofs.Delay.{sent-by-reply, all-sent}
 use Rattle.guarantee.proofs.Conforming.{prompt}
@@ -137,6 +138,10 @@ module _ (l : CallList) where
   run : Run lastPlace (shareOf (l .terms .link)) 0 emptyView (eventsIn l)
   run = (emptyView, quiet tt refl (λ role. refl) (λ s. refl), later-plays .run)
 
+-- the Open's reply tells the share
+pub opened-reply : (l : CallList) → called (opening (l .terms)) (l .port) (l .memory) .reply ≡ granted (shareOf (l .terms .link)) 0
+opened-reply l = ap (λ (o : Outcome). o .reply) (opened-so l)
+
 -- what the link condition promises, whatever the number of queues, also where it asks less than the share by less than the least charge
 pub promises : (last share asked : ℕ) (es : List Event) → currentPlace < last → share < asked + leastCharge → Run last share 0 emptyView es → LinkCondition asked es
     → Promised (last + 1) es
@@ -157,7 +162,7 @@ demand-3 l =
       alike = λ other s.
           alike lastPlace (shareOf (l .terms .link)) (shareOf (other .terms .link)) s (eventsIn l) (eventsIn other) emptyView emptyView refl (run l) (run other);
       records = (refl, later-plays l .records);
-      says = (λ e. absurd (no-transmit (opening (l .terms)) refl e), later-plays l .says);
+      says = (λ e. differ (sym e), later-plays l .says);
       marks = (λ e. refl, later-plays l .marks);
       not-by-host = ((λ e. omega (arith, l .opened), (λ e. omega (arith, l .opened), λ e. omega (arith, l .opened))), later-plays l .not-by-host);
     }

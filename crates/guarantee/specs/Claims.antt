@@ -13,9 +13,9 @@ use Rattle.stream.specs.Replies.{granted}
 use Rattle.stream.specs.State.{currentPlace}
 use Rattle.sending.specs.Sending.{nothing}
 use Rattle.ranges.specs.Ranges.{chargeFits}
-use Rattle.steps.specs.Call.{Call, reserving, arriving, transmitting}
+use Rattle.steps.specs.Call.{Call, reserving, arriving}
 use Rattle.port_laws.specs.Counting.{Action, toTick, toTransmit, toReserve, toArrive, toBestEffort, toFrame, neither}
-use Rattle.guarantee.specs.Events.{Marked, Sent, sentReserved, sentBestEffort, none, Made, Event, action}
+use Rattle.guarantee.specs.Events.{Marked, Sent, sentReserved, sentBestEffort, none, isTransmit, Made, Event, action}
 
 -- whether an action is a Tick, and how many of the events are
 abbrev pub isTick : Action → Bool
@@ -46,8 +46,14 @@ abbrev pub reservedOctets : List Event → ℕ
 reservedOctets = sumOf (λ e. reservedCharge (e .sent))
 
 -- "some transmit sends no reserved frame"
+abbrev pub Transmit : Event → Type 0
+Transmit e = isTransmit (action e) ≡ true
+
+abbrev pub NoTransmit : Event → Type 0
+NoTransmit e = isTransmit (action e) ≡ false
+
 abbrev pub Idle : Event → Type 0
-Idle e = (e .call ≡ transmitting) × ((f : Marked) → e .sent ≡ sentReserved f → ⊥)
+Idle e = Transmit e × ((f : Marked) → e .sent ≡ sentReserved f → ⊥)
 
 -- "the reserved octets sent are at least the port's share or some transmit sends no reserved frame"
 abbrev pub Linked : ℕ → List Event → Type 0
@@ -71,11 +77,11 @@ replyOfSent tag (sentBestEffort f) = granted (f .stream) (tag f)
 replyOfSent tag none = granted nothing 0
 
 abbrev pub SaysWhatItSends : Event → Type 0
-SaysWhatItSends e = e .call ≡ transmitting → (e .reply ≡ replyOfSent (λ f. f .tag) (e .sent)) × (e .shown ≡ replyOfSent (λ f. f .number) (e .sent))
+SaysWhatItSends e = Transmit e → (e .reply ≡ replyOfSent (λ f. f .tag) (e .sent)) × (e .shown ≡ replyOfSent (λ f. f .number) (e .sent))
 
 -- every other call replies the same, whatever the tags
 abbrev pub AlikeMarked : Event → Type 0
-AlikeMarked e = (e .call ≡ transmitting → ⊥) → e .shown ≡ e .reply
+AlikeMarked e = NoTransmit e → e .shown ≡ e .reply
 
 -- the run whose frames are marked is a run of the same port: its record is the port's own after every call
 abbrev pub SameRecord : Made → Type 0

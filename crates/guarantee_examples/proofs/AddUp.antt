@@ -7,7 +7,7 @@ use lib.ListN.{length}
 use Rattle.record.specs.Head.{priorAt}
 use Rattle.header.specs.Header.{lengthFits}
 use Rattle.fitness.specs.Clauses.{priorFits}
-use Rattle.guarantee.specs.Claims.{ticks, reservedOctets, answers}
+use Rattle.guarantee.specs.Claims.{tickCount, reservedOctets, answers}
 use Rattle.guarantee_examples.specs.Examples.{light, withheld, untagged}
 use Rattle.guarantee_examples.specs.LeftOpen.{crowdedOpening, crowdedGrant, crowdedBefore, crowdedFrame, tooSoon, crowded, busyBefore, busyNextArrival, secondFrame, thirdFrame, sixAnswers, shortestFrame, unfitRecord}
 use Rattle.guarantee_examples.specs.AddUp.{sentAt, broughtAt, accepted, purged, EventsAddUp}
@@ -27,7 +27,7 @@ second-number = refl
 third-number : thirdFrame .number ≡ length (busyBefore ++ (busyNextArrival ∷ []))
 third-number = refl
 
-first-tick : ticks [] + 1 ≡ tooSoon
+first-tick : tickCount [] + 1 ≡ tooSoon
 first-tick = refl
 
 pub crowded-six : answers 6 crowded ≡ sixAnswers

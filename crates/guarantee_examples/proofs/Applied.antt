@@ -12,44 +12,42 @@ use Rattle.lists.proofs.TurnLaws.{both}
 use Rattle.stream.specs.declared.Reply.{Reply}
 use Rattle.record.specs.Layout.{queueCount}
 use Rattle.ranges.specs.Ranges.{shareOf}
-use Rattle.port_laws.specs.Lists.{Call, opening, reserving, arriving, ticking, transmitting, joiningBestEffort, binding, framing}
-use Rattle.guarantee.specs.Events.{Marked, Sent, reserved, bestEffort, none, Event}
-use Rattle.guarantee.specs.Claims.{LinkCondition, SaysWhatItSends, AlikeMarked, Sends, Alike, NotByHost}
-use Rattle.guarantee.specs.Demand3.{eventsOf, Promised}
-use Rattle.guarantee.proofs.Theorem.{demand-3}
+use Rattle.guarantee.specs.Events.{Marked, Sent, sentReserved, sentBestEffort, none, Event}
+use Rattle.guarantee.specs.Claims.{SameRecord, LinkCondition, SaysWhatItSends, AlikeMarked, Sends, Alike, NotByHost}
+use Rattle.guarantee.specs.Demand3.{runsOf, eventsIn, LinkHolds, Promised}
+use Rattle.guarantee.proofs.Theorem.{opened-reply, demand-3}
 use Rattle.guarantee_examples.specs.Examples.{Happens}
 
--- the L of an Open, and of the events that it begins
-abbrev linkOf : Call → ℕ
-linkOf (opening link delay) = link
-linkOf (reserving s permitted) = 0
-linkOf (arriving s charge tag) = 0
-linkOf ticking = 0
-linkOf transmitting = 0
-linkOf (joiningBestEffort charge tag) = 0
-linkOf (binding s address vid) = 0
-linkOf (framing octets tag) = 0
-
-abbrev pub firstLink : List Event → ℕ
-firstLink [] = 0
-firstLink (e ∷ es) = linkOf (e .call)
+-- the share, which the first event replies, since it is a granted Open
+abbrev pub firstShare : List Event → ℕ
+firstShare [] = 0
+firstShare (e ∷ es) = e .reply .first
 
 -- replies with the same numbers are the same
 pub by-numbers : (a b : Reply) → a .refusal ≡ b .refusal → a .first ≡ b .first → a .second ≡ b .second → a ≡ b
 by-numbers a b refusal first second = rw (refusal, first, second)
 
 module _ (es : List Event) (happens : Happens es) where
+  -- that share
+  pub first-share : firstShare es ≡ shareOf (happens .list .terms .link)
+  first-share = sym (ap firstShare (happens .so)) ∙ ap (λ (r : Reply). r .first) (opened-reply (happens .list))
+
+  -- the link condition of the list
+  pub link-of : LinkCondition (firstShare es) es → LinkHolds (happens .list)
+  link-of link = subst (LinkCondition (shareOf (happens .list .terms .link))) (sym (happens .so)) (subst (λ (share : ℕ). LinkCondition share es) first-share link)
+
   -- what the link condition promises
-  pub promised-of : LinkCondition (shareOf (firstLink es)) es → Promised queueCount es
-  promised-of link =
-      subst (Promised queueCount) (happens .so)
-      (demand-3 (happens .list) .promised (subst (λ (zs : List Event). LinkCondition (shareOf (firstLink zs)) zs) (sym (happens .so)) link))
+  pub promised-of : LinkCondition (firstShare es) es → Promised queueCount es
+  promised-of link = subst (Promised queueCount) (happens .so) (demand-3 (happens .list) .promised (link-of link))
 
   -- what is so in every list
   pub alike-of : (fs : List Event) (s : ℕ) → Happens fs → Alike s es fs
   alike-of fs s other =
       subst (λ (zs : List Event). Alike s zs fs) (happens .so)
-      (subst (Alike s (eventsOf (happens .list))) (other .so) (demand-3 (happens .list) .alike (other .list) s))
+      (subst (Alike s (eventsIn (happens .list))) (other .so) (demand-3 (happens .list) .alike (other .list) s))
+
+  pub records-of : All SameRecord (runsOf (happens .list))
+  records-of = demand-3 (happens .list) .records
 
   pub says-of : All SaysWhatItSends es
   says-of = subst (All SaysWhatItSends) (happens .so) (demand-3 (happens .list) .says)
@@ -62,8 +60,8 @@ module _ (es : List Event) (happens : Happens es) where
 
 -- whether what is sent is no reserved frame of call number n
 abbrev isOther : ℕ → Sent → Bool
-isOther n (reserved f) = not (eqb (f .number) n)
-isOther n (bestEffort f) = true
+isOther n (sentReserved f) = not (eqb (f .number) n)
+isOther n (sentBestEffort f) = true
 isOther n none = true
 
 abbrev pub allOther : ℕ → List Event → Bool
@@ -81,7 +79,7 @@ module _ (f : Marked) where
 
   -- where some event sends the frame and no other does, this one does
   pub only : (before after : List Event) (e : Event) → allOther (f .number) before ≡ true → allOther (f .number) after ≡ true
-      → Some (Sends f) (before ++ (e ∷ after)) → e .sent ≡ reserved f
+      → Some (Sends f) (before ++ (e ∷ after)) → e .sent ≡ sentReserved f
   only [] after e others others-after (inl sends) = sends .0
   only [] after e others others-after (inr sends) = absurd (none-sends after others-after sends)
   only (d ∷ before) after e others others-after (inl sends) = absurd (not-other d (both _ _ others .0) sends)

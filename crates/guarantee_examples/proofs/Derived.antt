@@ -1,24 +1,23 @@
 -- What demand 3 says of the lists with open parts. Assumes nothing.
 use Prim.Native.Nat.{ℕ}
-use mathlib.Core.Path.{_≡_, refl, sym, ap, _∙_}
+use mathlib.Core.Path.{_≡_, refl, sym, ap, subst, _∙_}
 use mathlib.Core.List.{List, [], _∷_, _++_}
 use native.Mathlib.Omega.{arith}
-use Rattle.lists.specs.Each.{Some}
+use Rattle.lists.specs.Each.{All, Some}
 use Rattle.lists.proofs.EachLaws.{all-rest}
 use Rattle.stream.specs.declared.Reply.{Reply}
 use Rattle.stream.specs.Replies.{granted, refusedBy}
 use Rattle.ranges.specs.Ranges.{shareOf}
-use Rattle.port_laws.specs.Lists.{arriving, ticking}
-use Rattle.guarantee.specs.Events.{Sent, reserved, Event}
-use Rattle.guarantee.specs.Claims.{LinkCondition, PurgesNothing, SaysWhatItSends, Sends, Prompt, OffersWithin}
-use Rattle.guarantee.proofs.CallLaws.{no-transmit}
-use Rattle.guarantee_examples.specs.Examples.{replied, Happens}
+use Rattle.steps.specs.Call.{arriving, ticking}
+use Rattle.guarantee.specs.Events.{Sent, sentReserved, Event}
+use Rattle.guarantee.specs.Claims.{SameRecord, LinkCondition, PurgesNothing, SaysWhatItSends, Sends, Prompt, OffersWithin}
+use Rattle.guarantee_examples.specs.Examples.{replied, Happens, permitted200}
 use Rattle.guarantee_examples.specs.LeftOpen.{transmitted, crowdedOpening, crowdedGrant, crowdedBefore, crowdedBetween, crowdedFourth, crowdedToSecondTick, crowdedAfter, crowdedWith, crowdedFrame, crowdedPlace, crowded, busyBefore, busyNextArrival, busyLastArrival, busyToThirdTick, busyToFourthTick, busyAfter, busyWith, thirdFrame, busySecond, busyThird, purgesNone, aloneWith, arrivedWith, discards, tooShort, unfit, queueFull}
 use Rattle.guarantee_examples.specs.Derived.{DemandSays}
 use Rattle.guarantee_examples.proofs.LinkTest.{link-holds}
 use Rattle.guarantee_examples.proofs.OffersTest.{within-holds}
 use Rattle.guarantee_examples.proofs.AddUp.{crowded-six}
-use Rattle.guarantee_examples.proofs.Applied.{by-numbers, promised-of, alike-of, says-of, marks-of, not-by-host-of, only}
+use Rattle.guarantee_examples.proofs.Applied.{by-numbers, promised-of, alike-of, records-of, says-of, marks-of, not-by-host-of, only}
 use Rattle.guarantee_examples.proofs.OpenPartsHappen.{crowded-made, listOf}
 
 module _ (reply : Reply) (sent : Sent) (said shown : Reply) where
@@ -68,15 +67,15 @@ abbrev beforeThird : List Event
 beforeThird = crowdedOpening ++ (crowdedGrant ∷ (crowdedBefore ++ (replied (arriving 5 120 7) (granted crowdedPlace 80) ∷ crowdedBetween)))
 
 -- from `says`
-third-says : (said shown : Reply) → Happens (crowdedWith (granted crowdedPlace 80) (transmitted (reserved crowdedFrame) said shown))
+third-says : (said shown : Reply) → Happens (crowdedWith (granted crowdedPlace 80) (transmitted (sentReserved crowdedFrame) said shown))
     → (said ≡ granted 5 7) × (shown ≡ granted 5 10)
 third-says said shown happens =
-    let third = transmitted (reserved crowdedFrame) said shown in
+    let third = transmitted (sentReserved crowdedFrame) said shown in
     all-rest SaysWhatItSends beforeThird (third ∷ (crowdedFourth ++ (replied ticking (granted 0 0) ∷ []))) (says-of (crowdedWith (granted crowdedPlace 80) third) happens) .0 refl
 
 -- from `marks`, and from `not-by-host`
 discard-marked : (shown : Reply) → Happens (arrivedWith (refusedBy discards) shown) → shown ≡ refusedBy discards
-discard-marked shown happens = marks-of (arrivedWith (refusedBy discards) shown) happens .1 .1 .0 (no-transmit (arriving 5 120 7) tt)
+discard-marked shown happens = marks-of (arrivedWith (refusedBy discards) shown) happens .1 .1 .0 refl
 
 never : (number : ℕ) → Happens (arrivedWith (refusedBy number) (refusedBy number)) → (number ≡ 18 → ⊥) × ((number ≡ 19 → ⊥) × (number ≡ 20 → ⊥))
 never number happens = not-by-host-of (arrivedWith (refusedBy number) (refusedBy number)) happens .1 .1 .0
@@ -100,6 +99,8 @@ demand-says =
       no-purge-zeros = fourth-tick;
       alike-six = λ first second third fourth happens.
           sym (alike-of crowded crowded-happens (aloneWith first second third fourth) 6 happens refl refl) ∙ crowded-six;
+      records-same = λ happens before after x split.
+          all-rest SameRecord before (x ∷ after) (subst (All SameRecord) split (records-of permitted200 happens)) .0;
       says-frame = third-says;
       marks-discard = discard-marked;
       never-18 = λ happens. never tooShort happens .0 (omega arith);

@@ -22,16 +22,17 @@ use Rattle.best_effort.specs.BestEffort.{bestEffortStep}
 use Rattle.binding.specs.Finding.{lookupFrom, lookup, frameLookup}
 use Rattle.gates.specs.Refusals.{openRefusal, reserveRefusal, arriveRefusal, closedRefusal, bestEffortRefusal}
 use Rattle.gates.specs.FrameRefusals.{bindRefusal, frameRefusal}
-use Rattle.port.specs.Calls.{openCall}
-use Rattle.port_laws.specs.Lists.{Call, freshRecord, freshMemory}
+use Rattle.steps.specs.Call.{terms, Call, opening}
+use Rattle.port.specs.Calls.{called}
+use Rattle.port_laws.specs.Lists.{freshRecord, freshMemory}
 use Rattle.guarantee.specs.Events.{Event}
 use Rattle.guarantee.specs.Demand3.{CallList}
 use Rattle.guarantee_examples.specs.Shown.{AllHappen}
 use Rattle.guarantee_examples.specs.Examples.{busy, light, withheld, permitted200, permitted100, framedCalls, callsOf}
 
 -- a list of calls on a port never opened
-abbrev fromFresh : (link delay : ℕ) → List Call → openCall freshRecord freshMemory link delay .reply .refusal ≡ 0 → CallList
-fromFresh link delay later is = record { port = freshRecord; memory = freshMemory; link = link; delay = delay; later = later; opened = is }
+abbrev fromFresh : (link delay : ℕ) → List Call → called (opening (terms link delay)) freshRecord freshMemory .reply .refusal ≡ 0 → CallList
+fromFresh link delay later is = record { port = freshRecord; memory = freshMemory; terms = terms link delay; later = later; opened = is }
 
 -- the calls of the events after the first, which are the calls themselves where none is a Frame
 abbrev afterFirst : List Event → List Call

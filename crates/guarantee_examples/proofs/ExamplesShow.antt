@@ -9,11 +9,11 @@ use Rattle.stream.specs.declared.Reply.{Reply}
 use Rattle.stream.specs.State.{lastPlace}
 use Rattle.stream.specs.Replies.{granted}
 use Rattle.ranges.specs.Ranges.{leastCharge, shareOf}
-use Rattle.port_laws.specs.Lists.{opening, reserving, arriving, ticking}
-use Rattle.guarantee.specs.Events.{Marked, reserved, Event}
+use Rattle.steps.specs.Call.{terms, opening, reserving, arriving, ticking}
+use Rattle.guarantee.specs.Events.{Marked, sentReserved, Event}
 use Rattle.guarantee.specs.Claims.{reservedOctets, Idle, LinkCondition, PurgesNothing, Sends, AllSentBefore}
 use Rattle.guarantee.proofs.CallLaws.{none-reserved}
-use Rattle.guarantee_examples.specs.Examples.{frameOf, sending, replied, busy, light, withheld, silent}
+use Rattle.guarantee_examples.specs.Examples.{markedFrame, sending, replied, busy, light, withheld, silent}
 use Rattle.guarantee_examples.specs.Shown.{ExamplesShow}
 use Rattle.guarantee_examples.proofs.LinkTest.{link-holds, none-idle}
 use Rattle.guarantee_examples.proofs.ExamplesHappen.{all-happen}
@@ -24,39 +24,39 @@ firstRefusal [] = 0
 firstRefusal (r ∷ rs) = r .refusal
 
 -- frames of different calls are different
-other-frame : (f g : Marked) → (f .number ≡ g .number → ⊥) → reserved f ≡ reserved g → ⊥
+other-frame : (f g : Marked) → (f .number ≡ g .number → ⊥) → sentReserved f ≡ sentReserved g → ⊥
 other-frame f g o e = let z : f .number ≡ g .number = cc in o z
 
 -- between the third frame's arrival and the third tick the first two frames are sent, and not the third
 abbrev third : Marked
-third = frameOf 5 84 7 4
+third = markedFrame 5 84 7 4
 
 abbrev toThirdTick : List Event
 toThirdTick =
     replied ticking (granted 0 0)
-    ∷ sending (reserved (frameOf 5 84 7 2)) (granted 5 7)
+    ∷ sending (sentReserved (markedFrame 5 84 7 2)) (granted 5 7)
     ∷ replied ticking (granted 0 0)
-    ∷ sending (reserved (frameOf 5 84 7 3)) (granted 5 7)
+    ∷ sending (sentReserved (markedFrame 5 84 7 3)) (granted 5 7)
     ∷ []
 
 third-unsent : Some (Sends third) toThirdTick → ⊥
 third-unsent (inl s) = none-reserved third (s .0)
-third-unsent (inr (inl s)) = other-frame (frameOf 5 84 7 2) third (λ e. omega arith) (s .0)
+third-unsent (inr (inl s)) = other-frame (markedFrame 5 84 7 2) third (λ e. omega arith) (s .0)
 third-unsent (inr (inr (inl s))) = none-reserved third (s .0)
-third-unsent (inr (inr (inr (inl s)))) = other-frame (frameOf 5 84 7 3) third (λ e. omega arith) (s .0)
+third-unsent (inr (inr (inr (inl s)))) = other-frame (markedFrame 5 84 7 3) third (λ e. omega arith) (s .0)
 
 not-by-third : AllSentBefore lastPlace busy → ⊥
 not-by-third all =
     third-unsent
     (all
-    (replied (opening 1626 1) (granted 84 0) ∷ replied (reserving 5 84) (granted 0 0) ∷ replied (arriving 5 84 7) (granted 1 84) ∷ replied (arriving 5 84 7) (granted 2 84) ∷ [])
-    (toThirdTick ++ (replied ticking (granted 0 0) ∷ sending (reserved third) (granted 5 7) ∷ replied ticking (granted 0 0) ∷ []))
+    (replied (opening (terms 1626 1)) (granted 84 0) ∷ replied (reserving 5 84) (granted 0 0) ∷ replied (arriving 5 84 7) (granted 1 84) ∷ replied (arriving 5 84 7) (granted 2 84) ∷ [])
+    (toThirdTick ++ (replied ticking (granted 0 0) ∷ sending (sentReserved third) (granted 5 7) ∷ replied ticking (granted 0 0) ∷ []))
     (replied (arriving 5 84 7) (granted 3 0))
-    5 84 7 refl refl refl toThirdTick (sending (reserved third) (granted 5 7) ∷ replied ticking (granted 0 0) ∷ []) (replied ticking (granted 0 0)) refl refl refl)
+    5 84 7 refl refl refl toThirdTick (sending (sentReserved third) (granted 5 7) ∷ replied ticking (granted 0 0) ∷ []) (replied ticking (granted 0 0)) refl refl refl)
 
 -- the epoch in which too little is sent
 abbrev epoch : List Event
-epoch = sending (reserved (frameOf 5 516 7 2)) (granted 5 7) ∷ []
+epoch = sending (sentReserved (markedFrame 5 516 7 2)) (granted 5 7) ∷ []
 
 -- the tick that purges
 purges : All PurgesNothing withheld → ⊥
@@ -71,7 +71,7 @@ fails : LinkCondition (shareOf 2142) withheld → ⊥
 fails link =
     epoch-fails
     (link
-    (replied (opening 2142 1) (granted 600 0) ∷ replied (reserving 5 600) (granted 0 0) ∷ replied (arriving 5 516 7) (granted 1 84) ∷ replied (arriving 5 84 8) (granted 1 600) ∷ [])
+    (replied (opening (terms 2142 1)) (granted 600 0) ∷ replied (reserving 5 600) (granted 0 0) ∷ replied (arriving 5 516 7) (granted 1 84) ∷ replied (arriving 5 84 8) (granted 1 600) ∷ [])
     epoch [] (replied ticking (granted 0 0)) (replied ticking (granted 1 84)) refl refl refl (refl, tt))
 
 -- the tick after the silent transmit

@@ -9,39 +9,18 @@ use borrow.Author.Tests.{leb-true}
 use lib.Dec.{leb}
 use Rattle.lists.specs.Each.{All, Some}
 use Rattle.lists.proofs.TurnLaws.{both}
-use Rattle.port_laws.specs.Lists.{Call, opening, reserving, arriving, ticking, transmitting, joiningBestEffort, binding, framing}
-use Rattle.guarantee.specs.Events.{Marked, Sent, reserved, bestEffort, none, Event}
+use Rattle.guarantee.specs.Events.{Marked, Sent, sentReserved, sentBestEffort, none, isTransmit, Event, action}
 use Rattle.guarantee.specs.Claims.{isTick, Tick, NoTick, reservedCharge, reservedOctets, Idle, LinkCondition}
 use Rattle.lists.proofs.EachLaws.{differ}
 
 -- whether an event is a transmit without a reserved frame
-abbrev isTransmit : Call → Bool
-isTransmit (opening link delay) = false
-isTransmit (reserving s permitted) = false
-isTransmit (arriving s charge tag) = false
-isTransmit ticking = false
-isTransmit transmitting = true
-isTransmit (joiningBestEffort charge tag) = false
-isTransmit (binding s address vid) = false
-isTransmit (framing octets tag) = false
-
-transmit-so : (c : Call) → isTransmit c ≡ true → c ≡ transmitting
-transmit-so (opening link delay) e = differ (sym e)
-transmit-so (reserving s permitted) e = differ (sym e)
-transmit-so (arriving s charge tag) e = differ (sym e)
-transmit-so ticking e = differ (sym e)
-transmit-so transmitting e = refl
-transmit-so (joiningBestEffort charge tag) e = differ (sym e)
-transmit-so (binding s address vid) e = differ (sym e)
-transmit-so (framing octets tag) e = differ (sym e)
-
 abbrev isReserved : Sent → Bool
-isReserved (reserved f) = true
-isReserved (bestEffort f) = false
+isReserved (sentReserved f) = true
+isReserved (sentBestEffort f) = false
 isReserved none = false
 
 abbrev isIdle : Event → Bool
-isIdle e = isTransmit (e .call) && not (isReserved (e .sent))
+isIdle e = isTransmit (action e) && not (isReserved (e .sent))
 
 not-so : (b : Bool) → not b ≡ true → b ≡ false
 not-so true e = sym e
@@ -49,8 +28,8 @@ not-so false e = refl
 
 idle-so : (e : Event) → isIdle e ≡ true → Idle e
 idle-so e is =
-    let b = both (isTransmit (e .call)) (not (isReserved (e .sent))) is in
-    (transmit-so (e .call) (b .0), λ f s. differ (ap isReserved (sym s) ∙ not-so (isReserved (e .sent)) (b .1)))
+    let b = both (isTransmit (action e)) (not (isReserved (e .sent))) is in
+    (b .0, λ f s. differ (ap isReserved (sym s) ∙ not-so (isReserved (e .sent)) (b .1)))
 
 either : (a b : Bool) → (a || b) ≡ true → (a ≡ true) ⊎ (b ≡ true)
 either true b e = inl refl
@@ -60,7 +39,7 @@ either false b e = inr e
 abbrev linksFrom : ℕ → Bool → ℕ → Bool → List Event → Bool
 linksFrom share ticked octets idle [] = true
 linksFrom share ticked octets idle (e ∷ es) =
-    cond (isTick (e .call))
+    cond (isTick (action e))
     ((not ticked || (leb share octets || idle)) && linksFrom share true 0 false es)
     (linksFrom share ticked (octets + reservedCharge (e .sent)) (idle || isIdle e) es)
 
@@ -77,9 +56,9 @@ record Goes (share : ℕ) (es : List Event) : Type 0 where
 -- one event of the test
 goes-step : (share : ℕ) (e : Event) (rest es : List Event) → ((ticked : Bool) (octets : ℕ) (idle : Bool) → linksFrom share ticked octets idle rest ≡ true → Goes share es)
     → (ticked : Bool) (octets : ℕ) (idle : Bool) → linksFrom share ticked octets idle (e ∷ rest) ≡ true → Goes share es
-goes-step share e rest es on ticked octets idle h = told (isTick (e .call)) refl
+goes-step share e rest es on ticked octets idle h = told (isTick (action e)) refl
   where
-    told : (b : Bool) → isTick (e .call) ≡ b → Goes share es
+    told : (b : Bool) → isTick (action e) ≡ b → Goes share es
     told true is =
         on true 0 false (both (not ticked || (leb share octets || idle)) (linksFrom share true 0 false rest) (rw is at h) .1)
     told false is = on ticked (octets + reservedCharge (e .sent)) (idle || isIdle e) (rw is at h)
@@ -126,9 +105,9 @@ neither : (a b : Bool) → (a || b) ≡ false → (a ≡ false) × (b ≡ false)
 neither true b e = differ e
 neither false b e = (refl, e)
 
-so-idle : (t : Sent) → ((f : Marked) → t ≡ reserved f → ⊥) → isReserved t ≡ false
-so-idle (reserved f) h = absurd (h f refl)
-so-idle (bestEffort f) h = refl
+so-idle : (t : Sent) → ((f : Marked) → t ≡ sentReserved f → ⊥) → isReserved t ≡ false
+so-idle (sentReserved f) h = absurd (h f refl)
+so-idle (sentBestEffort f) h = refl
 so-idle none h = refl
 
 pub none-idle : (es : List Event) → anyIdle es ≡ false → Some Idle es → ⊥

@@ -15,12 +15,15 @@ use Rattle.header.specs.Header.{chargeOf, lengthFits, taggedFrame}
 use Rattle.binding.specs.Finding.{frameLookup}
 use Rattle.lists.specs.Equal.{octetsEqual}
 use Rattle.lists.specs.Turns.{allTo}
-use Rattle.port_laws.specs.Lists.{Call, opening, ticking, joiningBestEffort, framing, called, quicklyCalled, replies, freshRecord, freshMemory}
+use Rattle.steps.specs.Call.{terms, Call, opening, ticking, joiningBestEffort, framing}
+use Rattle.port.specs.Calls.{called}
+use Rattle.port.specs.Quick.{quicklyCalled}
+use Rattle.port_laws.specs.Lists.{replies, freshRecord, freshMemory}
 use Rattle.port_laws.proofs.FreshFit.{fresh-fits}
 use Rattle.port_laws.proofs.QuickLaws.{quick-call}
 use Rattle.port_laws.proofs.StayLaws.{stays-fit, granted-open-fits, quick-replies}
 use Rattle.port_laws.proofs.FrameLaws.{frame-becomes, frame-refused, frame-not-17}
-use Rattle.guarantee.specs.Events.{Sent, reserved, Event, happened}
+use Rattle.guarantee.specs.Events.{Sent, sentReserved, made, Event, eventsAfter}
 use Rattle.guarantee.specs.Claims.{reservedOctets, Idle, LinkCondition, PurgesNothing, Sends, SentBefore}
 use Rattle.guarantee.specs.Beyond.{SentByReply}
 use Rattle.guarantee.specs.Demand3.{Promised}
@@ -30,7 +33,7 @@ use Rattle.guarantee_examples.specs.LeftOpen.{transmitted, busyBefore, b
 use Rattle.guarantee_examples.specs.Derived.{OpenPartsHappen, TheoremsSay}
 use Rattle.guarantee_examples.proofs.LinkTest.{links, link-holds, none-idle}
 use Rattle.guarantee_examples.proofs.AddUp.{shortest-fits}
-use Rattle.guarantee_examples.proofs.Applied.{by-numbers, firstLink, none-sends, only}
+use Rattle.guarantee_examples.proofs.Applied.{by-numbers, firstShare, first-share, link-of, none-sends, only}
 use Rattle.guarantee_examples.proofs.OpenPartsHappen.{listOf, crowded-made, nearly-made, alone-made, unfit-before, unfit-refused, unfit-opened, busy-made, arrived-made}
 
 module _ (sent : Sent) (said shown : Reply) where
@@ -42,12 +45,12 @@ module _ (sent : Sent) (said shown : Reply) where
       → Some (Sends secondFrame) (busyLastArrival ∷ busyToThirdTick busyNext)
   next-sends happens link =
       subst SentByReply (happens .so)
-      (sent-as-replied (happens .list) (subst (λ (zs : List Event). LinkCondition (shareOf (firstLink zs)) zs) (sym (happens .so)) link))
+      (sent-as-replied (happens .list) (link-of _ happens link))
       busyBefore (busyLastArrival ∷ busyAfter busyNext busyThird purgesNone) busyNextArrival 5 84 7 refl refl refl
       (busyLastArrival ∷ busyToThirdTick busyNext) (busyThird ∷ replied ticking purgesNone ∷ []) (replied ticking (granted 0 0)) refl refl refl
 
   next-sent : Happens (busyWith busyNext busyThird purgesNone) → LinkCondition (shareOf 1626) (busyWith busyNext busyThird purgesNone)
-      → sent ≡ reserved secondFrame
+      → sent ≡ sentReserved secondFrame
   next-sent happens link =
       only secondFrame (busyLastArrival ∷ (busyToSecondTick ++ (replied ticking (granted 0 0) ∷ []))) [] busyNext refl refl (next-sends happens link)
 
@@ -69,9 +72,9 @@ fails link = epoch-fails (link nearlyBefore nearlyEpoch [] (replied ticking (gra
 abbrev leastAsked : ℕ
 leastAsked = shareOf 2142 + 1 - leastCharge
 
-nearly-promised : (es : List Event) → Happens es → firstLink es ≡ 2142 → LinkCondition leastAsked es → Promised queueCount es
-nearly-promised es happens link-so link =
-    let same : happens .list .link ≡ 2142 = ap firstLink (happens .so) ∙ link-so in
+nearly-promised : (es : List Event) → Happens es → firstShare es ≡ shareOf 2142 → LinkCondition leastAsked es → Promised queueCount es
+nearly-promised es happens share-so link =
+    let same : shareOf (happens .list .terms .link) ≡ shareOf 2142 = sym (first-share es happens) ∙ share-so in
     subst (Promised queueCount) (happens .so)
     (promised-by-less (happens .list) leastAsked (rw same (omega arith)) (subst (LinkCondition leastAsked) (sym (happens .so)) link))
 
@@ -85,15 +88,15 @@ second-tick reply happens =
     by-numbers reply purgesNone (omega (arith, ap (λ (r : Reply). r .refusal) z)) (omega (arith, ap (λ (r : Reply). r .first) z)) (omega (arith, ap (λ (r : Reply). r .second) z))
 
 -- the replies of a list's events are the replies of its calls
-replies-of : (cs earlier : List Call) (p m k : List ℕ) → map (λ (e : Event). e .reply) (happened called earlier cs p m k) ≡ replies called cs p m
-replies-of [] earlier p m k = refl
-replies-of (c ∷ cs) earlier p m k = ap (λ (rs : List Reply). called c p m .reply ∷ rs) (replies-of cs _ _ _ _)
+replies-of : (cs earlier : List Call) (p m q k : List ℕ) → map (λ (e : Event). e .reply) (eventsAfter earlier (made called earlier cs p m q k)) ≡ replies called cs p m
+replies-of [] earlier p m q k = refl
+replies-of (c ∷ cs) earlier p m q k = ap (λ (rs : List Reply). called c p m .reply ∷ rs) (replies-of cs _ _ _ _ _)
 
 -- from `quick-replies`
-alone-quick : replies quicklyCalled (opening 1742 3 ∷ aloneCalls) freshRecord freshMemory ≡ map (λ (e : Event). e .reply) alone
+alone-quick : replies quicklyCalled (opening (terms 1742 3) ∷ aloneCalls) freshRecord freshMemory ≡ map (λ (e : Event). e .reply) alone
 alone-quick =
-    quick-replies (opening 1742 3 ∷ aloneCalls) freshRecord freshMemory fresh-fits
-    ∙ (sym (replies-of (opening 1742 3 ∷ aloneCalls) [] freshRecord freshMemory freshMemory) ∙ ap (map (λ (e : Event). e .reply)) (alone-made .so))
+    quick-replies (opening (terms 1742 3) ∷ aloneCalls) freshRecord freshMemory fresh-fits
+    ∙ (sym (replies-of (opening (terms 1742 3) ∷ aloneCalls) [] freshRecord freshMemory freshRecord freshMemory) ∙ ap (map (λ (e : Event). e .reply)) (alone-made .so))
 
 -- from `frame-becomes`: without a VLAN tag no pair is looked up
 untagged-so : (p m : List ℕ) → called (framing (untagged shortestFrame) 9) p m ≡ called (joiningBestEffort 84 9) p m
@@ -117,7 +120,7 @@ theorems-say =
       unfit-before = unfit-before;
       unfit-refused = unfit-refused;
       unfit-opened = unfit-opened;
-      fit-after = granted-open-fits unfitRecord freshMemory 2142 1 (ap (λ (r : Reply). r .refusal) unfit-opened);
+      fit-after = granted-open-fits unfitRecord freshMemory (terms 2142 1) (ap (λ (r : Reply). r .refusal) unfit-opened);
       untagged-joins = untagged-so;
       untagged-not-17 = λ p m. frame-not-17 p m (untagged shortestFrame) 9 shortest-fits;
       untagged-short = λ p opened. frame-refused p (untagged (shortestFrame - 1)) opened short-unfit;

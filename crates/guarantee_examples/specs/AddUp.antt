@@ -8,9 +8,10 @@ use lib.Dec.{eqb}
 use Rattle.lists.specs.Turns.{sumOf}
 use Rattle.header.specs.Header.{lengthFits}
 use Rattle.fitness.specs.Clauses.{priorFits}
-use Rattle.port_laws.specs.Lists.{ticking}
-use Rattle.guarantee.specs.Events.{Sent, none, Event, broughtBy}
-use Rattle.guarantee.specs.Claims.{isTick, ticks, reservedOctets, offer, answers}
+use Rattle.steps.specs.Call.{ticking}
+use Rattle.port_laws.specs.Counting.{actionOf}
+use Rattle.guarantee.specs.Events.{Sent, none, Event, action, broughtBy}
+use Rattle.guarantee.specs.Claims.{isTick, tickCount, reservedOctets, offer, answers}
 use Rattle.guarantee_examples.specs.Examples.{light, withheld, untagged, callsOf}
 use Rattle.guarantee_examples.specs.LeftOpen.{crowdedOpening, crowdedGrant, crowdedBefore, crowdedFrame, tooSoon, crowded, busyBefore, busyNextArrival, secondFrame, thirdFrame, sixAnswers, shortestFrame, unfitRecord}
 
@@ -19,14 +20,14 @@ abbrev pub sentAt : List Event → ℕ → Sent
 sentAt es n = getD (map (λ (e : Event). e .sent) es) n none
 
 abbrev pub broughtAt : List Event → ℕ → Sent
-broughtAt es n = broughtBy n (getD (callsOf es) n ticking)
+broughtAt es n = broughtBy n (actionOf (getD (callsOf es) n ticking))
 
 -- the octets of a stream that are accepted, and those that ticks purge
 abbrev pub accepted : ℕ → List Event → ℕ
-accepted s = sumOf (λ e. cond (eqb (e .reply .refusal) 0) (offer s (e .call)) 0)
+accepted s = sumOf (λ e. cond (eqb (e .reply .refusal) 0) (offer s (action e)) 0)
 
 abbrev pub purged : List Event → ℕ
-purged = sumOf (λ e. cond (isTick (e .call)) (e .reply .second) 0)
+purged = sumOf (λ e. cond (isTick (action e)) (e .reply .second) 0)
 
 pub record EventsAddUp : Type 0 where
   -- the frame that `light` sends first is that of its fourth call
@@ -38,7 +39,7 @@ pub record EventsAddUp : Type 0 where
   pub second-number : secondFrame .number ≡ length busyBefore
   pub third-number : thirdFrame .number ≡ length (busyBefore ++ (busyNextArrival ∷ []))
   -- no tick is before the first
-  pub first-tick : ticks [] + 1 ≡ tooSoon
+  pub first-tick : tickCount [] + 1 ≡ tooSoon
   -- the replies to stream 6 in the crowd
   pub crowded-six : answers 6 crowded ≡ sixAnswers
   -- the shortest frame is within the range of lengths

@@ -2,6 +2,7 @@
 -- without a reserved frame, and where it fails a tick purges; no number in the claims can be smaller; and Frames count as what they become.
 use Prim.Native.Nat.{ℕ, _+_, _-_}
 use mathlib.Core.Path.{_≡_}
+use mathlib.Core.Bool.{cond}
 use mathlib.Core.List.{List, [], _∷_, _++_, map}
 use lib.ListN.{replicate}
 use Rattle.octets.specs.Numbers.{twoOctets}
@@ -11,17 +12,19 @@ use Rattle.header.specs.Header.{vlanTag}
 use Rattle.fitness.specs.Clauses.{bestEffortStream}
 use Rattle.steps.specs.Outcome.{Outcome, outcome}
 use Rattle.sending.specs.Sending.{nothing}
-use Rattle.port_laws.specs.Lists.{Call, opening, reserving, arriving, ticking, transmitting, joiningBestEffort, binding, framing, called}
-use Rattle.guarantee.specs.Events.{Marked, Sent, reserved, bestEffort, none, Event}
+use Rattle.steps.specs.Call.{terms, Call, opening, reserving, arriving, ticking, transmitting, joiningBestEffort, binding, framing}
+use Rattle.port.specs.Calls.{called}
+use Rattle.guarantee.specs.Events.{Marked, Sent, sentReserved, sentBestEffort, none, isTransmit, Event}
+use Rattle.port_laws.specs.Counting.{actionOf}
 use Rattle.guarantee.specs.Claims.{replyOfSent}
-use Rattle.guarantee.specs.Demand3.{CallList, eventsOf}
+use Rattle.guarantee.specs.Demand3.{CallList, eventsIn}
 
 -- an event that sends nothing, and a transmit that sends the frame of a call
 abbrev pub replied : Call → Reply → Event
 replied c reply = record { call = c; reply = reply; shown = reply; sent = none }
 
-abbrev pub frameOf : ℕ → ℕ → ℕ → ℕ → Marked
-frameOf stream charge tag number = record { stream = stream; charge = charge; tag = tag; number = number }
+abbrev pub markedFrame : ℕ → ℕ → ℕ → ℕ → Marked
+markedFrame stream charge tag number = record { stream = stream; charge = charge; tag = tag; number = number }
 
 abbrev pub sending : Sent → Reply → Event
 sending sent reply = record { call = transmitting; reply = reply; shown = replyOfSent (λ f. f .number) sent; sent = sent }
@@ -29,23 +32,23 @@ sending sent reply = record { call = transmitting; reply = reply; shown = replyO
 -- these are the events of a list of calls
 pub record Happens (es : List Event) : Type 0 where
   pub list : CallList
-  pub so : eventsOf list ≡ es
+  pub so : eventsIn list ≡ es
 
 -- share 84, all of it reserved, and three times as much offered at once: each epoch sends the share, and the third frame is sent after the third
 -- tick. The frames are the same but for their calls
 abbrev pub busy : List Event
 busy =
-    replied (opening 1626 1) (granted 84 0)
+    replied (opening (terms 1626 1)) (granted 84 0)
     ∷ replied (reserving 5 84) (granted 0 0)
     ∷ replied (arriving 5 84 7) (granted 1 84)
     ∷ replied (arriving 5 84 7) (granted 2 84)
     ∷ replied (arriving 5 84 7) (granted 3 0)
     ∷ replied ticking (granted 0 0)
-    ∷ sending (reserved (frameOf 5 84 7 2)) (granted 5 7)
+    ∷ sending (sentReserved (markedFrame 5 84 7 2)) (granted 5 7)
     ∷ replied ticking (granted 0 0)
-    ∷ sending (reserved (frameOf 5 84 7 3)) (granted 5 7)
+    ∷ sending (sentReserved (markedFrame 5 84 7 3)) (granted 5 7)
     ∷ replied ticking (granted 0 0)
-    ∷ sending (reserved (frameOf 5 84 7 4)) (granted 5 7)
+    ∷ sending (sentReserved (markedFrame 5 84 7 4)) (granted 5 7)
     ∷ replied ticking (granted 0 0)
     ∷ []
 
@@ -53,14 +56,14 @@ busy =
 abbrev pub afterArrival : List Event
 afterArrival =
     replied ticking (granted 0 0)
-    ∷ sending (reserved (frameOf 5 120 7 3)) (granted 5 7)
-    ∷ sending (bestEffort (frameOf bestEffortStream 300 1 2)) (granted 255 1)
+    ∷ sending (sentReserved (markedFrame 5 120 7 3)) (granted 5 7)
+    ∷ sending (sentBestEffort (markedFrame bestEffortStream 300 1 2)) (granted 255 1)
     ∷ replied ticking (granted 0 0)
     ∷ []
 
 abbrev pub light : List Event
 light =
-    replied (opening 2142 1) (granted 600 0)
+    replied (opening (terms 2142 1)) (granted 600 0)
     ∷ replied (reserving 5 200) (granted 400 0)
     ∷ replied (joiningBestEffort 300 1) (granted 300 0)
     ∷ replied (arriving 5 120 7) (granted 1 80)
@@ -69,21 +72,21 @@ light =
 -- share 600, and an epoch that sends the least charge less than that: the tick after it purges
 abbrev pub withheld : List Event
 withheld =
-    replied (opening 2142 1) (granted 600 0)
+    replied (opening (terms 2142 1)) (granted 600 0)
     ∷ replied (reserving 5 600) (granted 0 0)
     ∷ replied (arriving 5 516 7) (granted 1 84)
     ∷ replied (arriving 5 84 8) (granted 1 600)
     ∷ replied ticking (granted 0 0)
-    ∷ sending (reserved (frameOf 5 516 7 2)) (granted 5 7)
+    ∷ sending (sentReserved (markedFrame 5 516 7 2)) (granted 5 7)
     ∷ replied ticking (granted 1 84)
     ∷ []
 
 -- the same arrival on a stream with another P
 abbrev pub permitted200 : List Event
-permitted200 = replied (opening 2142 1) (granted 600 0) ∷ replied (reserving 5 200) (granted 400 0) ∷ replied (arriving 5 120 7) (granted 1 80) ∷ []
+permitted200 = replied (opening (terms 2142 1)) (granted 600 0) ∷ replied (reserving 5 200) (granted 400 0) ∷ replied (arriving 5 120 7) (granted 1 80) ∷ []
 
 abbrev pub permitted100 : List Event
-permitted100 = replied (opening 2142 1) (granted 600 0) ∷ replied (reserving 5 100) (granted 500 0) ∷ replied (arriving 5 120 7) (refusedBy 14) ∷ []
+permitted100 = replied (opening (terms 2142 1)) (granted 600 0) ∷ replied (reserving 5 100) (granted 500 0) ∷ replied (arriving 5 120 7) (refusedBy 14) ∷ []
 
 -- a frame of as many octets to an address, with a VLAN tag whose priority bits are set, and one without
 abbrev pub address : List ℕ
@@ -112,7 +115,7 @@ framedCalls =
 -- each counts as what it becomes, and the one that is too short as itself
 abbrev pub framed : List Event
 framed =
-    replied (opening 2142 1) (granted 600 0)
+    replied (opening (terms 2142 1)) (granted 600 0)
     ∷ replied (reserving 5 200) (granted 400 0)
     ∷ replied (binding 5 address 100) (granted 0 0)
     ∷ replied (arriving 5 84 7) (granted 1 116)
@@ -120,25 +123,18 @@ framed =
     ∷ replied (joiningBestEffort 84 9) (granted 204 0)
     ∷ replied (framing (taggedTo 100 59) 10) (refusedBy 17)
     ∷ replied ticking (granted 0 0)
-    ∷ sending (reserved (frameOf 5 84 7 3)) (granted 5 7)
-    ∷ sending (bestEffort (frameOf bestEffortStream 120 8 4)) (granted 255 8)
+    ∷ sending (sentReserved (markedFrame 5 84 7 3)) (granted 5 7)
+    ∷ sending (sentBestEffort (markedFrame bestEffortStream 120 8 4)) (granted 255 8)
     ∷ []
 
 -- a machine whose transmit says nothing without looking
 abbrev pub silently : Call → List ℕ → List ℕ → Outcome
-silently (opening link delay) p m = called (opening link delay) p m
-silently (reserving s permitted) p m = called (reserving s permitted) p m
-silently (arriving s charge tag) p m = called (arriving s charge tag) p m
-silently ticking p m = called ticking p m
-silently transmitting p m = outcome (granted nothing 0) p m
-silently (joiningBestEffort charge tag) p m = called (joiningBestEffort charge tag) p m
-silently (binding s address vid) p m = called (binding s address vid) p m
-silently (framing octets tag) p m = called (framing octets tag) p m
+silently c p m = cond (isTransmit (actionOf c)) (outcome (granted nothing 0) p m) (called c p m)
 
 -- and what happens by it: the link condition is met by its transmit, and a tick purges
 abbrev pub silent : List Event
 silent =
-    replied (opening 2142 1) (granted 600 0)
+    replied (opening (terms 2142 1)) (granted 600 0)
     ∷ replied (reserving 5 200) (granted 400 0)
     ∷ replied (arriving 5 120 7) (granted 1 80)
     ∷ replied ticking (granted 0 0)

@@ -6,9 +6,10 @@ use lib.ListN.{set}
 use Rattle.stream.specs.declared.Reply.{Reply}
 use Rattle.stream.specs.Replies.{granted, refusedBy}
 use Rattle.record.specs.Layout.{priorOffset, queueCount}
-use Rattle.port_laws.specs.Lists.{Call, opening, reserving, arriving, ticking, transmitting, joiningBestEffort, binding, framing, freshRecord}
-use Rattle.guarantee.specs.Events.{Marked, Sent, reserved, none, Event}
-use Rattle.guarantee_examples.specs.Examples.{replied, frameOf, sending, address, taggedTo, callsOf}
+use Rattle.steps.specs.Call.{terms, Call, opening, reserving, arriving, ticking, transmitting, joiningBestEffort, binding, framing}
+use Rattle.port_laws.specs.Lists.{freshRecord}
+use Rattle.guarantee.specs.Events.{Marked, Sent, sentReserved, none, Event}
+use Rattle.guarantee_examples.specs.Examples.{replied, markedFrame, sending, address, taggedTo, callsOf}
 
 -- a transmit of which it is open what it sends, what it replies, and what it replies where each tag is its call's number
 abbrev pub transmitted : Sent → Reply → Reply → Event
@@ -26,7 +27,7 @@ laterCalls (e ∷ es) = callsOf es
 -- share 600, in equal parts for streams 5, 6 and 7: 6 and 7 fill their places at once, 6 until a frame is discarded, and after them 5 offers 120 of its
 -- 200 octets, and as much again after the tick, with the same tag. Open are the reply to the first of these and the third transmit
 abbrev pub crowdedOpening : List Event
-crowdedOpening = replied (opening 2142 1) (granted 600 0) ∷ []
+crowdedOpening = replied (opening (terms 2142 1)) (granted 600 0) ∷ []
 
 abbrev pub crowdedGrant : Event
 crowdedGrant = replied (reserving 5 200) (granted 400 0)
@@ -47,13 +48,13 @@ abbrev pub crowdedBetween : List Event
 crowdedBetween =
     replied ticking (granted 0 0)
     ∷ replied (arriving 5 120 7) (granted 1 80)
-    ∷ sending (reserved (frameOf 6 200 1 4)) (granted 6 1)
-    ∷ sending (reserved (frameOf 7 200 5 8)) (granted 7 5)
+    ∷ sending (sentReserved (markedFrame 6 200 1 4)) (granted 6 1)
+    ∷ sending (sentReserved (markedFrame 7 200 5 8)) (granted 7 5)
     ∷ []
 
 -- what is between the third transmit and the second tick
 abbrev pub crowdedFourth : List Event
-crowdedFourth = sending (reserved (frameOf 6 200 2 5)) (granted 6 2) ∷ []
+crowdedFourth = sending (sentReserved (markedFrame 6 200 2 5)) (granted 6 2) ∷ []
 
 abbrev pub crowdedToSecondTick : Event → List Event
 crowdedToSecondTick third = crowdedBetween ++ (third ∷ crowdedFourth)
@@ -69,21 +70,21 @@ abbrev pub crowdedPlace : ℕ
 crowdedPlace = 1
 
 abbrev pub crowdedFrame : Marked
-crowdedFrame = frameOf 5 120 7 10
+crowdedFrame = markedFrame 5 120 7 10
 
 -- the tick before which it is not sent
 abbrev pub tooSoon : ℕ
 tooSoon = 1
 
 abbrev pub crowdedThird : Event
-crowdedThird = transmitted (reserved crowdedFrame) (granted 5 7) (granted 5 10)
+crowdedThird = transmitted (sentReserved crowdedFrame) (granted 5 7) (granted 5 10)
 
 abbrev pub crowded : List Event
 crowded = crowdedWith (granted crowdedPlace 80) crowdedThird
 
 -- the list `busy`, of which are open the transmits after the second and after the third tick and what the fourth tick replies
 abbrev pub busyBefore : List Event
-busyBefore = replied (opening 1626 1) (granted 84 0) ∷ replied (reserving 5 84) (granted 0 0) ∷ replied (arriving 5 84 7) (granted 1 84) ∷ []
+busyBefore = replied (opening (terms 1626 1)) (granted 84 0) ∷ replied (reserving 5 84) (granted 0 0) ∷ replied (arriving 5 84 7) (granted 1 84) ∷ []
 
 abbrev pub busyNextArrival : Event
 busyNextArrival = replied (arriving 5 84 7) (granted 2 84)
@@ -92,7 +93,7 @@ abbrev pub busyLastArrival : Event
 busyLastArrival = replied (arriving 5 84 7) (granted 3 0)
 
 abbrev pub busyToSecondTick : List Event
-busyToSecondTick = replied ticking (granted 0 0) ∷ sending (reserved (frameOf 5 84 7 2)) (granted 5 7) ∷ []
+busyToSecondTick = replied ticking (granted 0 0) ∷ sending (sentReserved (markedFrame 5 84 7 2)) (granted 5 7) ∷ []
 
 abbrev pub busyToThirdTick : Event → List Event
 busyToThirdTick second = busyToSecondTick ++ (replied ticking (granted 0 0) ∷ second ∷ [])
@@ -108,16 +109,16 @@ busyWith second third reply = busyBefore ++ (busyNextArrival ∷ busyLastArrival
 
 -- the frames of the second and third arrival, and the transmits that send them
 abbrev pub secondFrame : Marked
-secondFrame = frameOf 5 84 7 3
+secondFrame = markedFrame 5 84 7 3
 
 abbrev pub thirdFrame : Marked
-thirdFrame = frameOf 5 84 7 4
+thirdFrame = markedFrame 5 84 7 4
 
 abbrev pub busySecond : Event
-busySecond = transmitted (reserved secondFrame) (granted 5 7) (granted 5 3)
+busySecond = transmitted (sentReserved secondFrame) (granted 5 7) (granted 5 3)
 
 abbrev pub busyThird : Event
-busyThird = transmitted (reserved thirdFrame) (granted 5 7) (granted 5 4)
+busyThird = transmitted (sentReserved thirdFrame) (granted 5 7) (granted 5 4)
 
 -- the frames that a tick purges under the link condition, and its reply
 abbrev pub purgedFrames : ℕ
@@ -132,14 +133,14 @@ nearlyCharge = 517
 
 abbrev pub nearlyBefore : List Event
 nearlyBefore =
-    replied (opening 2142 1) (granted 600 0)
+    replied (opening (terms 2142 1)) (granted 600 0)
     ∷ replied (reserving 5 600) (granted 0 0)
     ∷ replied (arriving 5 nearlyCharge 7) (granted 1 83)
     ∷ replied (arriving 5 84 8) (granted 2 516)
     ∷ []
 
 abbrev pub nearlyEpoch : List Event
-nearlyEpoch = sending (reserved (frameOf 5 nearlyCharge 7 2)) (granted 5 7) ∷ []
+nearlyEpoch = sending (sentReserved (markedFrame 5 nearlyCharge 7 2)) (granted 5 7) ∷ []
 
 abbrev pub nearlyWith : Reply → List Event
 nearlyWith reply = nearlyBefore ++ (replied ticking (granted 0 0) ∷ (nearlyEpoch ++ (replied ticking reply ∷ [])))
@@ -164,7 +165,7 @@ aloneCalls =
 
 abbrev pub aloneWith : Reply → Reply → Reply → Reply → List Event
 aloneWith first second third fourth =
-    replied (opening 1742 3) (granted 200 0)
+    replied (opening (terms 1742 3)) (granted 200 0)
     ∷ replied (reserving 6 200) (granted 0 0)
     ∷ replied (binding 6 address 100) (granted 0 0)
     ∷ replied (arriving 6 200 1) first
@@ -189,7 +190,7 @@ alone = aloneWith (granted 1 200) (granted 2 200) (granted 3 0) sixLast
 -- the list `permitted100`, of which the arrival's replies are open
 abbrev pub arrivedWith : Reply → Reply → List Event
 arrivedWith reply shown =
-    replied (opening 2142 1) (granted 600 0) ∷ replied (reserving 5 100) (granted 500 0) ∷ repliedAs (arriving 5 120 7) reply shown ∷ []
+    replied (opening (terms 2142 1)) (granted 600 0) ∷ replied (reserving 5 100) (granted 500 0) ∷ repliedAs (arriving 5 120 7) reply shown ∷ []
 
 -- the refusal that it happens with, and those with which it never does
 abbrev pub discards : ℕ

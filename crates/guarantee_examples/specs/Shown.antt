@@ -5,10 +5,11 @@ use mathlib.Core.List.{[], _∷_}
 use Rattle.lists.specs.Each.{All, Some}
 use Rattle.stream.specs.State.{lastPlace}
 use Rattle.ranges.specs.Ranges.{leastCharge, shareOf}
-use Rattle.port_laws.specs.Lists.{reserving, arriving, ticking, freshRecord, freshMemory}
+use Rattle.steps.specs.Call.{reserving, arriving, ticking}
+use Rattle.port_laws.specs.Lists.{freshRecord, freshMemory}
 use Rattle.guarantee.specs.Events.{events}
 use Rattle.guarantee.specs.Claims.{reservedOctets, Idle, LinkCondition, PurgesNothing, SentBefore, AllSentBefore, offers, remaining, grants, answers}
-use Rattle.guarantee_examples.specs.Examples.{frameOf, Happens, busy, light, afterArrival, withheld, permitted200, permitted100, framed, silently, silent, callsOf}
+use Rattle.guarantee_examples.specs.Examples.{markedFrame, Happens, busy, light, afterArrival, withheld, permitted200, permitted100, framed, silently, silent, callsOf}
 
 -- each example is what happens in a list of calls, the last one by the machine whose transmit says nothing
 pub record AllHappen : Type 0 where
@@ -31,7 +32,7 @@ pub record ExamplesShow : Type 0 where
   pub light-links : LinkCondition (shareOf 2142) light
   pub light-octets : reservedOctets light < shareOf 2142
   -- and for a conforming stream the first tick would be too early
-  pub light-not-by-first : SentBefore 1 (frameOf 5 120 7 3) afterArrival → ⊥
+  pub light-not-by-first : SentBefore 1 (markedFrame 5 120 7 3) afterArrival → ⊥
   -- without it: the link condition fails, and a tick purges
   pub withheld-fails : LinkCondition (shareOf 2142) withheld → ⊥
   pub withheld-purges : All PurgesNothing withheld → ⊥
