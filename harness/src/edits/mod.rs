@@ -6,6 +6,7 @@
 pub mod judging;
 mod laws;
 mod logs;
+pub mod proving;
 pub mod reading;
 pub mod repository;
 pub mod trying;

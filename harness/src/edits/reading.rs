@@ -75,10 +75,10 @@ pub fn read(of: &str, path: &Path) -> Result<EditFile, String> {
     Ok(EditFile { of: of.into(), label, programs })
 }
 
-/// The wrong programs of an edit file's text: a comment after an edit begins the next.
+/// The wrong programs of an edit file's text: a comment after an edit begins the next, and an empty line may stand between them.
 fn programs(text: &str) -> Result<Vec<WrongProgram>, String> {
     let (mut programs, mut begun) = (Vec::new(), Begun::default());
-    for line in text.lines() {
+    for line in text.lines().filter(|line| !line.is_empty()) {
         if line.starts_with('#') && begun.edits.any() {
             programs.push(begun.whole()?);
             begun = Begun::default();
@@ -86,7 +86,16 @@ fn programs(text: &str) -> Result<Vec<WrongProgram>, String> {
         begun.take(line)?;
     }
     programs.push(begun.whole()?);
-    Ok(programs)
+    match named_twice(&programs) {
+        Some(law) => Err(format!("{law} is to show that two wrong programs are wrong, which are proved together")),
+        None => Ok(programs),
+    }
+}
+
+/// A law that two of these wrong programs are to be shown by.
+fn named_twice(programs: &[WrongProgram]) -> Option<&String> {
+    let laws: Vec<&String> = programs.iter().flat_map(WrongProgram::shown_by).collect();
+    laws.iter().enumerate().find(|(at, law)| laws[..*at].contains(law)).map(|(_, law)| *law)
 }
 
 impl Begun {
@@ -145,6 +154,14 @@ fn allowed(file: &str) -> bool {
 }
 
 impl WrongProgram {
+    /// The laws that are to show that it is wrong.
+    fn shown_by(&self) -> &[String] {
+        match &self.evidence {
+            Evidence::Shown(laws) => laws,
+            _ => &[],
+        }
+    }
+
     /// The new texts of the edits of definitions.
     pub fn defined(&self) -> impl Iterator<Item = &str> {
         self.edits.iter().filter(|edit| edit.file.starts_with(DEFINITIONS)).map(|edit| edit.new.as_str())
@@ -156,7 +173,7 @@ mod tests {
     use super::*;
 
     /// Two wrong programs, one of the code and one of a definition.
-    const TWO: &str = "# Two octets read\n# low octet first.\n# refused: two_at put::two\nfile: src/lib.rt\nold: two(high, low)\nnew: two(low, high)\n\
+    const TWO: &str = "# Two octets read\n# low octet first.\n# refused: two_at put::two\nfile: src/lib.rt\nold: two(high, low)\nnew: two(low, high)\n\n\
                        # A share of nothing.\n# refused: share\n# shown: share-at-most share-of-least\nfile: specs/Ranges.antt\nold: link - greatest\n\
                        new: 0\nold: a\nnew:\n";
 
@@ -206,6 +223,14 @@ mod tests {
             let text = format!("# words\n# refused: a\nfile: {file}\nold: a\nnew: b\n");
             assert_eq!(wrong(&text), format!("words: '{file}' is no file of the code or of the definitions"));
         }
+    }
+
+    #[test]
+    fn a_law_shows_one_wrong_program_of_a_file() {
+        let one = |law: &str| format!("# words\n# refused: a\n# shown: {law}\nfile: specs/A.antt\nold: a\nnew: b\n");
+        assert!(programs(&[one("so"), one("so-too")].concat()).is_ok());
+        let why = "so is to show that two wrong programs are wrong, which are proved together";
+        assert_eq!(wrong(&[one("so"), one("not so")].concat()), why);
     }
 
     #[test]
