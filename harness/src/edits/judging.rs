@@ -35,11 +35,7 @@ impl<'a> Tried<'a> {
     /// What the prover left of an edit file of a crate in a copy of that.
     pub fn read(of: &'a str, copy: &'a Path) -> Result<Tried<'a>, String> {
         let text = fs::read(copy.join(".log")).map_err(|_| String::from("it was not tried"))?;
-        let log = Log::read(&String::from_utf8_lossy(&text));
-        match log.unfit() {
-            true => Err(String::from("it made a proof file unfit for the code")),
-            false => Ok(Tried { of, log, copy }),
-        }
+        Ok(Tried { of, log: Log::read(&String::from_utf8_lossy(&text)), copy })
     }
 
     /// That each function and law that a wrong program names is refused; or the first that is not.

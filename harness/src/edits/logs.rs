@@ -6,8 +6,6 @@ const FOLLOWS: &str = "was not admitted";
 /// What stands before the words of an error and of a note.
 const ERROR: &str = ": error: ";
 const NOTE: &str = ": note: ";
-/// What the prover says where a proof file does not fit the code: a name that there is not, and a need of another function or shape.
-const UNFIT: [&str; 2] = ["that can be named from here", "expected type `tie.Need-"];
 /// The folders of a crate.
 const PARTS: [&str; 3] = ["/proofs/", "/specs/", "/src/"];
 
@@ -25,7 +23,6 @@ pub struct Log {
     errors: Vec<Error>,
     notes: Vec<String>,
     functions: Vec<String>,
-    unfit: bool,
 }
 
 /// What the lines that are set in belong to.
@@ -38,8 +35,7 @@ enum Last {
 impl Log {
     /// Reads a log.
     pub fn read(text: &str) -> Log {
-        let mut log = Log { unfit: UNFIT.iter().any(|words| text.contains(words)), ..Log::default() };
-        let mut last = Last::Neither;
+        let (mut log, mut last) = (Log::default(), Last::Neither);
         for line in text.lines() {
             match (&last, line.strip_prefix("  ")) {
                 (Last::Error, Some(more)) => log.errors.last_mut().expect("there is an error").words += &format!(" {}", more.trim()),
@@ -65,11 +61,6 @@ impl Log {
             self.functions.push(line.into());
         }
         Last::Neither
-    }
-
-    /// Whether a proof file merely stopped fitting the code.
-    pub fn unfit(&self) -> bool {
-        self.unfit
     }
 
     /// Whether a function or law of a crate is refused on its own account: a function by an error in its own proof file, or, where it has none, because
@@ -155,11 +146,5 @@ logic=not-proved
         let text = format!("a/specs/Ranges.antt:18:17: error: expected a binder\n{TEXT}");
         assert!(!Log::read(&text).passed_the_definitions());
         assert!(!Log::read("fn ranges::within: no proof\nlogic=not-proved\n").passed_the_definitions());
-    }
-
-    #[test]
-    fn a_proof_file_that_does_not_fit_is_told() {
-        assert!(!Log::read(TEXT).unfit());
-        assert!(Log::read("a/proofs/within/Proof.antt:3:1: error: `tie` has no `Need-x` that can be named from here\n").unfit());
     }
 }
