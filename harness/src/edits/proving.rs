@@ -1,8 +1,7 @@
-//! Edits tried by the prover beside those of the crates: a repository is laid out that has copies of the crates and these edits as the only ones, and
-//! `rt must-fail` tries them there, over the proved crates that `rt ci` left.
+//! Edits tried by the prover beside those of the crates: a repository is laid out that has copies of a crate and of those below it and these edits as
+//! the only ones, and `rt must-fail` tries them there, over copies of the proved crates that `rt ci` left.
 
 use std::fs;
-use std::os::unix::fs::symlink;
 use std::path::{Path, PathBuf};
 use std::process::Command;
 use std::time::Duration;
@@ -17,13 +16,14 @@ const BOUNDS: Bounds = Bounds { time: Duration::from_secs(600), stdout: 1 << 24,
 /// What a crate is proved from, and what a program has beside that.
 const PARTS: [&str; 7] = ["src", "specs", "proofs", "stdin", "stdout", "args", "data"];
 
-/// What is kept of the proved crates: the libraries, and by what each was proved.
-const LIBRARIES: &str = "target/rlib";
+/// Where a proved crate is kept.
+const PROVED: &str = "target/rlib";
+/// Where it is kept by what a crate was proved.
 const STAMPS: &str = "target/stamp";
 
 /// Has the prover try the edit files of a folder on a crate, in a folder that is laid out for it. Whether it refused each is for who reads the logs.
 pub fn run(repository: &Repository, of: &str, edits: &Path, folder: &Path) -> Result<(), String> {
-    lay_out(repository, folder)?;
+    lay_out(repository, of, folder)?;
     copy_all(edits, &folder.join("crates").join(of).join("must-fail"))?;
     let mut program = Command::new("rt");
     program.args(["must-fail", of]).current_dir(folder);
@@ -39,21 +39,19 @@ pub fn tried(folder: &Path, of: &str, label: &str) -> PathBuf {
     folder.join("target/must-fail").join(of).join(label)
 }
 
-/// Lays out a repository anew: the crates without their edits, over the libraries that are proved.
-fn lay_out(repository: &Repository, folder: &Path) -> Result<(), String> {
-    let told = |why| format!("{}: {why}", folder.display());
+/// Lays out a repository anew: a crate and those below it without their edits, and what is proved of them.
+fn lay_out(repository: &Repository, of: &str, folder: &Path) -> Result<(), String> {
     if folder.exists() {
-        fs::remove_dir_all(folder).map_err(told)?;
+        fs::remove_dir_all(folder).map_err(|why| format!("{}: {why}", folder.display()))?;
     }
-    for of in repository.crates() {
-        for part in PARTS.iter().filter(|part| repository.crate_folder(of).join(part).exists()) {
-            copy_all(&repository.crate_folder(of).join(part), &folder.join("crates").join(of).join(part))?;
+    let mut list = String::new();
+    for of in repository.reached(of) {
+        list += &format!("{of}: {}\n", repository.uses(of).join(" "));
+        let parts = PARTS.iter().map(|part| PathBuf::from("crates").join(of).join(part));
+        let proved = [Path::new(PROVED).join(format!("{of}.rlib")), Path::new(STAMPS).join(of)];
+        for part in parts.chain(proved).filter(|part| repository.folder.join(part).exists()) {
+            copy_all(&repository.folder.join(&part), &folder.join(&part))?;
         }
     }
-    write(&folder.join(LIST), &repository.list)?;
-    if repository.folder.join(LIBRARIES).exists() && repository.folder.join(STAMPS).exists() {
-        copy_all(&repository.folder.join(STAMPS), &folder.join(STAMPS))?;
-        symlink(repository.folder.join(LIBRARIES), folder.join(LIBRARIES)).map_err(told)?;
-    }
-    Ok(())
+    write(&folder.join(LIST), &list)
 }

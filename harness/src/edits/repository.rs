@@ -39,6 +39,17 @@ impl Repository {
         self.listed.iter().find(|listed| listed.name == of).map_or(&[], |listed| &listed.uses)
     }
 
+    /// A crate and those of the list that it reaches, lowest first.
+    pub fn reached<'a>(&'a self, of: &'a str) -> Vec<&'a str> {
+        let mut wanted = vec![of];
+        for listed in self.listed.iter().rev() {
+            if wanted.contains(&listed.name.as_str()) {
+                wanted.extend(listed.uses.iter().map(String::as_str));
+            }
+        }
+        self.crates().filter(|name| wanted.contains(name)).collect()
+    }
+
     /// The folder of a crate.
     pub fn crate_folder(&self, of: &str) -> PathBuf {
         self.folder.join("crates").join(of)
@@ -72,6 +83,7 @@ mod tests {
         assert_eq!(repository.crates().next(), Some("lists"));
         assert_eq!(repository.uses("lists"), [] as [&str; 0]);
         assert_eq!(repository.uses("header"), ["lists", "octets", "ranges", "check"]);
+        assert_eq!(repository.reached("header"), ["lists", "octets", "ranges", "header"]);
         assert!(repository.crates().all(|of| repository.crate_folder(of).join("src").is_dir()));
     }
 }
