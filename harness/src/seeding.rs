@@ -1,5 +1,5 @@
-//! Wrong programs, seeded by edits of right ones: files that each name an edit, and a package in which each module is a copy of a part of this one
-//! with one such edit made.
+//! Wrong programs, seeded by edits of right ones: the lines that name an edit, the edit made in a copy, files that each name one wrong program, and a
+//! package in which each module is a copy of a part of this one with one such wrong program's edits made.
 
 use std::env;
 use std::fs;
@@ -20,10 +20,19 @@ pub struct Seed {
 }
 
 /// A text of one file that is replaced by another.
-struct Edit {
+#[derive(Clone, Debug, PartialEq, Eq)]
+pub struct Edit {
+    pub file: String,
+    pub old: String,
+    pub new: String,
+}
+
+/// The edits of lines 'file:', 'old:' and 'new:' that are taken one after the other: a file holds for the pairs after it.
+#[derive(Default)]
+pub struct EditLines {
     file: String,
-    old: String,
-    new: String,
+    old: Option<String>,
+    edits: Vec<Edit>,
 }
 
 /// A package that is written anew and built: where it is, its manifest, and the file of its program.
@@ -50,22 +59,54 @@ pub fn read_all(folder: &Path) -> Result<Vec<Seed>, String> {
 /// A wrong program as its file has it: '#' what is wrong, '# found by:' what must find it, 'file:', and pairs of 'old:' and 'new:'.
 fn read(path: &Path) -> Result<Seed, String> {
     let text = fs::read_to_string(path).map_err(|why| why.to_string())?;
-    let (mut what, mut file, mut old) = ("", "", "");
-    let (mut found_by, mut edits) = (Vec::new(), Vec::new());
+    let (mut what, mut found_by, mut lines) = ("", Vec::new(), EditLines::default());
     for line in text.lines() {
-        let (word, rest) = line.split_once(": ").unwrap_or((line, ""));
-        match word {
-            "# found by" => found_by = rest.split(' ').map(String::from).collect(),
-            "file" => file = rest,
-            "old" => old = rest,
-            "new" => edits.push(Edit { file: file.into(), old: old.into(), new: rest.into() }),
-            _ => what = line.strip_prefix("# ").ok_or_else(|| format!("'{line}' is no line of an edit"))?,
+        match line.strip_prefix("# found by: ") {
+            Some(words) => found_by = words.split(' ').map(String::from).collect(),
+            None if lines.take(line)? => (),
+            None => what = line.strip_prefix("# ").ok_or_else(|| format!("'{line}' is no line of an edit"))?,
         }
     }
     let name = path.file_stem().unwrap_or_default().to_string_lossy().into_owned();
-    match edits.is_empty() {
-        true => Err(String::from("it names no edit")),
-        false => Ok(Seed { name, what: what.into(), found_by, edits }),
+    Ok(Seed { name, what: what.into(), found_by, edits: lines.edits()? })
+}
+
+impl EditLines {
+    /// Takes a line, where it is one of an edit, and says whether it is.
+    pub fn take(&mut self, line: &str) -> Result<bool, String> {
+        let (word, rest) = line.split_once(':').unwrap_or((line, ""));
+        let text = String::from(rest.strip_prefix(' ').unwrap_or(rest));
+        match word {
+            "file" => self.file = text,
+            "old" => self.old = Some(text).filter(|old| !old.is_empty()),
+            "new" => self.paired(text)?,
+            _ => return Ok(false),
+        }
+        Ok(true)
+    }
+
+    /// The new text of a pair, whose file and old text were taken before.
+    fn paired(&mut self, new: String) -> Result<(), String> {
+        let old = self.old.take().ok_or_else(|| format!("no line 'old:' stands before 'new: {new}'"))?;
+        if self.file.is_empty() {
+            return Err(format!("no line 'file:' stands before 'old: {old}'"));
+        }
+        self.edits.push(Edit { file: self.file.clone(), old, new });
+        Ok(())
+    }
+
+    /// Whether an edit was taken.
+    pub fn any(&self) -> bool {
+        !self.edits.is_empty()
+    }
+
+    /// The edits that were taken, of which there is one at least and none by half.
+    pub fn edits(self) -> Result<Vec<Edit>, String> {
+        match (self.old, self.edits.is_empty()) {
+            (Some(old), _) => Err(format!("no line 'new:' stands after 'old: {old}'")),
+            (None, true) => Err(String::from("it names no edit")),
+            (None, false) => Ok(self.edits),
+        }
     }
 }
 
@@ -85,7 +126,7 @@ impl Seed {
 
 impl Edit {
     /// Makes the edit in a copy, where its old text must stand just once.
-    fn made(&self, copy: &Path) -> Result<(), String> {
+    pub fn made(&self, copy: &Path) -> Result<(), String> {
         let path = copy.join(&self.file);
         let text = fs::read_to_string(&path).map_err(|why| format!("{}: {why}", self.file))?;
         match text.matches(&self.old).count() {
@@ -153,10 +194,10 @@ pub fn closed(passed: usize, failed: usize, why: &str) -> ExitCode {
 }
 
 /// Copies a file, or a folder with what is in it.
-fn copy_all(from: &Path, to: &Path) -> Result<(), String> {
+pub fn copy_all(from: &Path, to: &Path) -> Result<(), String> {
     if from.is_file() {
-        let text = fs::read_to_string(from).map_err(|why| format!("{}: {why}", from.display()))?;
-        return write(to, &text);
+        let folder = to.parent().unwrap_or(Path::new("."));
+        return fs::create_dir_all(folder).and_then(|()| fs::copy(from, to)).map(drop).map_err(|why| format!("{}: {why}", from.display()));
     }
     for entry in fs::read_dir(from).map_err(|why| format!("{}: {why}", from.display()))? {
         let entry = entry.map_err(|why| why.to_string())?;
@@ -166,7 +207,7 @@ fn copy_all(from: &Path, to: &Path) -> Result<(), String> {
 }
 
 /// Writes a file, and the folder that it stands in.
-fn write(path: &Path, text: &str) -> Result<(), String> {
+pub fn write(path: &Path, text: &str) -> Result<(), String> {
     let folder = path.parent().unwrap_or(Path::new("."));
     fs::create_dir_all(folder).and_then(|()| fs::write(path, text)).map_err(|why| format!("{}: {why}", path.display()))
 }
@@ -224,6 +265,9 @@ mod tests {
     fn wrong_files_are_told() {
         assert_eq!(wrong("no-edit", "# words\nfile: call.rs\n"), "/wrong_sum.edit: it names no edit");
         assert_eq!(wrong("no-line", "words\n"), "/wrong_sum.edit: 'words' is no line of an edit");
+        assert_eq!(wrong("no-file", "# words\nold: a\nnew: b\n"), "/wrong_sum.edit: no line 'file:' stands before 'old: a'");
+        assert_eq!(wrong("no-old", "# words\nfile: call.rs\nold: \nnew: b\n"), "/wrong_sum.edit: no line 'old:' stands before 'new: b'");
+        assert_eq!(wrong("no-new", "# words\nfile: call.rs\nold: a\n"), "/wrong_sum.edit: no line 'new:' stands after 'old: a'");
     }
 
     #[test]
