@@ -6,7 +6,7 @@ use Rattle.queue.specs.declared.Frame.{Frame}
 use Rattle.queue.specs.Ring.{placeCount, joinedMemory, joinedQueue}
 use Rattle.record.specs.Layout.{bestEffort}
 use Rattle.record.specs.Head.{waitsAt, withWaits, queueAt, withQueue}
-use Rattle.fitness.specs.Clauses.{bestEffortStream}
+use Rattle.queue.specs.Place.{bestEffortStream}
 use Rattle.steps.specs.Outcome.{Outcome, outcome}
 
 -- W with the charge in it is a number of 32 bits, as the record keeps it

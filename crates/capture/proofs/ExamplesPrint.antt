@@ -13,8 +13,8 @@ use Rattle.record.specs.Entry.{streamAt, withStream, boundAt, vidAt, dropped}
 use Rattle.fitness.specs.Fit.{recordFits, lentRefusal}
 use Rattle.opening.specs.Opening.{openedRecord}
 use Rattle.gates.specs.Refusals.{openRefusal, reserveRefusal}
-use Rattle.capture_file.specs.File.{letters, lettersOf, firstOf, kindOf, streamOf, nextOf, numberA, numberB, endOf, chainWithin}
-use Rattle.capture_file.specs.Checks.{headerGood, firstGood, nextGood, recordGood, recordRefusal, chainRefusal, portRefusal, portsRefusal, refusalOf}
+use Rattle.capture_file.specs.File.{letters, lettersOf, firstOf, kindOf, streamOctetOf, nextOf, numberA, numberB, endOf, chainWithin}
+use Rattle.capture_file.specs.Checks.{headerGood, firstGood, nextGood, recordGood, recordRefusal, chainRefusal, portRefusal, portsRefusal, fileRefusal}
 use Rattle.capture.specs.Events.{callAt, eventLine, linesOf}
 use Rattle.capture.specs.Output.{portsText, refusedWord, output}
 
@@ -34,15 +34,15 @@ pub two-ports : output (header 1 1 ++ events 0)
     ++ lineOf (0 ∷ 2 ∷ 2 ∷ 0 ∷ 400 ∷ 0 ∷ [])
     ++ lineOf (1 ∷ 1 ∷ 1 ∷ 0 ∷ 600 ∷ 0 ∷ [])
     ++ lineOf (1 ∷ 2 ∷ 2 ∷ 0 ∷ 400 ∷ 0 ∷ [])
-unfolding numberThen digits digitsWithin octetsEqual allTo sumTo listTo iterate twoOf fourOf waiting openAt withOpen priorAt withPrior delayAt withDelay linkAt withLink waitsAt withWaits queueAt withQueue streamAt withStream boundAt vidAt dropped recordFits lentRefusal openedRecord openRefusal reserveRefusal lettersOf firstOf kindOf streamOf nextOf numberA numberB endOf chainWithin headerGood firstGood nextGood recordGood recordRefusal chainRefusal portRefusal portsRefusal refusalOf callAt eventLine linesOf portsText output
+unfolding numberThen digits digitsWithin octetsEqual allTo sumTo listTo iterate twoOf fourOf waiting openAt withOpen priorAt withPrior delayAt withDelay linkAt withLink waitsAt withWaits queueAt withQueue streamAt withStream boundAt vidAt dropped recordFits lentRefusal openedRecord openRefusal reserveRefusal lettersOf firstOf kindOf streamOctetOf nextOf numberA numberB endOf chainWithin headerGood firstGood nextGood recordGood recordRefusal chainRefusal portRefusal portsRefusal fileRefusal callAt eventLine linesOf portsText output
 two-ports = refl
 
 -- a next index that is its record's own
 pub refused-record : output (header 0 1 ++ events 2) ≡ refusedWord ++ lineOf (23 ∷ 2 ∷ [])
-unfolding octetsEqual allTo twoOf fourOf lettersOf firstOf kindOf streamOf nextOf numberA numberB endOf headerGood firstGood nextGood recordGood recordRefusal chainRefusal portRefusal portsRefusal refusalOf output
+unfolding octetsEqual allTo twoOf fourOf lettersOf firstOf kindOf streamOctetOf nextOf numberA numberB endOf headerGood firstGood nextGood recordGood recordRefusal chainRefusal portRefusal portsRefusal fileRefusal output
 refused-record = refl
 
 -- a first index that is the record count
 pub refused-first : output (header 0 3 ++ events 0) ≡ refusedWord ++ lineOf (23 ∷ 0 ∷ [])
-unfolding octetsEqual allTo twoOf fourOf lettersOf firstOf kindOf streamOf nextOf numberA numberB endOf headerGood firstGood nextGood recordGood recordRefusal chainRefusal portRefusal portsRefusal refusalOf output
+unfolding octetsEqual allTo twoOf fourOf lettersOf firstOf kindOf streamOctetOf nextOf numberA numberB endOf headerGood firstGood nextGood recordGood recordRefusal chainRefusal portRefusal portsRefusal fileRefusal output
 refused-first = refl

@@ -8,7 +8,7 @@ use Rattle.steps.specs.Call.{terms, Call, opening, reserving, arriving, ticking
 use Rattle.port.specs.Calls.{called}
 use Rattle.port_laws.specs.Lists.{freshRecord, freshMemory}
 use Rattle.text.specs.Lines.{lineOf}
-use Rattle.capture_file.specs.File.{kindOf, streamOf, numberA, numberB, openKind, reserveKind, arriveKind, bestEffortKind, tickKind, firstOf, chainWithin, mostEvents}
+use Rattle.capture_file.specs.File.{kindOf, streamOctetOf, numberA, numberB, openKind, reserveKind, arriveKind, bestEffortKind, tickKind, firstOf, chainWithin, mostEvents}
 
 -- "open (A = L, B = K); reserve (A = P); arrive (A charge, B tag); best effort (A charge, B tag); tick; transmit", and no other kind passes the checks
 abbrev pub callOf : ℕ → ℕ → ℕ → ℕ → Call
@@ -21,7 +21,7 @@ callOf kind stream a b =
 
 -- the call of record i
 unfoldable pub callAt : List ℕ → ℕ → Call
-callAt f i = callOf (kindOf f i) (streamOf f i) (numberA f i) (numberB f i)
+callAt f i = callOf (kindOf f i) (streamOctetOf f i) (numberA f i) (numberB f i)
 
 -- "one line per event: port, event number from 1, kind, refusal or 0, two reply numbers"
 unfoldable pub eventLine : ℕ → ℕ → ℕ → Reply → List ℕ

@@ -10,7 +10,7 @@ use Rattle.stream.specs.Replies.{granted, refusedBy}
 use Rattle.text.specs.Lines.{space, lineOf}
 use Rattle.capture_file.specs.declared.FileRefusal.{FileRefusal}
 use Rattle.capture_file.specs.File.{portCount, recordOctets}
-use Rattle.capture_file.specs.Checks.{mostOctets, refusalOf}
+use Rattle.capture_file.specs.Checks.{mostOctets, fileRefusal}
 use Rattle.capture.specs.Events.{portText}
 
 -- "port after port": the lines of the ports below n
@@ -27,7 +27,7 @@ refusalText r = refusedWord ++ lineOf (r .number ∷ r .index ∷ [])
 
 -- the whole output: "All checks of the file come before any event"
 unfoldable pub output : List ℕ → List ℕ
-output f = cond (eqb (refusalOf f .number) 0) (portsText f portCount) (refusalText (refusalOf f))
+output f = cond (eqb (fileRefusal f .number) 0) (portsText f portCount) (refusalText (fileRefusal f))
 
 -- no line has more octets than this: a port and a kind of one digit, an event's number of four, a refusal of three, two numbers of ten, and six octets
 -- between and after them

@@ -7,7 +7,7 @@ ghost use mathlib.Core.Path.{_≡_};
 ghost use Prim.Native.Nat.{_+_, _*_, _≤_, _<_};
 ghost use lib.ListN.{length};
 ghost use Rattle.capture_file.specs.File.{portCount, mostEvents};
-ghost use Rattle.capture_file.specs.Checks.{refusalOf};
+ghost use Rattle.capture_file.specs.Checks.{fileRefusal};
 ghost use Rattle.port_laws.specs.Lists.{freshRecord, freshMemory};
 ghost use Rattle.text.specs.Lines.{Wrote};
 ghost use Rattle.capture.specs.Events.{portText};
@@ -36,7 +36,7 @@ fn fresh_memory() -> [u8; record::MEMORY_LENGTH]
 
 // Plays the events of a port on a record and a memory of its own, writes their lines from `at` on, and returns the index after them.
 fn put_port(file: &[u8], port: u8, text: &mut [u8], at: usize) -> usize
-    requires { ⌜ refusalOf (now file) .number ≡ 0 ⌝ }
+    requires { ⌜ fileRefusal (now file) .number ≡ 0 ⌝ }
     requires { ⌜ (port < portCount) × (at + mostEvents (now file) * lineBound ≤ length (now text)) ⌝ }
     ensures { λ r. ⌜ Wrote (now (text .entry)) at (portText (now (file .entry)) port) (now (text .exit)) r ⌝ }
     ensures { λ r. ⌜ r ≤ at + mostEvents (now (file .entry)) * lineBound ⌝ }
@@ -49,7 +49,7 @@ fn put_port(file: &[u8], port: u8, text: &mut [u8], at: usize) -> usize
 
 // Plays every port, writes all lines, and returns how many octets they are.
 fn put_ports(file: &[u8], text: &mut [u8]) -> usize
-    requires { ⌜ refusalOf (now file) .number ≡ 0 ⌝ }
+    requires { ⌜ fileRefusal (now file) .number ≡ 0 ⌝ }
     requires { ⌜ textLength ≤ length (now text) ⌝ }
     ensures { λ r. ⌜ Wrote (now (text .entry)) 0 (portsText (now (file .entry)) portCount) (now (text .exit)) r ⌝ }
     ensures { λ r. ⌜ r ≤ textLength ⌝ }

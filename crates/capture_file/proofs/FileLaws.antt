@@ -9,8 +9,8 @@ use lib.ListN.{length}
 use borrow.Author.Tests.{leb-true, ltb-true, ne-eqb}
 use lib.Dec.{eqb, leb, ltb}
 use Rattle.capture_file.proofs.ChainLaws.{first-passes, first-stands}
-use Rattle.capture_file.specs.Checks.{chainRefusal, fieldsGood, firstGood, headerGood, lengthGood, mostOctets, portRefusal, portsRefusal, recordGood, refusalOf, refusedAt}
-use Rattle.capture_file.specs.File.{firstOf, kindOf, mostEvents, numberA, numberB, portCount, recordCount, recordOctets, streamOf}
+use Rattle.capture_file.specs.Checks.{chainRefusal, fieldsGood, firstGood, headerGood, lengthGood, mostOctets, portRefusal, portsRefusal, recordGood, fileRefusal, refusedAt}
+use Rattle.capture_file.specs.File.{firstOf, kindOf, mostEvents, numberA, numberB, portCount, recordCount, recordOctets, streamOctetOf}
 use Rattle.capture_file.specs.declared.FileRefusal.{FileRefusal}
 use Rattle.lists.proofs.Order.{eq-or-not, le-or-lt}
 use Rattle.lists.proofs.TurnLaws.{both}
@@ -18,7 +18,7 @@ use Rattle.lists.proofs.TurnLaws.{both}
 -- a good record has one of the kinds
 pub kind-known : (f : List ℕ) (i : ℕ) → recordGood f i ≡ true → kindOf f i < 7
 unfolding recordGood
-kind-known f i good = known (kindOf f i) (streamOf f i) (numberA f i) (numberB f i) (both _ _ good .0)
+kind-known f i good = known (kindOf f i) (streamOctetOf f i) (numberA f i) (numberB f i) (both _ _ good .0)
   where
     apart : (kind n : ℕ) → 7 ≤ kind → n < 7 → eqb kind n ≡ false
     apart kind n h k = ne-eqb kind n (λ e. omega (arith, h, k, e))
@@ -60,8 +60,8 @@ unfolding portsRefusal
 ports-go-on f q n good = first-passes _ _ good
 
 -- what is true of a file of which nothing is refused
-pub file-passed : (f : List ℕ) → refusalOf f .number ≡ 0 → (lengthGood f ≡ true) × (portsRefusal f 0 portCount .number ≡ 0)
-unfolding refusalOf
+pub file-passed : (f : List ℕ) → fileRefusal f .number ≡ 0 → (lengthGood f ≡ true) × (portsRefusal f 0 portCount .number ≡ 0)
+unfolding fileRefusal
 file-passed f e = told (lengthGood f) (headerGood f) refl refl e
   where
     told : (b c : Bool) → lengthGood f ≡ b → headerGood f ≡ c

@@ -6,7 +6,7 @@ use lib.ListN.{length}
 use lib.Dec.{leb, ltb, eqb}
 use Rattle.lists.specs.Equal.{octetsEqual}
 use Rattle.capture_file.specs.declared.FileRefusal.{FileRefusal}
-use Rattle.capture_file.specs.File.{recordOctets, recordCount, portCount, letters, lettersOf, firstOf, kindOf, streamOf, nextOf, numberA, numberB, openKind, reserveKind, arriveKind, bestEffortKind, tickKind, transmitKind, bestEffortOctet, endOf, mostEvents}
+use Rattle.capture_file.specs.File.{recordOctets, recordCount, portCount, letters, lettersOf, firstOf, kindOf, streamOctetOf, nextOf, numberA, numberB, openKind, reserveKind, arriveKind, bestEffortKind, tickKind, transmitKind, bestEffortOctet, endOf, mostEvents}
 
 -- a refusal names "the record index (0 for the whole file or the header)"
 abbrev pub refusedAt : ℕ → ℕ → FileRefusal
@@ -55,7 +55,7 @@ fieldsGood kind stream a b =
 
 -- 24 "kind, stream octet, unused number or zero octets"
 unfoldable pub recordGood : List ℕ → ℕ → Bool
-recordGood f i = fieldsGood (kindOf f i) (streamOf f i) (numberA f i) (numberB f i) && eqb (endOf f i) 0
+recordGood f i = fieldsGood (kindOf f i) (streamOctetOf f i) (numberA f i) (numberB f i) && eqb (endOf f i) 0
 
 -- a record of a chain: "24 before 23 at a record"
 unfoldable pub recordRefusal : List ℕ → ℕ → ℕ
@@ -76,8 +76,8 @@ portsRefusal f q zero = allGood
 portsRefusal f q (suc n) = firstRefusal (portRefusal f q) (portsRefusal f (q + 1) n)
 
 -- the whole file
-unfoldable pub refusalOf : List ℕ → FileRefusal
-refusalOf f =
+unfoldable pub fileRefusal : List ℕ → FileRefusal
+fileRefusal f =
     cond (not (lengthGood f)) (refusedAt 21 0)
     (cond (not (headerGood f)) (refusedAt 22 0)
     (portsRefusal f 0 portCount))

@@ -39,8 +39,8 @@ firstOf f q = twoOf (get f (4 + q * 2) 2)
 unfoldable pub kindOf : List ℕ → ℕ → ℕ
 kindOf f i = getD f (recordStart i) 0
 
-unfoldable pub streamOf : List ℕ → ℕ → ℕ
-streamOf f i = getD f (recordStart i + 1) 0
+unfoldable pub streamOctetOf : List ℕ → ℕ → ℕ
+streamOctetOf f i = getD f (recordStart i + 1) 0
 
 unfoldable pub nextOf : List ℕ → ℕ → ℕ
 nextOf f i = twoOf (get f (recordStart i + 2) 2)

@@ -3,7 +3,7 @@ ghost use mathlib.Core.Path.{_≡_};
 ghost use Prim.Native.Nat.{_<_, _≤_};
 ghost use lib.ListN.{length};
 ghost use Rattle.lists.specs.Equal.{octetsEqual};
-ghost use Rattle.capture_file.specs.File.{recordOctets, recordCount, HasRecord, recordStart, portCount, letters, lettersOf, firstOf, kindOf, streamOf, nextOf, numberA, numberB, endOf};
+ghost use Rattle.capture_file.specs.File.{recordOctets, recordCount, HasRecord, recordStart, portCount, letters, lettersOf, firstOf, kindOf, streamOctetOf, nextOf, numberA, numberB, endOf};
 
 // The octets of a record.
 pub const RECORD_OCTETS: usize = 16;
@@ -50,7 +50,7 @@ pub fn kind(file: &[u8], index: u16) -> u8
 // The record's stream octet.
 pub fn stream(file: &[u8], index: u16) -> u8
     requires { ⌜ HasRecord (now file) index ⌝ }
-    ensures { λ r. ⌜ r ≡ streamOf (now (file .entry)) index ⌝ }
+    ensures { λ r. ⌜ r ≡ streamOctetOf (now (file .entry)) index ⌝ }
 {
     let at = start(index) + 1;
     file[at]

@@ -5,7 +5,7 @@ ghost use mathlib.Core.Path.{_≡_};
 ghost use Prim.Native.Nat.{_<_, _≤_};
 ghost use lib.ListN.{length};
 ghost use Rattle.capture_file.specs.File.{HasRecord, recordOctets, portCount, mostEvents};
-ghost use Rattle.capture_file.specs.Checks.{refusedAt, lengthGood, headerGood, firstGood, nextGood, allZero, fieldsGood, recordGood, recordRefusal, chainRefusal, portRefusal, portsRefusal, refusalOf};
+ghost use Rattle.capture_file.specs.Checks.{refusedAt, lengthGood, headerGood, firstGood, nextGood, allZero, fieldsGood, recordGood, recordRefusal, chainRefusal, portRefusal, portsRefusal, fileRefusal};
 
 // A refusal of a file: its number, or 0 where nothing is refused, and the index of the record.
 pub struct FileRefusal {
@@ -215,7 +215,7 @@ fn ports_refusal(file: &[u8]) -> FileRefusal
 
 // The refusal of the file.
 pub fn refusal(file: &[u8]) -> FileRefusal
-    ensures { λ r. ⌜ r ≡ refusalOf (now (file .entry)) ⌝ }
+    ensures { λ r. ⌜ r ≡ fileRefusal (now (file .entry)) ⌝ }
 {
     if !length_good(file) {
         return refused(BAD_LENGTH, 0);

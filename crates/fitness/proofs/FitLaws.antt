@@ -14,7 +14,8 @@ use Rattle.record.specs.Layout.{queueCount, bestEffort, allQueues, streamCount,
 use Rattle.record.specs.Head.{openAt, priorAt, delayAt, linkAt, waitsAt, queueAt}
 use Rattle.record.specs.Entry.{streamAt}
 use Rattle.ranges.specs.Ranges.{shareOf, linkFits, delayFits}
-use Rattle.fitness.specs.Clauses.{priorFits, queueFits, queuesFit, streamFits, streamsFit, bindingFits, unlikeEarlier, bindingsFit, frameFits, framesFit, waitsFit, permittedSum, reservationFits, planFits, openFits}
+use Rattle.record.specs.Reservations.{permittedSum}
+use Rattle.fitness.specs.Clauses.{priorFits, queueFits, queuesFit, streamFits, streamsFit, bindingFits, unlikeEarlier, bindingsFit, frameFits, framesFit, waitsFit, reservationFits, planFits, openFits}
 use Rattle.fitness.specs.Fit.{recordFits, lentRefusal}
 use Rattle.fitness.proofs.TestLaws.{if-asked}
 

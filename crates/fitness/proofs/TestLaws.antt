@@ -6,7 +6,7 @@ use lib.Dec.{leb, ltb}
 use borrow.Author.Tests.{leb-true, ltb-true, le-leb, lt-ltb}
 use Rattle.lists.proofs.TurnLaws.{both}
 use Rattle.stream.specs.declared.Stream.{Stream}
-use Rattle.stream.specs.State.{currentPlace, lastPlace, Fit}
+use Rattle.stream.specs.State.{currentPlace, lastPlace, StreamFit}
 use Rattle.queue.specs.declared.Queue.{Queue}
 use Rattle.queue.specs.Ring.{placeCount}
 use Rattle.ranges.specs.Ranges.{within}
@@ -28,14 +28,14 @@ pub bounds-queue : (q : Queue) → q .start < placeCount → q .count ≤ placeC
 bounds-queue q a b = ap₂ _&&_ (lt-ltb (q .start) placeCount a) (le-leb (q .count) placeCount b)
 
 -- a reserved stream's place and left
-pub stream-fit : (s : Stream) → s .reserved ≡ true → streamFits s ≡ true → Fit lastPlace s
+pub stream-fit : (s : Stream) → s .reserved ≡ true → streamFits s ≡ true → StreamFit lastPlace s
 stream-fit s r h =
     let e : (within currentPlace lastPlace (s .place) ≡ true) × (leb (s .left) (s .permitted) ≡ true) = both _ _ (rw r at h) in
     let place : (currentPlace ≤ s .place) × (s .place ≤ lastPlace) = within-bounds currentPlace lastPlace (s .place) (e .0) in
     let left : s .left ≤ s .permitted = leb-true (s .left) (s .permitted) (e .1) in
     record { first-place = place .0; last-place = place .1; left-within = left }
 
-pub fit-stream : (s : Stream) → Fit lastPlace s → streamFits s ≡ true
+pub fit-stream : (s : Stream) → StreamFit lastPlace s → streamFits s ≡ true
 fit-stream s f =
     if-asked (s .reserved) _
     (ap₂ _&&_

@@ -3,16 +3,18 @@ use Prim.Native.Nat.{ℕ}
 use mathlib.Core.Bool.{Bool, true, not, _&&_, cond}
 use mathlib.Core.List.{List}
 use lib.Dec.{leb, ltb, eqb}
-use Rattle.lists.specs.Turns.{allTo, sumTo, allOf}
+use Rattle.lists.specs.Turns.{allTo, allOf}
 use Rattle.stream.specs.declared.Stream.{Stream}
 use Rattle.stream.specs.State.{currentPlace, lastPlace}
 use Rattle.queue.specs.declared.Frame.{Frame}
 use Rattle.queue.specs.declared.Queue.{Queue}
+use Rattle.queue.specs.Place.{bestEffortStream}
 use Rattle.queue.specs.Ring.{placeCount}
 use Rattle.queue.specs.Waiting.{waiting, chargesOf}
 use Rattle.record.specs.Layout.{queueCount, bestEffort, allQueues, streamCount}
 use Rattle.record.specs.Head.{openAt, priorAt, delayAt, linkAt, waitsAt, queueAt}
 use Rattle.record.specs.Entry.{streamAt, boundAt, vidAt, addressAt, samePair}
+use Rattle.record.specs.Reservations.{permittedSum}
 use Rattle.ranges.specs.Ranges.{within, chargeFits, shareOf, linkFits, delayFits, permittedFits, vidFits}
 
 -- "prior above 3"
@@ -45,9 +47,6 @@ abbrev pub bindingsFit : List ℕ → Bool
 bindingsFit p = allTo (λ s. bindingFits p s (unlikeEarlier p s)) streamCount
 
 -- "a waiting frame's stream above 63 (best effort: not 255) or charge outside 84 to 1,542"
-abbrev pub bestEffortStream : ℕ
-bestEffortStream = 255
-
 abbrev pub frameStreamFits : ℕ → ℕ → Bool
 frameStreamFits number stream = cond (eqb number bestEffort) (eqb stream bestEffortStream) (ltb stream streamCount)
 
@@ -60,13 +59,6 @@ framesFit p m = allTo (λ q. allOf (frameFits q) (waiting m q (queueAt p q))) al
 -- "W not the sum of the charges waiting in best effort"
 abbrev pub waitsFit : List ℕ → List ℕ → Bool
 waitsFit p m = eqb (waitsAt p) (chargesOf (waiting m bestEffort (queueAt p bestEffort)))
-
--- R, "the sum of the reserved streams' P"
-abbrev pub permittedOf : Stream → ℕ
-permittedOf s = cond (s .reserved) (s .permitted) 0
-
-abbrev pub permittedSum : List ℕ → ℕ
-permittedSum p = sumTo (λ s. permittedOf (streamAt p s)) streamCount
 
 -- "on an open port only, L, K or a P outside its range or a P sum above the share"
 abbrev pub reservationFits : Stream → Bool

@@ -4,7 +4,8 @@ ghost use mathlib.Core.Path.{_≡_};
 ghost use Rattle.lists.specs.Turns.{allTo};
 ghost use Rattle.record.specs.Layout.{Whole, streamCount};
 ghost use Rattle.record.specs.Entry.{streamAt};
-ghost use Rattle.fitness.specs.Clauses.{streamFits, streamsFit, permittedOf, permittedSum, reservationFits};
+ghost use Rattle.record.specs.Reservations.{permittedOf, permittedSum};
+ghost use Rattle.fitness.specs.Clauses.{streamFits, streamsFit, reservationFits};
 
 // The first and the last place, as the ranges take numbers.
 const CURRENT: u32 = stream::CURRENT as u32;

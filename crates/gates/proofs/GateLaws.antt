@@ -12,7 +12,7 @@ use Rattle.record.specs.Head.{openAt, linkAt, waitsAt, queueAt}
 use Rattle.record.specs.Entry.{streamAt}
 use Rattle.ranges.specs.Ranges.{leastCharge, greatestCharge, greatestShare, greatestDelay, chargeFits, shareOf, linkFits, delayFits, permittedFits}
 use Rattle.ranges.proofs.RangeLaws.{within-bounds}
-use Rattle.fitness.specs.Clauses.{permittedSum}
+use Rattle.record.specs.Reservations.{permittedSum}
 use Rattle.steps.specs.Call.{Terms, terms}
 use Rattle.gates.specs.Refusals.{openRefusal, reserveRefusal, arriveRefusal, bestEffortLimit, bestEffortRefusal}
 

@@ -9,7 +9,7 @@ use Rattle.record.specs.Layout.{bestEffort, streamCount}
 use Rattle.record.specs.Head.{openAt, delayAt, linkAt, waitsAt, queueAt}
 use Rattle.record.specs.Entry.{streamAt}
 use Rattle.ranges.specs.Ranges.{chargeFits, shareOf, linkFits, delayFits, permittedFits}
-use Rattle.fitness.specs.Clauses.{permittedSum}
+use Rattle.record.specs.Reservations.{permittedSum}
 use Rattle.steps.specs.Call.{Terms}
 
 -- Open: "2 open already; 3 L outside its range; 4 K outside its range"

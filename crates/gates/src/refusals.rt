@@ -8,7 +8,7 @@ ghost use Rattle.queue.specs.Ring.{placeCount};
 ghost use Rattle.record.specs.Layout.{Whole, bestEffort, addressLength};
 ghost use Rattle.record.specs.Head.{linkAt, waitsAt, queueAt};
 ghost use Rattle.ranges.specs.Ranges.{shareOf};
-ghost use Rattle.fitness.specs.Clauses.{permittedSum};
+ghost use Rattle.record.specs.Reservations.{permittedSum};
 ghost use Rattle.steps.specs.Call.{terms};
 ghost use Rattle.best_effort.specs.BestEffort.{WaitsKept};
 ghost use Rattle.gates.specs.Refusals.{openRefusal, reserveRefusal, arriveRefusal, closedRefusal, bestEffortLimit, bestEffortRefusal};

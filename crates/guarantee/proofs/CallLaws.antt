@@ -9,7 +9,7 @@ use Rattle.lists.proofs.EachLaws.{differ}
 use Rattle.stream.specs.declared.Reply.{Reply}
 use Rattle.steps.specs.Call.{Call, ticking, transmitting}
 use Rattle.port_laws.specs.Counting.{Action, actionOf, toBestEffort, toFrame, neither}
-use Rattle.guarantee.specs.Events.{Marked, Sent, sentReserved, sentBestEffort, none, broughtBy, isTransmit, sentBy}
+use Rattle.guarantee.specs.Events.{Marked, Sent, reservedSent, bestEffortSent, none, broughtBy, isTransmit, sentBy}
 use Rattle.guarantee.specs.Claims.{isTick}
 use Rattle.guarantee.proofs.Run.{Quiet}
 
@@ -29,8 +29,8 @@ pub sends-none : (earlier : List Call) (c : Call) (shown : Reply) → isTransmit
 sends-none earlier c shown h = ap (λ (b : Bool). cond b (broughtBy (shown .second) (actionOf (getD earlier (shown .second) ticking))) none) h
 
 -- a frame of best effort is no reserved frame, nor is none
-pub not-reserved : (f g : Marked) → sentBestEffort f ≡ sentReserved g → ⊥
+pub not-reserved : (f g : Marked) → bestEffortSent f ≡ reservedSent g → ⊥
 not-reserved f g e = let z : _≡_ {A = ℕ} 0 1 = cc in omega arith
 
-pub none-reserved : (g : Marked) → none ≡ sentReserved g → ⊥
+pub none-reserved : (g : Marked) → none ≡ reservedSent g → ⊥
 none-reserved g e = let z : _≡_ {A = ℕ} 0 1 = cc in omega arith

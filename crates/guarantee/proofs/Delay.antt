@@ -17,7 +17,7 @@ use Rattle.stream.specs.Steps.{arriveOf}
 use Rattle.stream.specs.Replies.{granted, replyOf}
 use Rattle.stream.proofs.FitLaws.{joins-onward, joins-within}
 use Rattle.port_laws.specs.Counting.{Action, actionOf, toArrive, toReserve, toTick, toTransmit, toBestEffort, toFrame, neither}
-use Rattle.guarantee.specs.Events.{Marked, Sent, sentReserved, Event, action}
+use Rattle.guarantee.specs.Events.{Marked, Sent, reservedSent, Event, action}
 use Rattle.guarantee.specs.Claims.{isTick, Tick, PurgesNothing, tickCount, Sends, SentBefore, AllSentBefore}
 use Rattle.lists.proofs.EachLaws.{differ, all-rest, some-before, some-last}
 use Rattle.guarantee.specs.Beyond.{SentByReply}
@@ -40,12 +40,12 @@ waits-after k f g (Discarded x) fs h = h
 
 -- a call that is no tick sends the frame, or it still waits
 abbrev SentOrWaits : ℕ → Marked → View → Reply → Sent → Type 0
-SentOrWaits k f w r t = ((t ≡ sentReserved f) × (r ≡ granted (f .stream) (f .tag))) ⊎ Waits k f w
+SentOrWaits k f w r t = ((t ≡ reservedSent f) × (r ≡ granted (f .stream) (f .tag))) ⊎ Waits k f w
 
 -- the oldest frame is this one, or this one is behind it
-sent-first : (k : ℕ) (f g : Marked) (fs : List Marked) (w : View) (r : Reply) (t : Sent) → t ≡ sentReserved g → r ≡ granted (g .stream) (g .tag) → w .queue k ≡ fs
+sent-first : (k : ℕ) (f g : Marked) (fs : List Marked) (w : View) (r : Reply) (t : Sent) → t ≡ reservedSent g → r ≡ granted (g .stream) (g .tag) → w .queue k ≡ fs
     → Some (λ h. h ≡ f) (g ∷ fs) → SentOrWaits k f w r t
-sent-first k f g fs w r t sent reply queue (inl e) = inl (sent ∙ ap sentReserved e, reply ∙ ap (λ (h : Marked). granted (h .stream) (h .tag)) e)
+sent-first k f g fs w r t sent reply queue (inl e) = inl (sent ∙ ap reservedSent e, reply ∙ ap (λ (h : Marked). granted (h .stream) (h .tag)) e)
 sent-first k f g fs w r t sent reply queue (inr h) = inr (rw queue h)
 
 still-waits : (last share n : ℕ) (v w : View) (r : Reply) (t : Sent) (c : Action) (k : ℕ) (f : Marked) → Effect last share n v w r t c → isTick c ≡ false → Waits k f v
@@ -98,7 +98,7 @@ module _ (last share : ℕ) (some : currentPlace ≤ last) where
           inr (rest after u (suc n) k w f run none-later (rw (d .queues k) h) tick (omega (arith, counts e is)))
       told false is k h m =
           ⊎-elim
-          (λ (s : (e .sent ≡ sentReserved f) × (e .reply ≡ granted (f .stream) (f .tag))). inl s)
+          (λ (s : (e .sent ≡ reservedSent f) × (e .reply ≡ granted (f .stream) (f .tag))). inl s)
           (λ (h : Waits k f w). inr (rest after u (suc n) k w f run none-later h tick (omega (arith, counts-not e is))))
           (still-waits last share n v w (e .reply) (e .sent) (action e) k f effect is h)
 

@@ -15,14 +15,14 @@ use Rattle.queue.specs.Waiting.{waiting}
 use Rattle.record.specs.Layout.{queueCount, bestEffort, streamCount, memoryLength}
 use Rattle.record.specs.Head.{openAt, priorAt, linkAt, queueAt}
 use Rattle.record.specs.Entry.{streamAt}
-use Rattle.fitness.specs.Clauses.{permittedOf as reservedP, permittedSum}
+use Rattle.record.specs.Reservations.{permittedOf as reservedP, permittedSum}
 use Rattle.fitness.specs.Fit.{recordFits}
 use Rattle.steps.specs.Roles.{roleAt}
 use Rattle.steps.proofs.RoleLaws.{role-same}
 use Rattle.gates.specs.Refusals.{arriveRefusal}
 use Rattle.steps.specs.Call.{Call}
 use Rattle.port_laws.specs.Counting.{actionOf}
-use Rattle.guarantee.specs.Events.{Marked, sentReserved, sentBestEffort}
+use Rattle.guarantee.specs.Events.{Marked, reservedSent, bestEffortSent}
 use Rattle.guarantee.proofs.Run.{View, free, permittedOf, ownRefusal}
 use Rattle.guarantee.proofs.Tied.{Tied}
 
@@ -46,9 +46,9 @@ pub record Holds (all : List Call) (link : ℕ) (p m k : List ℕ) (v : View) (b
   pub opened : openAt p ≡ true
   pub octets : linkAt p ≡ link
   pub streams : (s : ℕ) → v .stream s ≡ seenAt p s
-  pub queues : (role : ℕ) → role < queueCount → Tied all sentReserved (inRole p m role) (inRole p k role) (v .queue role)
+  pub queues : (role : ℕ) → role < queueCount → Tied all reservedSent (inRole p m role) (inRole p k role) (v .queue role)
   pub above : (role : ℕ) → queueCount ≤ role → v .queue role ≡ []
-  pub waits : Tied all sentBestEffort (waiting m bestEffort (queueAt p bestEffort)) (waiting k bestEffort (queueAt p bestEffort)) best
+  pub waits : Tied all bestEffortSent (waiting m bestEffort (queueAt p bestEffort)) (waiting k bestEffort (queueAt p bestEffort)) best
 
 -- a stream of the port is seen as it is in the record, any other as free
 pub seen-below : (p : List ℕ) (s : ℕ) → s < streamCount → seenAt p s ≡ seen (streamAt p s)

@@ -21,7 +21,7 @@ use Rattle.steps.proofs.OutcomeLaws.{grants, refuses}
 use Rattle.steps.specs.Call.{Call}
 use Rattle.port_laws.specs.Counting.{actionOf}
 use Rattle.port_laws.proofs.GateNumbers.{Own}
-use Rattle.guarantee.specs.Events.{Marked, Sent, sentReserved, sentBestEffort, none, isTransmit, sentBy}
+use Rattle.guarantee.specs.Events.{Marked, Sent, reservedSent, bestEffortSent, none, isTransmit, sentBy}
 use Rattle.guarantee.specs.Claims.{replyOfSent}
 use Rattle.guarantee.proofs.Run.{View, Quiet, Effect, quiet}
 use Rattle.guarantee.proofs.CallLaws.{quiet-no-transmit, sends-none}
@@ -39,9 +39,9 @@ link-kept p q keeps = (keeps .opened, keeps .link)
 pub record Moved (all : List Call) (p q m k : List ℕ) (w : View) (best : List Marked) : Type 0 where
   pub keeps : SameLink p q
   pub streams : (s : ℕ) → w .stream s ≡ seenAt q s
-  pub queues : (role : ℕ) → role < queueCount → Tied all sentReserved (inRole q m role) (inRole q k role) (w .queue role)
+  pub queues : (role : ℕ) → role < queueCount → Tied all reservedSent (inRole q m role) (inRole q k role) (w .queue role)
   pub above : (role : ℕ) → queueCount ≤ role → w .queue role ≡ []
-  pub waits : Tied all sentBestEffort (waiting m bestEffort (queueAt q bestEffort)) (waiting k bestEffort (queueAt q bestEffort)) best
+  pub waits : Tied all bestEffortSent (waiting m bestEffort (queueAt q bestEffort)) (waiting k bestEffort (queueAt q bestEffort)) best
 
 -- a transmit and the marked one say what is sent
 abbrev pub Says : Reply → Reply → Sent → Type 0

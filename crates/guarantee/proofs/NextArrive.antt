@@ -40,7 +40,7 @@ use Rattle.steps.specs.Call.{Call, arriving, ticking}
 use Rattle.port.specs.Calls.{called}
 use Rattle.port_laws.specs.Counting.{toArrive, actionOf}
 use Rattle.port_laws.proofs.GateNumbers.{refusal-own}
-use Rattle.guarantee.specs.Events.{Marked, sentReserved, none, broughtBy, marked}
+use Rattle.guarantee.specs.Events.{Marked, reservedSent, none, broughtBy, marked}
 use Rattle.guarantee.proofs.Run.{View, octets, ownRefusal, queueAfter, Effect, arrives, refuses-arrival}
 use Rattle.guarantee.proofs.Room.{Sound, octets-most, charged-length, stays-sound}
 use Rattle.guarantee.proofs.Tied.{Tied, plain, numbered, tied-joins, tied-length}
@@ -155,7 +155,7 @@ module _ (all : List Call) (n link : ℕ) (p m k : List ℕ) (v : View) (best : 
           share-most,
           ap length joined,
           length-append fs (frame ∷ []),
-          tied-length all sentReserved (inRole p m place) (inRole p k place) fs (h .queues place within-roles),
+          tied-length all reservedSent (inRole p m place) (inRole p k place) fs (h .queues place within-roles),
           length-waiting m (roleAt p place) (queueAt p (roleAt p place)),
         )
 
@@ -187,14 +187,14 @@ module _ (all : List Call) (n link : ℕ) (p m k : List ℕ) (v : View) (best : 
         ∙ joins-elsewhere l number bestEffort (queueAt p number) (queueAt p bestEffort) f apart
 
     joined-queues : (role : ℕ) → role < queueCount
-        → Tied all sentReserved (inRole after (joinedMemory m number (queueAt p number) (plain frame)) role)
+        → Tied all reservedSent (inRole after (joinedMemory m number (queueAt p number) (plain frame)) role)
         (inRole after (joinedMemory k number (queueAt p number) (numbered frame)) role)
         (queueAfter role frame (Joined place next) (v .queue role))
     joined-queues role b =
         ⊎-elim
         (λ (same : role ≡ place).
         rw (same, here-joins m (plain frame) (h .long), here-joins k (numbered frame) (h .long-marked), after-here frame place next (v .queue place))
-        (tied-joins all sentReserved (inRole p m place) (inRole p k place) (v .queue place) frame (h .queues place within-roles) (counted, ap (λ (c : Call). broughtBy n (actionOf c)) here)))
+        (tied-joins all reservedSent (inRole p m place) (inRole p k place) (v .queue place) frame (h .queues place within-roles) (counted, ap (λ (c : Call). broughtBy n (actionOf c)) here)))
         (λ (o : role ≡ place → ⊥).
         rw (else-kept m (plain frame) role b o, else-kept k (numbered frame) role b o, after-else frame role place next (v .queue role) o) (h .queues role b))
         (eq-or-not role place)

@@ -13,7 +13,7 @@ use Rattle.queue.proofs.WaitingLaws.{joins, joins-elsewhere, joins-length}
 use Rattle.lists.proofs.EachLaws.{differ}
 use Rattle.record.specs.Layout.{Whole, bestEffort, memoryLength}
 use Rattle.record.specs.Head.{waitsAt, queueAt}
-use Rattle.fitness.specs.Clauses.{bestEffortStream}
+use Rattle.queue.specs.Place.{bestEffortStream}
 use Rattle.fitness.proofs.FitLaws.{fit-record}
 use Rattle.steps.specs.Roles.{roleAt}
 use Rattle.best_effort.specs.BestEffort.{bestEffortFrame, bestEffortStep}
@@ -23,7 +23,7 @@ use Rattle.steps.specs.Call.{Call, ticking, joiningBestEffort}
 use Rattle.port.specs.Calls.{called}
 use Rattle.port_laws.specs.Counting.{actionOf}
 use Rattle.port_laws.proofs.GateNumbers.{refusal-own}
-use Rattle.guarantee.specs.Events.{Marked, sentBestEffort, broughtBy, marked}
+use Rattle.guarantee.specs.Events.{Marked, bestEffortSent, broughtBy, marked}
 use Rattle.guarantee.proofs.Run.{View, quiet}
 use Rattle.guarantee.proofs.Tied.{tied-joins}
 use Rattle.guarantee.proofs.BestEffortWritten.{written, written-keeps, written-here, written-stream, role-not-best-effort, written-role}
@@ -75,7 +75,7 @@ module _ (all : List Call) (n link : ℕ) (p m k : List ℕ) (v : View) (best : 
               above = h .above;
               waits =
                   rw (best-effort-joins p a m (bestEffortFrame a tag) whole (h .long) (d .free), best-effort-joins p a k (bestEffortFrame a n) whole (h .long-marked) (d .free))
-                  (tied-joins all sentBestEffort (waiting m bestEffort x) (waiting k bestEffort x) best f (h .waits) (counted, ap (λ (c : Call). broughtBy n (actionOf c)) here));
+                  (tied-joins all bestEffortSent (waiting m bestEffort x) (waiting k bestEffort x) best f (h .waits) (counted, ap (λ (c : Call). broughtBy n (actionOf c)) here));
             };
         says = λ z. differ (sym z);
         marks = λ z. refl;

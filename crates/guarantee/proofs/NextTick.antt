@@ -34,7 +34,7 @@ use Rattle.steps.specs.Call.{Call, ticking}
 use Rattle.port.specs.Calls.{called}
 use Rattle.port_laws.specs.Counting.{actionOf}
 use Rattle.port_laws.proofs.GateNumbers.{closed-passes}
-use Rattle.guarantee.specs.Events.{Marked, sentReserved, marked}
+use Rattle.guarantee.specs.Events.{Marked, reservedSent, marked}
 use Rattle.guarantee.proofs.Run.{View, free, octets, ticks}
 use Rattle.guarantee.proofs.Tied.{Tied, tied-empty, tied-length, tied-octets, tied-octets-shown}
 use Rattle.guarantee.proofs.Held.{Holds, inRole, seen, seenAt, seen-below, seen-above, seen-as-is, seen-free}
@@ -185,11 +185,11 @@ module _ (all : List Call) (n link : ℕ) (p m k : List ℕ) (v : View) (best : 
   whole : Whole p
   whole = fit-record p m (h .fit) .long
 
-  tick-queues : (role : ℕ) → role < queueCount → Tied all sentReserved (inRole (tickedRecord p) m role) (inRole (tickedRecord p) k role) (v .queue (suc role))
+  tick-queues : (role : ℕ) → role < queueCount → Tied all reservedSent (inRole (tickedRecord p) m role) (inRole (tickedRecord p) k role) (v .queue (suc role))
   tick-queues role b =
       ⊎-elim
       (λ (e : suc role ≡ queueCount).
-      rw (ticked-last p whole m role e, ticked-last p whole k role e, h .above (suc role) (omega arith)) (tied-empty all sentReserved))
+      rw (ticked-last p whole m role e, ticked-last p whole k role e, h .above (suc role) (omega arith)) (tied-empty all reservedSent))
       (λ (c : suc role < queueCount). rw (ticked-frames p whole m role c, ticked-frames p whole k role c) (h .queues (suc role) c))
       (eq-or-lt-of-le b)
 
@@ -212,8 +212,8 @@ module _ (all : List Call) (n link : ℕ) (p m k : List ℕ) (v : View) (best : 
       let prior = h .queues priorRole (omega arith) in
       let x = queueAt p (roleAt p priorRole) in
       ap₂ granted
-      (sym (length-waiting m (roleAt p priorRole) x) ∙ tied-length all sentReserved (inRole p m priorRole) (inRole p k priorRole) (v .queue 0) prior)
-      (tied-octets all sentReserved (inRole p m priorRole) (inRole p k priorRole) (v .queue 0) prior)
+      (sym (length-waiting m (roleAt p priorRole) x) ∙ tied-length all reservedSent (inRole p m priorRole) (inRole p k priorRole) (v .queue 0) prior)
+      (tied-octets all reservedSent (inRole p m priorRole) (inRole p k priorRole) (v .queue 0) prior)
 
   -- as many octets in the memory of the marked calls
   tick-marks : tickStep p k .reply ≡ tickStep p m .reply
@@ -221,8 +221,8 @@ module _ (all : List Call) (n link : ℕ) (p m k : List ℕ) (v : View) (best : 
   tick-marks =
       let prior = h .queues priorRole (omega arith) in
       ap (granted (queueAt p (roleAt p priorRole) .count))
-      (tied-octets-shown all sentReserved (inRole p m priorRole) (inRole p k priorRole) (v .queue 0) prior
-      ∙ sym (tied-octets all sentReserved (inRole p m priorRole) (inRole p k priorRole) (v .queue 0) prior))
+      (tied-octets-shown all reservedSent (inRole p m priorRole) (inRole p k priorRole) (v .queue 0) prior
+      ∙ sym (tied-octets all reservedSent (inRole p m priorRole) (inRole p k priorRole) (v .queue 0) prior))
 
   tick-next : Next all all n link p m k v ticking (tickStep p m) (tickStep p k)
   unfolding tickStep

@@ -30,7 +30,7 @@ use Rattle.steps.specs.Call.{Call, ticking, transmitting}
 use Rattle.port.specs.Calls.{called}
 use Rattle.port_laws.specs.Counting.{actionOf}
 use Rattle.port_laws.proofs.GateNumbers.{closed-passes}
-use Rattle.guarantee.specs.Events.{Marked, Sent, sentReserved, sentBestEffort as bestEffortFrame, none, broughtBy, marked}
+use Rattle.guarantee.specs.Events.{Marked, Sent, reservedSent, bestEffortSent, none, broughtBy, marked}
 use Rattle.guarantee.specs.Claims.{replyOfSent}
 use Rattle.lists.proofs.EachLaws.{differ, none-long}
 use Rattle.guarantee.proofs.Run.{View, sends as sends-frame, idles}
@@ -48,7 +48,7 @@ module _ (all : List Call) (n link : ℕ) (p m k : List ℕ) (v : View) (best : 
   role-empty : (role : ℕ) → role < queueCount → queueAt p (roleAt p role) .count ≡ 0 → v .queue role ≡ []
   role-empty role b zero-count =
       none-long (v .queue role)
-      (sym (tied-length all sentReserved (inRole p m role) (inRole p k role) (v .queue role) (h .queues role b))
+      (sym (tied-length all reservedSent (inRole p m role) (inRole p k role) (v .queue role) (h .queues role b))
       ∙ length-waiting m (roleAt p role) (queueAt p (roleAt p role))
       ∙ zero-count)
 
@@ -76,8 +76,8 @@ module _ (all : List Call) (n link : ℕ) (p m k : List ℕ) (v : View) (best : 
     abbrev after : List ℕ
     after = withQueue p number (sentQueue there)
 
-    front : Oldest all sentReserved (frontOf m number there) (frontOf k number there) (waiting m number (sentQueue there)) (waiting k number (sentQueue there)) (v .queue role)
-    front = first-of sentReserved number there (v .queue role) (h .queues role b) some
+    front : Oldest all reservedSent (frontOf m number there) (frontOf k number there) (waiting m number (sentQueue there)) (waiting k number (sentQueue there)) (v .queue role)
+    front = first-of reservedSent number there (v .queue role) (h .queues role b) some
 
     abbrev sentView : View
     sentView = record { queue = λ j. cond (eqb j role) (front .others) (v .queue j); stream = v .stream }
@@ -98,7 +98,7 @@ module _ (all : List Call) (n link : ℕ) (p m k : List ℕ) (v : View) (best : 
     after-else l j c o =
         role-kept p after l j (prior-queue p number (sentQueue there)) (other-queue p number (sentQueue there) (roleAt p j) (role-apart p j role c b o))
 
-    sent-queues : (j : ℕ) → j < queueCount → Tied all sentReserved (inRole after m j) (inRole after k j) (sentView .queue j)
+    sent-queues : (j : ℕ) → j < queueCount → Tied all reservedSent (inRole after m j) (inRole after k j) (sentView .queue j)
     sent-queues j c =
         ⊎-elim
         (λ (e : j ≡ role). rw (e, after-here m, after-here k, sent-here) (front .rest))
@@ -108,7 +108,7 @@ module _ (all : List Call) (n link : ℕ) (p m k : List ℕ) (v : View) (best : 
     sent-next : Next all all n link p m k v transmitting (sent p m number there) (sent p k number there)
     sent-next =
         let f = front .first in
-        let sends-it = names sentReserved number there (v .queue role) front in
+        let sends-it = names reservedSent number there (v .queue role) front in
         let reply : granted (frontOf m number there .stream) (frontOf m number there .tag) ≡ granted (f .stream) (f .tag) =
         ap (λ (g : Frame). granted (g .stream) (g .tag)) (front .real) in
         record {
@@ -146,9 +146,9 @@ module _ (all : List Call) (n link : ℕ) (p m k : List ℕ) (v : View) (best : 
     abbrev waitingThere : Queue
     waitingThere = queueAt p bestEffort
 
-    oldest-there : Oldest all bestEffortFrame (frontOf m bestEffort waitingThere) (frontOf k bestEffort waitingThere) (waiting m bestEffort (sentQueue waitingThere))
+    oldest-there : Oldest all bestEffortSent (frontOf m bestEffort waitingThere) (frontOf k bestEffort waitingThere) (waiting m bestEffort (sentQueue waitingThere))
         (waiting k bestEffort (sentQueue waitingThere)) best
-    oldest-there = first-of bestEffortFrame bestEffort waitingThere best (h .waits) some
+    oldest-there = first-of bestEffortSent bestEffort waitingThere best (h .waits) some
 
     -- the charge is the same in both memories
     same-charge : frontOf k bestEffort waitingThere .charge ≡ frontOf m bestEffort waitingThere .charge
@@ -158,7 +158,7 @@ module _ (all : List Call) (n link : ℕ) (p m k : List ℕ) (v : View) (best : 
     best-effort-next =
         let f = oldest-there .first in
         let octets = waitsAt p - frontOf m bestEffort waitingThere .charge in
-        let sends-it = names bestEffortFrame bestEffort waitingThere best oldest-there in
+        let sends-it = names bestEffortSent bestEffort waitingThere best oldest-there in
         record {
           view = v;
           best = oldest-there .others;

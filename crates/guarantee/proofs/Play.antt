@@ -26,7 +26,7 @@ use Rattle.port_laws.proofs.SameLength.{memory-length}
 use Rattle.port_laws.proofs.FrameLaws.{frame-becomes}
 use Rattle.port_laws.proofs.QuickLaws.{quick-call}
 use Rattle.port_laws.proofs.StayLaws.{stays-fit}
-use Rattle.guarantee.specs.Events.{Marked, Sent, sentReserved, sentBestEffort, none, broughtBy, isTransmit, marked, Made, made, sentBy, Event, eventsAfter}
+use Rattle.guarantee.specs.Events.{Marked, Sent, reservedSent, bestEffortSent, none, broughtBy, isTransmit, marked, Made, made, sentBy, Event, eventsAfter}
 use Rattle.guarantee.specs.Claims.{SameRecord, SaysWhatItSends, AlikeMarked, NotByHost}
 use Rattle.guarantee.proofs.Run.{View, Effect, Run}
 use Rattle.guarantee.proofs.CallLaws.{sends-none}
@@ -57,9 +57,9 @@ module _ (earlier : List Call) (c : Call) where
         opened = h .opened;
         octets = h .octets;
         streams = h .streams;
-        queues = λ role b. tied-later earlier sentReserved c (inRole p m role) (inRole p k role) (v .queue role) (h .queues role b);
+        queues = λ role b. tied-later earlier reservedSent c (inRole p m role) (inRole p k role) (v .queue role) (h .queues role b);
         above = h .above;
-        waits = tied-later earlier sentBestEffort c _ _ best (h .waits);
+        waits = tied-later earlier bestEffortSent c _ _ best (h .waits);
       }
 
   moved-later : (p q m k : List ℕ) (w : View) (best : List Marked) → Moved earlier p q m k w best → Moved withCall p q m k w best
@@ -67,9 +67,9 @@ module _ (earlier : List Call) (c : Call) where
       record {
         keeps = h .keeps;
         streams = h .streams;
-        queues = λ role b. tied-later earlier sentReserved c (inRole q m role) (inRole q k role) (w .queue role) (h .queues role b);
+        queues = λ role b. tied-later earlier reservedSent c (inRole q m role) (inRole q k role) (w .queue role) (h .queues role b);
         above = h .above;
-        waits = tied-later earlier sentBestEffort c _ _ best (h .waits);
+        waits = tied-later earlier bestEffortSent c _ _ best (h .waits);
       }
 
   -- its place in the list

@@ -12,14 +12,14 @@ use Rattle.stream.specs.declared.Reply.{Reply}
 use Rattle.stream.specs.declared.Stream.{Stream}
 use Rattle.stream.specs.declared.Arrival.{Arrival}
 use Rattle.stream.specs.declared.Arrival.the-variants.{Joined, Discarded}
-use Rattle.stream.specs.State.{currentPlace, Fit}
+use Rattle.stream.specs.State.{currentPlace, StreamFit}
 use Rattle.stream.specs.Steps.{arriveOf}
 use Rattle.stream.specs.Replies.{granted}
 use Rattle.stream.proofs.FitLaws.{joins-onward}
 use Rattle.steps.specs.Call.{Call}
 use Rattle.port_laws.specs.Counting.{Action, actionOf, toArrive, toReserve, toTick, toTransmit, toBestEffort, toFrame, neither}
 use Rattle.ranges.specs.Ranges.{leastCharge}
-use Rattle.guarantee.specs.Events.{Marked, Sent, sentReserved, none, isTransmit, Event, action}
+use Rattle.guarantee.specs.Events.{Marked, Sent, reservedSent, none, isTransmit, Event, action}
 use Rattle.guarantee.specs.Claims.{isTick, Tick, NoTick, reservedCharge, reservedOctets, Idle, Linked, LinkCondition, PurgesNothing}
 use Rattle.lists.proofs.TurnLaws.{sumOf-snoc}
 use Rattle.lists.proofs.EachLaws.{differ, some-not-none, all-snoc, some-snoc}
@@ -28,7 +28,7 @@ use Rattle.guarantee.proofs.Run.{View, octets, queueAfter, Ticks, Effec
 use Rattle.guarantee.proofs.Room.{Charged, Sound, octets-most, few-octets, stays-sound}
 
 -- no frame joins prior
-prior-keeps : (last : ℕ) (x : Stream) (a : ℕ) (f : Marked) (fs : List Marked) → Fit last x → queueAfter 0 f (arriveOf last x a) fs ≡ fs
+prior-keeps : (last : ℕ) (x : Stream) (a : ℕ) (f : Marked) (fs : List Marked) → StreamFit last x → queueAfter 0 f (arriveOf last x a) fs ≡ fs
 prior-keeps last x a f fs fit = told (arriveOf last x a) refl
   where
     told : (r : Arrival) → arriveOf last x a ≡ r → queueAfter 0 f r fs ≡ fs
@@ -39,7 +39,7 @@ prior-keeps last x a f fs fit = told (arriveOf last x a) refl
 record Leaves (v w : View) (t : Sent) (c : Action) : Type 0 where
   shrinks : (w .queue 0 ≡ []) ⊎ (reservedCharge t + octets (w .queue 0) ≤ octets (v .queue 0))
   stays-empty : v .queue 0 ≡ [] → w .queue 0 ≡ []
-  idle-empty : isTransmit c ≡ true → ((f : Marked) → t ≡ sentReserved f → ⊥) → w .queue 0 ≡ []
+  idle-empty : isTransmit c ≡ true → ((f : Marked) → t ≡ reservedSent f → ⊥) → w .queue 0 ≡ []
 
 kept-leaves : (v w : View) (t : Sent) (c : Action) → w .queue 0 ≡ v .queue 0 → t ≡ none → (isTransmit c ≡ false) → Leaves v w t c
 kept-leaves v w t c same nothing other =

@@ -14,7 +14,7 @@ use Rattle.stream.specs.declared.Stream.{Stream}
 use Rattle.stream.specs.declared.Reply.{Reply}
 use Rattle.stream.specs.declared.Arrival.{Arrival}
 use Rattle.stream.specs.declared.Arrival.the-variants.{Joined, Discarded}
-use Rattle.stream.specs.State.{currentPlace, reserveOf, Fit}
+use Rattle.stream.specs.State.{currentPlace, reserveOf, StreamFit}
 use Rattle.stream.specs.Steps.{arriveOf, tickOf}
 use Rattle.stream.specs.Replies.{streamOf}
 use Rattle.stream.specs.Alone.{octetsAt}
@@ -38,7 +38,7 @@ usedOf v k = sumTo (λ s. used k (v .stream s)) streamCount
 
 -- what holds of a port from its opening on
 pub record Sound (last share : ℕ) (v : View) : Type 0 where
-  pub fit : (s : ℕ) → Fit last (v .stream s)
+  pub fit : (s : ℕ) → StreamFit last (v .stream s)
   pub within-share : permittedOf v ≤ share
   pub room : (k : ℕ) → octets (v .queue k) ≤ usedOf v k
   pub charged : (k : ℕ) → All Charged (v .queue k)
@@ -108,7 +108,7 @@ module _ (last share : ℕ) (v w : View) (h : Sound last share v) where
       (eq-or-not j k))
 
   -- where one stream changes, and what joins each queue it has used
-  module _ (s : ℕ) (x : Stream) (below : s < streamCount) (one : OneStream v w s x) (fits : Fit last x) where
+  module _ (s : ℕ) (x : Stream) (below : s < streamCount) (one : OneStream v w s x) (fits : StreamFit last x) where
     sum-change : (g : Stream → ℕ) → sumTo (λ i. g (w .stream i)) streamCount + g (v .stream s) ≡ sumTo (λ i. g (v .stream i)) streamCount + g x
     sum-change g =
         sumTo-change (λ i. g (w .stream i)) (λ i. g (v .stream i)) streamCount s below (λ i o. ap g (one .1 i o))
@@ -131,7 +131,7 @@ module _ (last share : ℕ) (v w : View) (h : Sound last share v) where
         }
 
 -- a tick brings each queue a place nearer, and a stream has used no less of it
-used-nearer : (last k : ℕ) (x : Stream) → Fit last x → used (suc k) x ≤ used k (tickOf x)
+used-nearer : (last k : ℕ) (x : Stream) → StreamFit last x → used (suc k) x ≤ used k (tickOf x)
 used-nearer last k x f = let one-less : suc k - 1 ≡ k = omega arith in rw one-less at (used-tick last (suc k) x f)
 
 -- a call leaves a sound port sound

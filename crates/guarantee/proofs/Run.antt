@@ -17,7 +17,7 @@ use Rattle.stream.specs.Replies.{granted, refusedBy, replyOf, streamOf}
 use Rattle.record.specs.Layout.{streamCount}
 use Rattle.ranges.specs.Ranges.{chargeFits}
 use Rattle.port_laws.specs.Counting.{Action, actionOf, toArrive, toReserve, toTick, toTransmit, toBestEffort, toFrame, neither}
-use Rattle.guarantee.specs.Events.{Marked, Sent, sentReserved, none, Event, action}
+use Rattle.guarantee.specs.Events.{Marked, Sent, reservedSent, none, Event, action}
 
 -- the queues, by role (0 prior, 1 current, and so on), and the streams
 pub record View : Type 0 where
@@ -104,7 +104,7 @@ pub record Ticks (v w : View) (r : Reply) : Type 0 where
 pub record SendsFrom (v w : View) (r : Reply) (t : Sent) (k : ℕ) (f : Marked) (fs : List Marked) : Type 0 where
   pub waiting : v .queue k ≡ f ∷ fs
   pub earlier : (j : ℕ) → j < k → v .queue j ≡ []
-  pub sent : t ≡ sentReserved f
+  pub sent : t ≡ reservedSent f
   pub reply : r ≡ granted (f .stream) (f .tag)
   pub queues : OneQueue v w k fs
   pub streams : SameStreams v w
@@ -120,7 +120,7 @@ pub data Effect (last share n : ℕ) (v w : View) (r : Reply) (t : Sent) : Actio
       → Effect last share n v w r t (toArrive s charge tag)
   ticks : t ≡ none → Ticks v w r → Effect last share n v w r t toTick
   sends : (k : ℕ) (f : Marked) (fs : List Marked) → SendsFrom v w r t k f fs → Effect last share n v w r t toTransmit
-  idles : v .queue 0 ≡ [] → ((f : Marked) → t ≡ sentReserved f → ⊥) → SameQueues v w → SameStreams v w → Effect last share n v w r t toTransmit
+  idles : v .queue 0 ≡ [] → ((f : Marked) → t ≡ reservedSent f → ⊥) → SameQueues v w → SameStreams v w → Effect last share n v w r t toTransmit
 
 -- events that happen one after the other, the first of them number n
 abbrev pub Run : ℕ → ℕ → ℕ → View → List Event → Type 0

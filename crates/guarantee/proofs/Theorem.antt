@@ -31,7 +31,7 @@ use Rattle.port_laws.specs.Counting.{actionOf}
 use Rattle.port_laws.proofs.QuickLaws.{quick-call}
 use Rattle.port_laws.proofs.StayLaws.{stays-fit}
 use Rattle.port_laws.proofs.OpenLaws.{opened-open, opened-link, opened-queue, opened-stream}
-use Rattle.guarantee.specs.Events.{sentReserved, sentBestEffort, Made, made, Event, eventsAfter, events}
+use Rattle.guarantee.specs.Events.{reservedSent, bestEffortSent, Made, made, Event, eventsAfter, events}
 use Rattle.guarantee.specs.Claims.{LinkCondition}
 use Rattle.guarantee.specs.Demand3.{CallList, eventsIn, LinkHolds, Promised, Demand3}
 use Rattle.guarantee.specs.Beyond.{SentByReply}
@@ -98,9 +98,9 @@ module _ (p m : List ℕ) (t : Terms) (is : called (opening t) p m .reply .refus
         opened = opened-open p t whole;
         octets = opened-link p t whole;
         streams = λ s. sym (seen-opened s);
-        queues = λ role b. rw (no-frames (roleAt after role) (omega (arith, role-below after role))) (tied-empty all sentReserved);
+        queues = λ role b. rw (no-frames (roleAt after role) (omega (arith, role-below after role))) (tied-empty all reservedSent);
         above = λ role b. refl;
-        waits = rw (no-frames bestEffort (omega arith)) (tied-empty all sentBestEffort);
+        waits = rw (no-frames bestEffort (omega arith)) (tied-empty all bestEffortSent);
       }
     where
       seen-opened : (s : ℕ) → seenAt after s ≡ free

@@ -15,7 +15,7 @@ use Rattle.sending.specs.Sending.{nothing}
 use Rattle.ranges.specs.Ranges.{chargeFits}
 use Rattle.steps.specs.Call.{Call, reserving, arriving}
 use Rattle.port_laws.specs.Counting.{Action, toTick, toTransmit, toReserve, toArrive, toBestEffort, toFrame, neither}
-use Rattle.guarantee.specs.Events.{Marked, Sent, sentReserved, sentBestEffort, none, isTransmit, Made, Event, action}
+use Rattle.guarantee.specs.Events.{Marked, Sent, reservedSent, bestEffortSent, none, isTransmit, Made, Event, action}
 
 -- whether an action is a Tick, and how many of the events are
 abbrev pub isTick : Action → Bool
@@ -38,8 +38,8 @@ tickCount = sumOf (λ e. cond (isTick (action e)) 1 0)
 
 -- "the reserved octets sent": "Octets sent or offered are sums of charges"
 abbrev pub reservedCharge : Sent → ℕ
-reservedCharge (sentReserved f) = f .charge
-reservedCharge (sentBestEffort f) = 0
+reservedCharge (reservedSent f) = f .charge
+reservedCharge (bestEffortSent f) = 0
 reservedCharge none = 0
 
 abbrev pub reservedOctets : List Event → ℕ
@@ -53,7 +53,7 @@ abbrev pub NoTransmit : Event → Type 0
 NoTransmit e = isTransmit (action e) ≡ false
 
 abbrev pub Idle : Event → Type 0
-Idle e = Transmit e × ((f : Marked) → e .sent ≡ sentReserved f → ⊥)
+Idle e = Transmit e × ((f : Marked) → e .sent ≡ reservedSent f → ⊥)
 
 -- "the reserved octets sent are at least the port's share or some transmit sends no reserved frame"
 abbrev pub Linked : ℕ → List Event → Type 0
@@ -72,8 +72,8 @@ PurgesNothing e = Tick e → e .reply ≡ granted 0 0
 -- "the reply is that frame's stream and tag", and where the tag is the call's number its stream and that; "stream (255 best effort, 254 nothing), tag
 -- (0 for nothing)"
 abbrev pub replyOfSent : (Marked → ℕ) → Sent → Reply
-replyOfSent tag (sentReserved f) = granted (f .stream) (tag f)
-replyOfSent tag (sentBestEffort f) = granted (f .stream) (tag f)
+replyOfSent tag (reservedSent f) = granted (f .stream) (tag f)
+replyOfSent tag (bestEffortSent f) = granted (f .stream) (tag f)
 replyOfSent tag none = granted nothing 0
 
 abbrev pub SaysWhatItSends : Event → Type 0
@@ -89,7 +89,7 @@ SameRecord x = x .shown .port ≡ x .real .port
 
 -- a frame is sent before the tick of that number among the events after it: "claimed where the list reaches that tick"
 abbrev pub Sends : Marked → Event → Type 0
-Sends f e = (e .sent ≡ sentReserved f) × (e .reply ≡ granted (f .stream) (f .tag))
+Sends f e = (e .sent ≡ reservedSent f) × (e .reply ≡ granted (f .stream) (f .tag))
 
 abbrev pub SentBefore : ℕ → Marked → List Event → Type 0
 SentBefore number f es =

@@ -4,7 +4,7 @@ use mathlib.Core.Bool.{Bool, true, false, cond}
 use mathlib.Core.List.{List, [], _∷_, _++_}
 use lib.ListN.{length, getD}
 use Rattle.stream.specs.declared.Reply.{Reply}
-use Rattle.fitness.specs.Clauses.{bestEffortStream}
+use Rattle.queue.specs.Place.{bestEffortStream}
 use Rattle.steps.specs.Call.{Call, arriving, ticking, joiningBestEffort, framing}
 use Rattle.steps.specs.Outcome.{Outcome}
 use Rattle.port_laws.specs.Counting.{Action, toTick, toTransmit, toReserve, toArrive, toBestEffort, toFrame, neither, actionOf, countsAs}
@@ -18,8 +18,8 @@ pub record Marked : Type 0 where
 
 -- what a call sends: a reserved frame, which "is one that an Arrive brought", a frame of best effort, or none
 pub data Sent : Type 0 where
-  sentReserved : Marked → Sent
-  sentBestEffort : Marked → Sent
+  reservedSent : Marked → Sent
+  bestEffortSent : Marked → Sent
   none : Sent
 
 -- call c with its number for a tag, by its action
@@ -56,8 +56,8 @@ abbrev pub broughtBy : ℕ → Action → Sent
 broughtBy n toTick = none
 broughtBy n toTransmit = none
 broughtBy n (toReserve s permitted) = none
-broughtBy n (toArrive s charge tag) = sentReserved (record { stream = s; charge = charge; tag = tag; number = n })
-broughtBy n (toBestEffort charge tag) = sentBestEffort (record { stream = bestEffortStream; charge = charge; tag = tag; number = n })
+broughtBy n (toArrive s charge tag) = reservedSent (record { stream = s; charge = charge; tag = tag; number = n })
+broughtBy n (toBestEffort charge tag) = bestEffortSent (record { stream = bestEffortStream; charge = charge; tag = tag; number = n })
 broughtBy n (toFrame octets tag) = none
 broughtBy n neither = none
 

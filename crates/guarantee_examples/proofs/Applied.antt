@@ -12,7 +12,7 @@ use Rattle.lists.proofs.TurnLaws.{both}
 use Rattle.stream.specs.declared.Reply.{Reply}
 use Rattle.record.specs.Layout.{queueCount}
 use Rattle.ranges.specs.Ranges.{shareOf}
-use Rattle.guarantee.specs.Events.{Marked, Sent, sentReserved, sentBestEffort, none, Event}
+use Rattle.guarantee.specs.Events.{Marked, Sent, reservedSent, bestEffortSent, none, Event}
 use Rattle.guarantee.specs.Claims.{SameRecord, LinkCondition, SaysWhatItSends, AlikeMarked, Sends, Alike, NotByHost}
 use Rattle.guarantee.specs.Demand3.{runsOf, eventsIn, LinkHolds, Promised}
 use Rattle.guarantee.proofs.Theorem.{opened-reply, demand-3}
@@ -60,8 +60,8 @@ module _ (es : List Event) (happens : Happens es) where
 
 -- whether what is sent is no reserved frame of call number n
 abbrev isOther : ℕ → Sent → Bool
-isOther n (sentReserved f) = not (eqb (f .number) n)
-isOther n (sentBestEffort f) = true
+isOther n (reservedSent f) = not (eqb (f .number) n)
+isOther n (bestEffortSent f) = true
 isOther n none = true
 
 abbrev pub allOther : ℕ → List Event → Bool
@@ -79,7 +79,7 @@ module _ (f : Marked) where
 
   -- where some event sends the frame and no other does, this one does
   pub only : (before after : List Event) (e : Event) → allOther (f .number) before ≡ true → allOther (f .number) after ≡ true
-      → Some (Sends f) (before ++ (e ∷ after)) → e .sent ≡ sentReserved f
+      → Some (Sends f) (before ++ (e ∷ after)) → e .sent ≡ reservedSent f
   only [] after e others others-after (inl sends) = sends .0
   only [] after e others others-after (inr sends) = absurd (none-sends after others-after sends)
   only (d ∷ before) after e others others-after (inl sends) = absurd (not-other d (both _ _ others .0) sends)

@@ -9,7 +9,7 @@ use Rattle.stream.specs.declared.Reply.{Reply}
 use Rattle.stream.specs.Replies.{granted, refusedBy}
 use Rattle.ranges.specs.Ranges.{shareOf}
 use Rattle.steps.specs.Call.{arriving, ticking}
-use Rattle.guarantee.specs.Events.{Sent, sentReserved, Event}
+use Rattle.guarantee.specs.Events.{Sent, reservedSent, Event}
 use Rattle.guarantee.specs.Claims.{SameRecord, LinkCondition, PurgesNothing, SaysWhatItSends, Sends, Prompt, OffersWithin}
 use Rattle.guarantee_examples.specs.Examples.{replied, Happens, permitted200}
 use Rattle.guarantee_examples.specs.LeftOpen.{transmitted, crowdedOpening, crowdedGrant, crowdedBefore, crowdedBetween, crowdedFourth, crowdedToSecondTick, crowdedAfter, crowdedWith, crowdedFrame, crowdedPlace, crowded, busyBefore, busyNextArrival, busyLastArrival, busyToThirdTick, busyToFourthTick, busyAfter, busyWith, thirdFrame, busySecond, busyThird, purgesNone, aloneWith, arrivedWith, discards, tooShort, unfit, queueFull}
@@ -67,10 +67,10 @@ abbrev beforeThird : List Event
 beforeThird = crowdedOpening ++ (crowdedGrant ∷ (crowdedBefore ++ (replied (arriving 5 120 7) (granted crowdedPlace 80) ∷ crowdedBetween)))
 
 -- from `says`
-third-says : (said shown : Reply) → Happens (crowdedWith (granted crowdedPlace 80) (transmitted (sentReserved crowdedFrame) said shown))
+third-says : (said shown : Reply) → Happens (crowdedWith (granted crowdedPlace 80) (transmitted (reservedSent crowdedFrame) said shown))
     → (said ≡ granted 5 7) × (shown ≡ granted 5 10)
 third-says said shown happens =
-    let third = transmitted (sentReserved crowdedFrame) said shown in
+    let third = transmitted (reservedSent crowdedFrame) said shown in
     all-rest SaysWhatItSends beforeThird (third ∷ (crowdedFourth ++ (replied ticking (granted 0 0) ∷ []))) (says-of (crowdedWith (granted crowdedPlace 80) third) happens) .0 refl
 
 -- from `marks`, and from `not-by-host`

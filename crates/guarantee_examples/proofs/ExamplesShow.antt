@@ -10,7 +10,7 @@ use Rattle.stream.specs.State.{lastPlace}
 use Rattle.stream.specs.Replies.{granted}
 use Rattle.ranges.specs.Ranges.{leastCharge, shareOf}
 use Rattle.steps.specs.Call.{terms, opening, reserving, arriving, ticking}
-use Rattle.guarantee.specs.Events.{Marked, sentReserved, Event}
+use Rattle.guarantee.specs.Events.{Marked, reservedSent, Event}
 use Rattle.guarantee.specs.Claims.{reservedOctets, Idle, LinkCondition, PurgesNothing, Sends, AllSentBefore}
 use Rattle.guarantee.proofs.CallLaws.{none-reserved}
 use Rattle.guarantee_examples.specs.Examples.{markedFrame, sending, replied, busy, light, withheld, silent}
@@ -24,7 +24,7 @@ firstRefusal [] = 0
 firstRefusal (r ∷ rs) = r .refusal
 
 -- frames of different calls are different
-other-frame : (f g : Marked) → (f .number ≡ g .number → ⊥) → sentReserved f ≡ sentReserved g → ⊥
+other-frame : (f g : Marked) → (f .number ≡ g .number → ⊥) → reservedSent f ≡ reservedSent g → ⊥
 other-frame f g o e = let z : f .number ≡ g .number = cc in o z
 
 -- between the third frame's arrival and the third tick the first two frames are sent, and not the third
@@ -34,9 +34,9 @@ third = markedFrame 5 84 7 4
 abbrev toThirdTick : List Event
 toThirdTick =
     replied ticking (granted 0 0)
-    ∷ sending (sentReserved (markedFrame 5 84 7 2)) (granted 5 7)
+    ∷ sending (reservedSent (markedFrame 5 84 7 2)) (granted 5 7)
     ∷ replied ticking (granted 0 0)
-    ∷ sending (sentReserved (markedFrame 5 84 7 3)) (granted 5 7)
+    ∷ sending (reservedSent (markedFrame 5 84 7 3)) (granted 5 7)
     ∷ []
 
 third-unsent : Some (Sends third) toThirdTick → ⊥
@@ -50,13 +50,13 @@ not-by-third all =
     third-unsent
     (all
     (replied (opening (terms 1626 1)) (granted 84 0) ∷ replied (reserving 5 84) (granted 0 0) ∷ replied (arriving 5 84 7) (granted 1 84) ∷ replied (arriving 5 84 7) (granted 2 84) ∷ [])
-    (toThirdTick ++ (replied ticking (granted 0 0) ∷ sending (sentReserved third) (granted 5 7) ∷ replied ticking (granted 0 0) ∷ []))
+    (toThirdTick ++ (replied ticking (granted 0 0) ∷ sending (reservedSent third) (granted 5 7) ∷ replied ticking (granted 0 0) ∷ []))
     (replied (arriving 5 84 7) (granted 3 0))
-    5 84 7 refl refl refl toThirdTick (sending (sentReserved third) (granted 5 7) ∷ replied ticking (granted 0 0) ∷ []) (replied ticking (granted 0 0)) refl refl refl)
+    5 84 7 refl refl refl toThirdTick (sending (reservedSent third) (granted 5 7) ∷ replied ticking (granted 0 0) ∷ []) (replied ticking (granted 0 0)) refl refl refl)
 
 -- the epoch in which too little is sent
 abbrev epoch : List Event
-epoch = sending (sentReserved (markedFrame 5 516 7 2)) (granted 5 7) ∷ []
+epoch = sending (reservedSent (markedFrame 5 516 7 2)) (granted 5 7) ∷ []
 
 -- the tick that purges
 purges : All PurgesNothing withheld → ⊥

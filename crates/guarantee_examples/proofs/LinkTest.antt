@@ -9,14 +9,14 @@ use borrow.Author.Tests.{leb-true}
 use lib.Dec.{leb}
 use Rattle.lists.specs.Each.{All, Some}
 use Rattle.lists.proofs.TurnLaws.{both}
-use Rattle.guarantee.specs.Events.{Marked, Sent, sentReserved, sentBestEffort, none, isTransmit, Event, action}
+use Rattle.guarantee.specs.Events.{Marked, Sent, reservedSent, bestEffortSent, none, isTransmit, Event, action}
 use Rattle.guarantee.specs.Claims.{isTick, Tick, NoTick, reservedCharge, reservedOctets, Idle, LinkCondition}
 use Rattle.lists.proofs.EachLaws.{differ}
 
 -- whether an event is a transmit without a reserved frame
 abbrev isReserved : Sent → Bool
-isReserved (sentReserved f) = true
-isReserved (sentBestEffort f) = false
+isReserved (reservedSent f) = true
+isReserved (bestEffortSent f) = false
 isReserved none = false
 
 abbrev isIdle : Event → Bool
@@ -105,9 +105,9 @@ neither : (a b : Bool) → (a || b) ≡ false → (a ≡ false) × (b ≡ false)
 neither true b e = differ e
 neither false b e = (refl, e)
 
-so-idle : (t : Sent) → ((f : Marked) → t ≡ sentReserved f → ⊥) → isReserved t ≡ false
-so-idle (sentReserved f) h = absurd (h f refl)
-so-idle (sentBestEffort f) h = refl
+so-idle : (t : Sent) → ((f : Marked) → t ≡ reservedSent f → ⊥) → isReserved t ≡ false
+so-idle (reservedSent f) h = absurd (h f refl)
+so-idle (bestEffortSent f) h = refl
 so-idle none h = refl
 
 pub none-idle : (es : List Event) → anyIdle es ≡ false → Some Idle es → ⊥

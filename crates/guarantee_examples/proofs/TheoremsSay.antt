@@ -23,7 +23,7 @@ use Rattle.port_laws.proofs.FreshFit.{fresh-fits}
 use Rattle.port_laws.proofs.QuickLaws.{quick-call}
 use Rattle.port_laws.proofs.StayLaws.{stays-fit, granted-open-fits, quick-replies}
 use Rattle.port_laws.proofs.FrameLaws.{frame-becomes, frame-refused, frame-not-17}
-use Rattle.guarantee.specs.Events.{Sent, sentReserved, made, Event, eventsAfter}
+use Rattle.guarantee.specs.Events.{Sent, reservedSent, made, Event, eventsAfter}
 use Rattle.guarantee.specs.Claims.{reservedOctets, Idle, LinkCondition, PurgesNothing, Sends, SentBefore}
 use Rattle.guarantee.specs.Beyond.{SentByReply}
 use Rattle.guarantee.specs.Demand3.{Promised}
@@ -50,7 +50,7 @@ module _ (sent : Sent) (said shown : Reply) where
       (busyLastArrival ∷ busyToThirdTick busyNext) (busyThird ∷ replied ticking purgesNone ∷ []) (replied ticking (granted 0 0)) refl refl refl
 
   next-sent : Happens (busyWith busyNext busyThird purgesNone) → LinkCondition (shareOf 1626) (busyWith busyNext busyThird purgesNone)
-      → sent ≡ sentReserved secondFrame
+      → sent ≡ reservedSent secondFrame
   next-sent happens link =
       only secondFrame (busyLastArrival ∷ (busyToSecondTick ++ (replied ticking (granted 0 0) ∷ []))) [] busyNext refl refl (next-sends happens link)
 

@@ -18,7 +18,7 @@ use Rattle.steps.specs.Call.{terms, Call, opening, joiningBestEffort, framing}
 use Rattle.port.specs.Calls.{called}
 use Rattle.port.specs.Quick.{quicklyCalled}
 use Rattle.port_laws.specs.Lists.{replies, freshRecord, freshMemory}
-use Rattle.guarantee.specs.Events.{Sent, sentReserved, Made, bothRuns, Event, events}
+use Rattle.guarantee.specs.Events.{Sent, reservedSent, Made, bothRuns, Event, events}
 use Rattle.guarantee.specs.Claims.{LinkCondition, Sends, SentBefore, OffersWithin}
 use Rattle.guarantee.specs.Demand3.{runsOf}
 use Rattle.guarantee_examples.specs.Examples.{Happens, untagged, busy, permitted200, permitted100, callsOf}
@@ -51,13 +51,13 @@ pub record DemandSays : Type 0 where
   pub prompt-sends : (reply : Reply) (sent : Sent) (said shown : Reply) → let es = crowdedWith reply (transmitted sent said shown) in
       Happens es → LinkCondition (shareOf 2142) es → Some (Sends crowdedFrame) (crowdedToSecondTick (transmitted sent said shown))
   pub prompt-sends-third : (reply : Reply) (sent : Sent) (said shown : Reply) → let es = crowdedWith reply (transmitted sent said shown) in
-      Happens es → LinkCondition (shareOf 2142) es → sent ≡ sentReserved crowdedFrame
+      Happens es → LinkCondition (shareOf 2142) es → sent ≡ reservedSent crowdedFrame
   -- it is not sent before the first tick, and stream 6 does not conform
   pub prompt-not-sooner : SentBefore tooSoon crowdedFrame (crowdedAfter crowdedThird) → ⊥
   pub prompt-six-offers : OffersWithin 6 200 crowdedBefore → ⊥
   -- `all-sent`: the frame that joined last is sent after the third tick, before the fourth (`busy-not-by-third`)
   pub all-sent-third : (sent : Sent) (said shown : Reply) → let es = busyWith busySecond (transmitted sent said shown) purgesNone in
-      Happens es → LinkCondition (shareOf 1626) es → sent ≡ sentReserved thirdFrame
+      Happens es → LinkCondition (shareOf 1626) es → sent ≡ reservedSent thirdFrame
   -- `no-purge`: the fourth tick replies two zeros, and where the link condition fails it need not (`withheld-purges`)
   pub no-purge-zeros : (reply : Reply) → Happens (busyWith busySecond busyThird reply) → reply ≡ purgesNone
   -- `alike`: the arrivals of stream 6 get the same replies alone as in the crowd, where L, K and the calls of all others differ
@@ -67,7 +67,7 @@ pub record DemandSays : Type 0 where
   pub records-same : (happens : Happens permitted200) (before after : List Made) (x : Made) → runsOf (happens .list) ≡ before ++ (x ∷ after)
       → x .shown .port ≡ x .real .port
   -- `says`: the transmit that sends stream 5's frame replies its stream and tag, and where the tags are the calls' numbers its stream and number
-  pub says-frame : (said shown : Reply) → Happens (crowdedWith (granted crowdedPlace 80) (transmitted (sentReserved crowdedFrame) said shown))
+  pub says-frame : (said shown : Reply) → Happens (crowdedWith (granted crowdedPlace 80) (transmitted (reservedSent crowdedFrame) said shown))
       → (said ≡ granted 5 7) × (shown ≡ granted 5 10)
   -- `marks`: a discard is replied as such where the tags are the calls' numbers
   pub marks-discard : (shown : Reply) → Happens (arrivedWith (refusedBy discards) shown) → shown ≡ refusedBy discards
@@ -80,7 +80,7 @@ pub record DemandSays : Type 0 where
 pub record TheoremsSay : Type 0 where
   -- `sent-as-replied`: the frame that joined next is sent before the third tick, and not before the second
   pub replied-second : (sent : Sent) (said shown : Reply) → let es = busyWith (transmitted sent said shown) busyThird purgesNone in
-      Happens es → LinkCondition (shareOf 1626) es → sent ≡ sentReserved secondFrame
+      Happens es → LinkCondition (shareOf 1626) es → sent ≡ reservedSent secondFrame
   pub replied-not-sooner : SentBefore 2 secondFrame (busyLastArrival ∷ busyAfter busySecond busyThird purgesNone) → ⊥
   -- `promised-by-less`: with 83 octets less than the share sent the link condition fails, and yet no tick purges; with 84 less one does (`withheld-purges`)
   pub nearly-fails : LinkCondition (shareOf 2142) nearly → ⊥

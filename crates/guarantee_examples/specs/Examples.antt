@@ -9,12 +9,12 @@ use Rattle.octets.specs.Numbers.{twoOctets}
 use Rattle.stream.specs.declared.Reply.{Reply}
 use Rattle.stream.specs.Replies.{granted, refusedBy}
 use Rattle.header.specs.Header.{vlanTag}
-use Rattle.fitness.specs.Clauses.{bestEffortStream}
+use Rattle.queue.specs.Place.{bestEffortStream}
 use Rattle.steps.specs.Outcome.{Outcome, outcome}
 use Rattle.sending.specs.Sending.{nothing}
 use Rattle.steps.specs.Call.{terms, Call, opening, reserving, arriving, ticking, transmitting, joiningBestEffort, binding, framing}
 use Rattle.port.specs.Calls.{called}
-use Rattle.guarantee.specs.Events.{Marked, Sent, sentReserved, sentBestEffort, none, isTransmit, Event}
+use Rattle.guarantee.specs.Events.{Marked, Sent, reservedSent, bestEffortSent, none, isTransmit, Event}
 use Rattle.port_laws.specs.Counting.{actionOf}
 use Rattle.guarantee.specs.Claims.{replyOfSent}
 use Rattle.guarantee.specs.Demand3.{CallList, eventsIn}
@@ -44,11 +44,11 @@ busy =
     ∷ replied (arriving 5 84 7) (granted 2 84)
     ∷ replied (arriving 5 84 7) (granted 3 0)
     ∷ replied ticking (granted 0 0)
-    ∷ sending (sentReserved (markedFrame 5 84 7 2)) (granted 5 7)
+    ∷ sending (reservedSent (markedFrame 5 84 7 2)) (granted 5 7)
     ∷ replied ticking (granted 0 0)
-    ∷ sending (sentReserved (markedFrame 5 84 7 3)) (granted 5 7)
+    ∷ sending (reservedSent (markedFrame 5 84 7 3)) (granted 5 7)
     ∷ replied ticking (granted 0 0)
-    ∷ sending (sentReserved (markedFrame 5 84 7 4)) (granted 5 7)
+    ∷ sending (reservedSent (markedFrame 5 84 7 4)) (granted 5 7)
     ∷ replied ticking (granted 0 0)
     ∷ []
 
@@ -56,8 +56,8 @@ busy =
 abbrev pub afterArrival : List Event
 afterArrival =
     replied ticking (granted 0 0)
-    ∷ sending (sentReserved (markedFrame 5 120 7 3)) (granted 5 7)
-    ∷ sending (sentBestEffort (markedFrame bestEffortStream 300 1 2)) (granted 255 1)
+    ∷ sending (reservedSent (markedFrame 5 120 7 3)) (granted 5 7)
+    ∷ sending (bestEffortSent (markedFrame bestEffortStream 300 1 2)) (granted 255 1)
     ∷ replied ticking (granted 0 0)
     ∷ []
 
@@ -77,7 +77,7 @@ withheld =
     ∷ replied (arriving 5 516 7) (granted 1 84)
     ∷ replied (arriving 5 84 8) (granted 1 600)
     ∷ replied ticking (granted 0 0)
-    ∷ sending (sentReserved (markedFrame 5 516 7 2)) (granted 5 7)
+    ∷ sending (reservedSent (markedFrame 5 516 7 2)) (granted 5 7)
     ∷ replied ticking (granted 1 84)
     ∷ []
 
@@ -123,8 +123,8 @@ framed =
     ∷ replied (joiningBestEffort 84 9) (granted 204 0)
     ∷ replied (framing (taggedTo 100 59) 10) (refusedBy 17)
     ∷ replied ticking (granted 0 0)
-    ∷ sending (sentReserved (markedFrame 5 84 7 3)) (granted 5 7)
-    ∷ sending (sentBestEffort (markedFrame bestEffortStream 120 8 4)) (granted 255 8)
+    ∷ sending (reservedSent (markedFrame 5 84 7 3)) (granted 5 7)
+    ∷ sending (bestEffortSent (markedFrame bestEffortStream 120 8 4)) (granted 255 8)
     ∷ []
 
 -- a machine whose transmit says nothing without looking

@@ -8,7 +8,7 @@ use Rattle.stream.specs.Replies.{granted, refusedBy}
 use Rattle.record.specs.Layout.{priorOffset, queueCount}
 use Rattle.steps.specs.Call.{terms, Call, opening, reserving, arriving, ticking, transmitting, joiningBestEffort, binding, framing}
 use Rattle.port_laws.specs.Lists.{freshRecord}
-use Rattle.guarantee.specs.Events.{Marked, Sent, sentReserved, none, Event}
+use Rattle.guarantee.specs.Events.{Marked, Sent, reservedSent, none, Event}
 use Rattle.guarantee_examples.specs.Examples.{replied, markedFrame, sending, address, taggedTo, callsOf}
 
 -- a transmit of which it is open what it sends, what it replies, and what it replies where each tag is its call's number
@@ -48,13 +48,13 @@ abbrev pub crowdedBetween : List Event
 crowdedBetween =
     replied ticking (granted 0 0)
     ∷ replied (arriving 5 120 7) (granted 1 80)
-    ∷ sending (sentReserved (markedFrame 6 200 1 4)) (granted 6 1)
-    ∷ sending (sentReserved (markedFrame 7 200 5 8)) (granted 7 5)
+    ∷ sending (reservedSent (markedFrame 6 200 1 4)) (granted 6 1)
+    ∷ sending (reservedSent (markedFrame 7 200 5 8)) (granted 7 5)
     ∷ []
 
 -- what is between the third transmit and the second tick
 abbrev pub crowdedFourth : List Event
-crowdedFourth = sending (sentReserved (markedFrame 6 200 2 5)) (granted 6 2) ∷ []
+crowdedFourth = sending (reservedSent (markedFrame 6 200 2 5)) (granted 6 2) ∷ []
 
 abbrev pub crowdedToSecondTick : Event → List Event
 crowdedToSecondTick third = crowdedBetween ++ (third ∷ crowdedFourth)
@@ -77,7 +77,7 @@ abbrev pub tooSoon : ℕ
 tooSoon = 1
 
 abbrev pub crowdedThird : Event
-crowdedThird = transmitted (sentReserved crowdedFrame) (granted 5 7) (granted 5 10)
+crowdedThird = transmitted (reservedSent crowdedFrame) (granted 5 7) (granted 5 10)
 
 abbrev pub crowded : List Event
 crowded = crowdedWith (granted crowdedPlace 80) crowdedThird
@@ -93,7 +93,7 @@ abbrev pub busyLastArrival : Event
 busyLastArrival = replied (arriving 5 84 7) (granted 3 0)
 
 abbrev pub busyToSecondTick : List Event
-busyToSecondTick = replied ticking (granted 0 0) ∷ sending (sentReserved (markedFrame 5 84 7 2)) (granted 5 7) ∷ []
+busyToSecondTick = replied ticking (granted 0 0) ∷ sending (reservedSent (markedFrame 5 84 7 2)) (granted 5 7) ∷ []
 
 abbrev pub busyToThirdTick : Event → List Event
 busyToThirdTick second = busyToSecondTick ++ (replied ticking (granted 0 0) ∷ second ∷ [])
@@ -115,10 +115,10 @@ abbrev pub thirdFrame : Marked
 thirdFrame = markedFrame 5 84 7 4
 
 abbrev pub busySecond : Event
-busySecond = transmitted (sentReserved secondFrame) (granted 5 7) (granted 5 3)
+busySecond = transmitted (reservedSent secondFrame) (granted 5 7) (granted 5 3)
 
 abbrev pub busyThird : Event
-busyThird = transmitted (sentReserved thirdFrame) (granted 5 7) (granted 5 4)
+busyThird = transmitted (reservedSent thirdFrame) (granted 5 7) (granted 5 4)
 
 -- the frames that a tick purges under the link condition, and its reply
 abbrev pub purgedFrames : ℕ
@@ -140,7 +140,7 @@ nearlyBefore =
     ∷ []
 
 abbrev pub nearlyEpoch : List Event
-nearlyEpoch = sending (sentReserved (markedFrame 5 nearlyCharge 7 2)) (granted 5 7) ∷ []
+nearlyEpoch = sending (reservedSent (markedFrame 5 nearlyCharge 7 2)) (granted 5 7) ∷ []
 
 abbrev pub nearlyWith : Reply → List Event
 nearlyWith reply = nearlyBefore ++ (replied ticking (granted 0 0) ∷ (nearlyEpoch ++ (replied ticking reply ∷ [])))

@@ -9,7 +9,7 @@ use Rattle.record.specs.Layout.{allQueues, streamCount}
 use Rattle.record.specs.Head.{linkAt, withOpen, withPrior, withDelay, withLink, withWaits, withQueue}
 use Rattle.record.specs.Entry.{withStream, dropped}
 use Rattle.ranges.specs.Ranges.{shareOf}
-use Rattle.fitness.specs.Clauses.{permittedSum}
+use Rattle.record.specs.Reservations.{permittedSum}
 use Rattle.steps.specs.Call.{Terms}
 use Rattle.steps.specs.Outcome.{Outcome, outcome}
 

@@ -15,7 +15,7 @@ use Rattle.record.specs.Entry.{streamAt, boundAt, dropped}
 use Rattle.record.proofs.HeadPairs.{prior-prior, waits-waits, prior-waits, queue-queue, other-queue, prior-queue, waits-queue}
 use Rattle.record.proofs.KeepLaws.{keeps-prior, keeps-waits}
 use Rattle.record.proofs.OpenPairs.{length-open, open-open, length-delay, delay-delay, open-delay, prior-delay, length-link, link-link, open-link, prior-link, delay-link, length-queue, open-queue, delay-queue, link-queue, length-dropped, open-dropped, prior-dropped, delay-dropped, link-dropped, waits-dropped, queue-dropped, stream-dropped, bound-dropped, other-stream-dropped, other-bound-dropped}
-use Rattle.fitness.specs.Clauses.{permittedOf, permittedSum}
+use Rattle.record.specs.Reservations.{permittedOf, permittedSum}
 use Rattle.steps.specs.Call.{Terms}
 use Rattle.opening.specs.Opening.{openedHead, allEmptied, allDropped, openedRecord}
 

@@ -13,7 +13,8 @@ use Rattle.record.specs.Entry.{streamAt}
 use Rattle.record.proofs.EntryPairs.{stream-stream, other-stream, stream-cases, prior-stream, waits-stream, queue-stream}
 use Rattle.record.proofs.KeepLaws.{keeps-stream}
 use Rattle.ranges.specs.Ranges.{shareOf, linkFits, delayFits, permittedFits}
-use Rattle.fitness.specs.Clauses.{streamFits, permittedOf, permittedSum, reservationFits}
+use Rattle.record.specs.Reservations.{permittedOf, permittedSum}
+use Rattle.fitness.specs.Clauses.{streamFits, reservationFits}
 use Rattle.fitness.specs.Fit.{recordFits}
 use Rattle.fitness.proofs.FitLaws.{fit-record, record-fit, Plan, fit-plan, plan-fit}
 use Rattle.fitness.proofs.TestLaws.{fit-stream}

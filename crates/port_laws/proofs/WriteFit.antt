@@ -8,7 +8,7 @@ use lib.ListN.{length}
 use Rattle.lists.specs.Turns.{allOf}
 use Rattle.lists.proofs.TurnLaws.{both, allTo-same, sumTo-same, allOf-snoc}
 use Rattle.stream.specs.declared.Stream.{Stream}
-use Rattle.stream.specs.State.{lastPlace, atPlace, Fit as StreamFit}
+use Rattle.stream.specs.State.{lastPlace, atPlace, StreamFit}
 use Rattle.queue.specs.declared.Frame.{Frame}
 use Rattle.queue.specs.declared.Queue.{Queue}
 use Rattle.queue.specs.Ring.{placeCount, joinedMemory, joinedQueue}
@@ -21,7 +21,8 @@ use Rattle.record.proofs.HeadPairs.{prior-prior, waits-prior, queue-prior, stre
 use Rattle.record.proofs.EntryPairs.{place-cases, prior-place, waits-place, queue-place}
 use Rattle.record.proofs.KeepLaws.{Keeps, keeps-both, keeps-prior, keeps-waits, keeps-queue, keeps-place}
 use Rattle.ranges.specs.Ranges.{vidFits}
-use Rattle.fitness.specs.Clauses.{queueFits, streamFits, bindingFits, unlikeEarlier, frameFits, permittedOf, permittedSum, reservationFits, openFits}
+use Rattle.record.specs.Reservations.{permittedOf, permittedSum}
+use Rattle.fitness.specs.Clauses.{queueFits, streamFits, bindingFits, unlikeEarlier, frameFits, reservationFits, openFits}
 use Rattle.fitness.proofs.FitLaws.{Fit}
 use Rattle.fitness.proofs.TestLaws.{queue-bounds, bounds-queue, fit-stream}
 use Rattle.steps.specs.Moves.{moved}

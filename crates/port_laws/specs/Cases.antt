@@ -1,4 +1,4 @@
--- Document 01's cases C1 to C12, each as calls on a port never opened, and what they reply. Stream 5 with P = 200, L = 2,142, K = 1, unless said
+-- Document 01's cases C1 to C12, each as calls on a port never openedCase, and what they reply. Stream 5 with P = 200, L = 2,142, K = 1, unless said
 -- otherwise.
 use Prim.Native.Nat.{ℕ}
 use mathlib.Core.List.{List, [], _∷_, _++_}
@@ -17,12 +17,12 @@ pub record Case : Type 0 where
 abbrev pub continued : Case → List Call → List Reply → Case
 continued c cs rs = record { calls = c .calls ++ cs; expected = c .expected ++ rs }
 
--- the port open, and the stream reserved
-abbrev pub opened : Case
-opened = record { calls = opening (terms 2142 1) ∷ []; expected = granted 600 0 ∷ [] }
+-- the port open, and the stream reservedCase
+abbrev pub openedCase : Case
+openedCase = record { calls = opening (terms 2142 1) ∷ []; expected = granted 600 0 ∷ [] }
 
-abbrev pub reserved : Case
-reserved = continued opened (reserving 5 200 ∷ []) (granted 400 0 ∷ [])
+abbrev pub reservedCase : Case
+reservedCase = continued openedCase (reserving 5 200 ∷ []) (granted 400 0 ∷ [])
 
 -- "C1 L 1,625: 3; 1,626: share 84"
 abbrev pub c1 : Case
@@ -34,19 +34,19 @@ c2 = record { calls = opening (terms 23047 1) ∷ opening (terms 23046 1) ∷ []
 
 -- "C3 P 83: 7; 84 granted"
 abbrev pub c3 : Case
-c3 = continued opened (reserving 5 83 ∷ reserving 5 84 ∷ []) (refusedBy 7 ∷ granted 516 0 ∷ [])
+c3 = continued openedCase (reserving 5 83 ∷ reserving 5 84 ∷ []) (refusedBy 7 ∷ granted 516 0 ∷ [])
 
 -- "C4 after 200, P 401: 8; 400 granted"
 abbrev pub c4 : Case
-c4 = continued reserved (reserving 6 401 ∷ reserving 6 400 ∷ []) (refusedBy 8 ∷ granted 0 0 ∷ [])
+c4 = continued reservedCase (reserving 6 401 ∷ reserving 6 400 ∷ []) (refusedBy 8 ∷ granted 0 0 ∷ [])
 
 -- "C5 charge 200: current, then next with left 200"
 abbrev pub c5 : Case
-c5 = continued reserved (arriving 5 200 1 ∷ []) (granted 1 200 ∷ [])
+c5 = continued reservedCase (arriving 5 200 1 ∷ []) (granted 1 200 ∷ [])
 
 -- "C6 120, 100: as in the output", that is, of the sample capture, whose other events follow here
 abbrev pub c6 : Case
-c6 = continued reserved (arriving 5 120 7 ∷ arriving 5 100 8 ∷ []) (granted 1 80 ∷ granted 2 100 ∷ [])
+c6 = continued reservedCase (arriving 5 120 7 ∷ arriving 5 100 8 ∷ []) (granted 1 80 ∷ granted 2 100 ∷ [])
 
 abbrev pub sample : Case
 sample =
@@ -61,7 +61,7 @@ c7 = continued c6 (arriving 5 90 9 ∷ arriving 5 84 10 ∷ []) (granted 2 10 �
 -- "C8 200 three times: current, next, last; then 84: 14"
 abbrev pub c8 : Case
 c8 =
-    continued reserved
+    continued reservedCase
     (arriving 5 200 1 ∷ arriving 5 200 2 ∷ arriving 5 200 3 ∷ arriving 5 84 4 ∷ [])
     (granted 1 200 ∷ granted 2 200 ∷ granted 3 0 ∷ refusedBy 14 ∷ [])
 
@@ -71,16 +71,16 @@ c9 = continued c8 (ticking ∷ arriving 5 84 5 ∷ []) (granted 0 0 ∷ granted 
 
 -- "C10 charge 201: 14; then 84: 14"
 abbrev pub c10 : Case
-c10 = continued reserved (arriving 5 201 1 ∷ arriving 5 84 2 ∷ []) (refusedBy 14 ∷ refusedBy 14 ∷ [])
+c10 = continued reservedCase (arriving 5 201 1 ∷ arriving 5 84 2 ∷ []) (refusedBy 14 ∷ refusedBy 14 ∷ [])
 
 -- "C11 charges 83 and 1,543: 13"
 abbrev pub c11 : Case
-c11 = continued reserved (arriving 5 83 1 ∷ arriving 5 1543 2 ∷ []) (refusedBy 13 ∷ refusedBy 13 ∷ [])
+c11 = continued reservedCase (arriving 5 83 1 ∷ arriving 5 1543 2 ∷ []) (refusedBy 13 ∷ refusedBy 13 ∷ [])
 
 -- "C12 best effort 1,542, then 400: W 1,942; then 84: 16"
 abbrev pub c12 : Case
 c12 =
-    continued reserved
+    continued reservedCase
     (joiningBestEffort 1542 1 ∷ joiningBestEffort 400 2 ∷ joiningBestEffort 84 3 ∷ [])
     (granted 1542 0 ∷ granted 1942 0 ∷ refusedBy 16 ∷ [])
 

@@ -16,6 +16,10 @@ chargeOffset = 2
 abbrev pub tagOffset : ℕ
 tagOffset = 4
 
+-- "A frame is (stream, charge, tag), its stream 255 in best effort"
+abbrev pub bestEffortStream : ℕ
+bestEffortStream = 255
+
 -- the octets of a frame, and the frame of a place's octets
 abbrev pub frameOctets : Frame → List ℕ
 frameOctets f = twoOctets (f .stream) ++ (twoOctets (f .charge) ++ fourOctets (f .tag))

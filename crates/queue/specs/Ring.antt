@@ -18,12 +18,12 @@ abbrev pub HasPart : List ℕ → ℕ → Type 0
 HasPart m number = number * partLength + partLength ≤ length m
 
 -- where, in the queue's part, the place of its frame number i begins, counted from its oldest: place (start + i) modulo 256
-abbrev pub placeOffset : Queue → ℕ → ℕ
-placeOffset q i = (q .start + i) % placeCount * placeLength
+abbrev pub ringOffset : Queue → ℕ → ℕ
+ringOffset q i = (q .start + i) % placeCount * placeLength
 
 -- the same in the whole memory, for the queue of this number
 abbrev pub memoryOffset : ℕ → Queue → ℕ → ℕ
-memoryOffset number q i = number * partLength + placeOffset q i
+memoryOffset number q i = number * partLength + ringOffset q i
 
 -- "A frame joins at place (start + count) modulo 256 of its queue": the whole memory afterwards
 unfoldable pub joinedMemory : List ℕ → ℕ → Queue → Frame → List ℕ

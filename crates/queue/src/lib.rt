@@ -6,7 +6,7 @@ ghost use mathlib.Core.Path.{_≡_};
 ghost use Prim.Native.Nat.{_+_, _*_, _≤_, _<_};
 ghost use lib.ListN.{length};
 ghost use Rattle.queue.specs.Place.{frameAt, withFrame};
-ghost use Rattle.queue.specs.Ring.{placeCount, partLength, HasPart, placeOffset, memoryOffset, joinedMemory, frontOf, joinedQueue, sentQueue, emptyQueue};
+ghost use Rattle.queue.specs.Ring.{placeCount, partLength, HasPart, ringOffset, memoryOffset, joinedMemory, frontOf, joinedQueue, sentQueue, emptyQueue};
 ghost use Rattle.queue.specs.Waiting.{waiting, chargesOf};
 
 // The places of a queue, and the octets of its part of the memory.
@@ -61,7 +61,7 @@ impl Queue {
 
     // Where, in the queue's part, the place of its frame number i begins, counted from its oldest.
     fn offset(self, i: u16) -> usize
-        ensures { λ r. ⌜ r ≡ placeOffset self i ⌝ }
+        ensures { λ r. ⌜ r ≡ ringOffset self i ⌝ }
     {
         (self.start as usize + i as usize) % PLACE_COUNT * place::LENGTH
     }
@@ -77,7 +77,7 @@ fn part_start(number: u8) -> usize
 // The frame joins the queue whose part this is: it is written after the last that waits.
 fn join(part: &mut [u8], queue: Queue, frame: Frame)
     requires { ⌜ partLength ≤ length (now part) ⌝ }
-    ensures { λ _. ⌜ now (part .exit) ≡ withFrame (now (part .entry)) (placeOffset queue (queue .count)) frame ⌝ }
+    ensures { λ _. ⌜ now (part .exit) ≡ withFrame (now (part .entry)) (ringOffset queue (queue .count)) frame ⌝ }
 {
     place::write(part, queue.offset(queue.count), frame);
 }

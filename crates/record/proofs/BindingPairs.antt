@@ -11,7 +11,7 @@ use Rattle.octets.specs.Numbers.{twoOf, fourOf}
 use Rattle.octets.proofs.NumberLaws.{two-octets}
 use Rattle.record.specs.Layout.{Whole, streamCount, headLength, openOffset, priorOffset, delayOffset, linkOffset, waitsOffset, queueOffset, queueLength, queueRoom, entryOffset, streamLength, boundOffset, pairOffset, addressOffset, addressLength}
 use Rattle.record.specs.Head.{octetOf, markOf, openAt, priorAt, delayAt, linkAt, waitsAt, queueOf, queueAt}
-use Rattle.record.specs.Entry.{streamOf, streamAt, boundAt, vidAt, addressAt, pairOctets, withBinding}
+use Rattle.record.specs.Entry.{entryStream, streamAt, boundAt, vidAt, addressAt, pairOctets, withBinding}
 
 module _ (l : List ℕ) (s : ℕ) (address : List ℕ) (vid : ℕ) where
   pub length-binding : length (withBinding l s address vid) ≡ length l
@@ -51,7 +51,7 @@ module _ (l : List ℕ) (s : ℕ) (address : List ℕ) (vid : ℕ) where
   pub stream-binding : (t : ℕ) → streamAt (withBinding l s address vid) t ≡ streamAt l t
   unfolding streamAt withBinding
   stream-binding t =
-      ap streamOf (get-apart l (entryOffset s + boundOffset) (1 ∷ pairOctets address vid) (entryOffset t) streamLength (λ k a b c d. omega arith))
+      ap entryStream (get-apart l (entryOffset s + boundOffset) (1 ∷ pairOctets address vid) (entryOffset t) streamLength (λ k a b c d. omega arith))
 
   -- the binding reads as it was written
   here-binding : Whole l → s < streamCount → get (withBinding l s address vid) (entryOffset s + boundOffset) 9 ≡ 1 ∷ pairOctets address vid

@@ -17,7 +17,7 @@ use Rattle.stream.specs.declared.Stream.{Stream}
 use Rattle.stream.specs.State.{atPlace}
 use Rattle.record.specs.Layout.{Whole, streamCount, priorOffset, waitsOffset, queueOffset, queueLength, queueRoom, entryOffset, placeOffset, leftOffset, permittedOffset, streamLength}
 use Rattle.record.specs.Head.{octetOf, priorAt, waitsAt, queueOf, queueAt}
-use Rattle.record.specs.Entry.{streamOf, placeOctets, streamOctets, streamAt, withStream, withPlace}
+use Rattle.record.specs.Entry.{entryStream, placeOctets, streamOctets, streamAt, withStream, withPlace}
 use Rattle.record.proofs.EntryLaws.{stream-read}
 
 -- a stream's octets give the stream again
@@ -25,18 +25,18 @@ flag-octet : (b : Bool) → eqb (cond b 1 0) 1 ≡ b
 flag-octet true = refl
 flag-octet false = refl
 
-stream-octets : (x : Stream) → streamOf (streamOctets x) ≡ x
+stream-octets : (x : Stream) → entryStream (streamOctets x) ≡ x
 stream-octets x = rw (flag-octet (x .reserved), two-octets (x .permitted), two-octets (x .left))
 
 -- after a stream was written
 module _ (l : List ℕ) (s : ℕ) (x : Stream) where
   pub stream-stream : Whole l → s < streamCount → streamAt (withStream l s x) s ≡ x
   unfolding streamAt withStream
-  stream-stream h b = ap streamOf (get-put l (entryOffset s) (streamOctets x) (omega arith)) ∙ stream-octets x
+  stream-stream h b = ap entryStream (get-put l (entryOffset s) (streamOctets x) (omega arith)) ∙ stream-octets x
 
   pub other-stream : (t : ℕ) → (t ≡ s → ⊥) → streamAt (withStream l s x) t ≡ streamAt l t
   unfolding streamAt withStream
-  other-stream t other = ap streamOf (get-apart l (entryOffset s) (streamOctets x) (entryOffset t) streamLength (λ k a b c d. other (omega arith)))
+  other-stream t other = ap entryStream (get-apart l (entryOffset s) (streamOctets x) (entryOffset t) streamLength (λ k a b c d. other (omega arith)))
 
   pub prior-stream : priorAt (withStream l s x) ≡ priorAt l
   unfolding priorAt withStream
@@ -83,7 +83,7 @@ module _ (l : List ℕ) (s place left : ℕ) where
   pub other-place : (t : ℕ) → (t ≡ s → ⊥) → streamAt (withPlace l s place left) t ≡ streamAt l t
   unfolding streamAt withPlace
   other-place t other =
-      ap streamOf (get-apart l (entryOffset s + placeOffset) (placeOctets place left) (entryOffset t) streamLength (λ k a b c d. other (omega arith)))
+      ap entryStream (get-apart l (entryOffset s + placeOffset) (placeOctets place left) (entryOffset t) streamLength (λ k a b c d. other (omega arith)))
 
   pub prior-place : priorAt (withPlace l s place left) ≡ priorAt l
   unfolding priorAt withPlace

@@ -12,7 +12,7 @@ use Rattle.octets.proofs.NumberLaws.{two-octets, four-octets}
 use Rattle.queue.specs.declared.Queue.{Queue}
 use Rattle.record.specs.Layout.{Whole, priorOffset, waitsOffset, queueOffset, queueLength, queueRoom, entryOffset, streamLength}
 use Rattle.record.specs.Head.{octetOf, priorAt, withPrior, waitsAt, withWaits, queueOf, queueOctets, queueAt, withQueue}
-use Rattle.record.specs.Entry.{streamOf, streamAt}
+use Rattle.record.specs.Entry.{entryStream, streamAt}
 
 -- after prior was written
 module _ (l : List ℕ) (number : ℕ) where
@@ -30,7 +30,7 @@ module _ (l : List ℕ) (number : ℕ) where
 
   pub stream-prior : (s : ℕ) → streamAt (withPrior l number) s ≡ streamAt l s
   unfolding streamAt withPrior
-  stream-prior s = ap streamOf (get-apart l priorOffset (number ∷ []) (entryOffset s) streamLength (λ k a b c d. omega arith))
+  stream-prior s = ap entryStream (get-apart l priorOffset (number ∷ []) (entryOffset s) streamLength (λ k a b c d. omega arith))
 
 -- after W was written
 module _ (l : List ℕ) (octets : ℕ) where
@@ -48,7 +48,7 @@ module _ (l : List ℕ) (octets : ℕ) where
 
   pub stream-waits : (s : ℕ) → streamAt (withWaits l octets) s ≡ streamAt l s
   unfolding streamAt withWaits
-  stream-waits s = ap streamOf (get-apart l waitsOffset (fourOctets octets) (entryOffset s) streamLength (λ k a b c d. omega arith))
+  stream-waits s = ap entryStream (get-apart l waitsOffset (fourOctets octets) (entryOffset s) streamLength (λ k a b c d. omega arith))
 
 -- a queue's octets give the queue again
 queue-octets : (x : Queue) → queueOf (queueOctets x) ≡ x
@@ -74,7 +74,7 @@ module _ (l : List ℕ) (q : ℕ) (x : Queue) where
 
   pub stream-queue : (s : ℕ) → q < queueRoom → streamAt (withQueue l q x) s ≡ streamAt l s
   unfolding streamAt withQueue
-  stream-queue s b = ap streamOf (get-apart l (queueOffset q) (queueOctets x) (entryOffset s) streamLength (λ k a c d e. omega arith))
+  stream-queue s b = ap entryStream (get-apart l (queueOffset q) (queueOctets x) (entryOffset s) streamLength (λ k a c d e. omega arith))
 
   -- whatever holds of what was written and of what was there holds of what is read
   pub queue-cases : (G : Queue → Type 0) (r : ℕ) → Whole l → q < queueRoom → (r ≡ q → G x) → ((r ≡ q → ⊥) → G (queueAt l r)) → G (queueAt (withQueue l q x) r)

@@ -13,7 +13,7 @@ use Rattle.octets.proofs.NumberLaws.{two-octets}
 use Rattle.queue.specs.declared.Queue.{Queue}
 use Rattle.record.specs.Layout.{Whole, headLength, streamCount, openOffset, priorOffset, delayOffset, linkOffset, waitsOffset, queueOffset, queueLength, queueRoom, entryOffset, boundOffset, streamLength}
 use Rattle.record.specs.Head.{octetOf, markOf, openAt, withOpen, priorAt, delayAt, withDelay, linkAt, withLink, waitsAt, queueOf, queueOctets, queueAt, withQueue}
-use Rattle.record.specs.Entry.{streamOf, streamAt, boundAt, dropped}
+use Rattle.record.specs.Entry.{entryStream, streamAt, boundAt, dropped}
 
 -- after the port was marked open
 module _ (l : List ℕ) where
@@ -125,7 +125,7 @@ module _ (l : List ℕ) (s : ℕ) where
   pub stream-dropped : Whole l → s < streamCount → streamAt (dropped l s) s .reserved ≡ false
   unfolding streamAt dropped
   stream-dropped h b =
-      ap (λ (o : List ℕ). streamOf o .reserved)
+      ap (λ (o : List ℕ). entryStream o .reserved)
       (get-apart (put l (entryOffset s) (0 ∷ [])) (entryOffset s + boundOffset) (0 ∷ []) (entryOffset s) streamLength (λ k a b c d. omega arith))
       ∙ ap markOf (get-put l (entryOffset s) (0 ∷ []) (omega arith))
 
@@ -138,7 +138,7 @@ module _ (l : List ℕ) (s : ℕ) where
   pub other-stream-dropped : (t : ℕ) → (t ≡ s → ⊥) → streamAt (dropped l s) t ≡ streamAt l t
   unfolding streamAt dropped
   other-stream-dropped t other =
-      ap streamOf
+      ap entryStream
       (get-apart (put l (entryOffset s) (0 ∷ [])) (entryOffset s + boundOffset) (0 ∷ []) (entryOffset t) streamLength (λ k a b c d. other (omega arith))
       ∙ get-apart l (entryOffset s) (0 ∷ []) (entryOffset t) streamLength (λ k a b c d. other (omega arith)))
 

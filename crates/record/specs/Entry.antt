@@ -12,8 +12,8 @@ use Rattle.record.specs.Layout.{entryOffset, placeOffset, leftOffset, pe
 use Rattle.record.specs.Head.{markOf}
 
 -- the reservation of stream s: whether it is reserved, its place, left and P
-abbrev pub streamOf : List ℕ → Stream
-streamOf o = record { reserved = markOf o; permitted = twoOf (get o permittedOffset 2); place = getD o placeOffset 0; left = twoOf (get o leftOffset 2) }
+abbrev pub entryStream : List ℕ → Stream
+entryStream o = record { reserved = markOf o; permitted = twoOf (get o permittedOffset 2); place = getD o placeOffset 0; left = twoOf (get o leftOffset 2) }
 
 abbrev pub placeOctets : ℕ → ℕ → List ℕ
 placeOctets place left = place ∷ twoOctets left
@@ -22,7 +22,7 @@ abbrev pub streamOctets : Stream → List ℕ
 streamOctets x = cond (x .reserved) 1 0 ∷ (placeOctets (x .place) (x .left) ++ twoOctets (x .permitted))
 
 unfoldable pub streamAt : List ℕ → ℕ → Stream
-streamAt l s = streamOf (get l (entryOffset s) streamLength)
+streamAt l s = entryStream (get l (entryOffset s) streamLength)
 
 unfoldable pub withStream : List ℕ → ℕ → Stream → List ℕ
 withStream l s x = put l (entryOffset s) (streamOctets x)

@@ -2,4 +2,5 @@
 pub mod Layout
 pub mod Head
 pub mod Entry
+pub mod Reservations
 pub mod PairNumber

@@ -5,6 +5,6 @@ use lib.ListN.{length}
 use Rattle.replay.specs.declared.Input.{Input}
 use Rattle.replay.specs.declared.Input.the-variants.{Octets, Failed}
 
-abbrev pub Within : Input → List ℕ → Type 0
-Within (Octets n) room = n ≤ length room
-Within Failed room = Unit {0}
+abbrev pub FitsRoom : Input → List ℕ → Type 0
+FitsRoom (Octets n) room = n ≤ length room
+FitsRoom Failed room = Unit {0}

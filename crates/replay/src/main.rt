@@ -7,7 +7,7 @@ ghost use Prim.Native.Nat.{_+_, _≤_};
 ghost use lib.ListN.{length, take};
 ghost use Rattle.capture_file.specs.Checks.{mostOctets};
 ghost use Rattle.capture.specs.Output.{textLength, output};
-ghost use Rattle.replay.specs.Input.{Within};
+ghost use Rattle.replay.specs.Input.{FitsRoom};
 
 // Room for the longest capture and one octet more, by which a longer file shows.
 const FILE_LENGTH: usize = capture_file::MOST_OCTETS + 1;
@@ -34,7 +34,7 @@ fn text_room() -> [u8; capture::TEXT_LENGTH]
 
 // Reads standard input until it ends, a read fails, or there is no room left.
 fn read_input(file: &mut [u8]) -> Input
-    ensures { λ r. ⌜ Within r (now (file .exit)) ⌝ }
+    ensures { λ r. ⌜ FitsRoom r (now (file .exit)) ⌝ }
 {
     let mut done: usize = 0;
     while done < file.len() {

@@ -5,35 +5,35 @@ use native.Mathlib.Omega.{arith}
 use Rattle.stream.specs.declared.Stream.{Stream}
 use Rattle.stream.specs.declared.Arrival.{Arrival}
 use Rattle.stream.specs.declared.Arrival.the-variants.{Joined, Discarded}
-use Rattle.stream.specs.State.{currentPlace, atPlace, reserveOf, Fit}
+use Rattle.stream.specs.State.{currentPlace, atPlace, reserveOf, StreamFit}
 use Rattle.stream.specs.Steps.{advanced, joined, arriveOf, tickOf}
 use Rattle.stream.specs.Replies.{streamOf}
 use Rattle.stream.proofs.ArriveLaws.{arrive-cases, joined-cases}
 use Rattle.stream.proofs.TickLaws.{tick-cases}
 
 -- a stream is fit as its reservation leaves it
-pub fit-reserve : (last permitted : ℕ) → currentPlace ≤ last → Fit last (reserveOf permitted)
+pub fit-reserve : (last permitted : ℕ) → currentPlace ≤ last → StreamFit last (reserveOf permitted)
 fit-reserve last permitted h = omega arith
 
-fit-joined : (last : ℕ) (s : Stream) (a : ℕ) → Fit last s → a ≤ s .left → Fit last (streamOf (joined last s a))
+fit-joined : (last : ℕ) (s : Stream) (a : ℕ) → StreamFit last s → a ≤ s .left → StreamFit last (streamOf (joined last s a))
 fit-joined last s a f h =
-    joined-cases last s a (λ r. Fit last (streamOf r)) h
+    joined-cases last s a (λ r. StreamFit last (streamOf r)) h
     (λ l. omega arith)
     (λ e p. omega arith)
     (λ e p. omega arith)
 
 -- an arrival keeps a stream fit
-pub fit-arrive : (last : ℕ) (s : Stream) (a : ℕ) → Fit last s → Fit last (streamOf (arriveOf last s a))
+pub fit-arrive : (last : ℕ) (s : Stream) (a : ℕ) → StreamFit last s → StreamFit last (streamOf (arriveOf last s a))
 fit-arrive last s a f =
-    arrive-cases last s a (λ r. Fit last (streamOf r))
+    arrive-cases last s a (λ r. StreamFit last (streamOf r))
     (λ h. fit-joined last s a f h)
     (λ h p q. fit-joined last (advanced s) a (omega arith) q)
     (λ h. omega arith)
 
 -- and so does a tick
-pub fit-tick : (last : ℕ) (s : Stream) → Fit last s → Fit last (tickOf s)
+pub fit-tick : (last : ℕ) (s : Stream) → StreamFit last s → StreamFit last (tickOf s)
 fit-tick last s f =
-    tick-cases s (λ t. Fit last t)
+    tick-cases s (λ t. StreamFit last t)
     (λ h. omega arith)
     (λ h. omega arith)
 
@@ -78,7 +78,7 @@ abbrev JoinsWithin : ℕ → Arrival → Type 0
 JoinsWithin last (Joined place t) = place ≤ last
 JoinsWithin last (Discarded t) = Unit {0}
 
-pub joins-within : (last : ℕ) (s : Stream) (a place : ℕ) (t : Stream) → Fit last s → arriveOf last s a ≡ Joined place t → place ≤ last
+pub joins-within : (last : ℕ) (s : Stream) (a place : ℕ) (t : Stream) → StreamFit last s → arriveOf last s a ≡ Joined place t → place ≤ last
 joins-within last s a place t fit e =
     subst (JoinsWithin last) e (arrive-cases last s a (JoinsWithin last) (λ h. fit .last-place) (λ h p q. omega arith) (λ h. tt))
 

@@ -10,7 +10,7 @@ use lib.Dec.{ltb, eqb}
 use borrow.Author.Tests.{lt-ltb, le-ltb, eq-eqb, ne-eqb}
 use Rattle.lists.proofs.Order.{le-or-lt}
 use Rattle.stream.specs.declared.Stream.{Stream}
-use Rattle.stream.specs.State.{currentPlace, atPlace, fullAt, Fit}
+use Rattle.stream.specs.State.{currentPlace, atPlace, fullAt, StreamFit}
 use Rattle.stream.specs.Steps.{advanced, joined, arriveOf, tickOf}
 use Rattle.stream.specs.Replies.{streamOf}
 use Rattle.stream.specs.Alone.{octetsAt}
@@ -77,7 +77,7 @@ used-joined last k s a within h =
     (λ e p. used-takes k a s (atPlace s (s .place) 0) refl h within (omega arith) (λ _. omega arith))
 
 -- what an arrival brings into a queue, the stream has used there
-pub used-arrive : (last k : ℕ) (s : Stream) (a : ℕ) → Fit last s
+pub used-arrive : (last k : ℕ) (s : Stream) (a : ℕ) → StreamFit last s
     → used k s + octetsAt k a (arriveOf last s a) ≤ used k (streamOf (arriveOf last s a))
 used-arrive last k s a f =
     arrive-cases last s a (λ r. used k s + octetsAt k a r ≤ used k (streamOf r))
@@ -91,7 +91,7 @@ used-arrive last k s a f =
     (λ h. omega (arith, used-grows k s (atPlace s last 0) refl (f .left-within) (f .last-place) (λ _. omega arith)))
 
 -- a tick brings the queue and the stream one place nearer, and the stream has used no less of the queue
-pub used-tick : (last k : ℕ) (s : Stream) → Fit last s → used k s ≤ used (k - 1) (tickOf s)
+pub used-tick : (last k : ℕ) (s : Stream) → StreamFit last s → used k s ≤ used (k - 1) (tickOf s)
 used-tick last k s f =
     tick-cases s (λ t. used k s ≤ used (k - 1) t)
     (λ h.

@@ -11,18 +11,18 @@ use Rattle.stream.specs.Steps.{arriveOf, tickOf}
 use Rattle.stream.specs.Replies.{replyOf, streamOf}
 
 -- what can happen to the stream: a frame of this charge arrives on it, or its port's epoch ends
-pub data Event : Type 0 where
-  arrival : ℕ → Event
-  tick : Event
+pub data StreamEvent : Type 0 where
+  arrival : ℕ → StreamEvent
+  tick : StreamEvent
 
 -- the stream after the events
-abbrev pub after : ℕ → Stream → List Event → Stream
+abbrev pub after : ℕ → Stream → List StreamEvent → Stream
 after last s [] = s
 after last s (arrival a ∷ es) = after last (streamOf (arriveOf last s a)) es
 after last s (tick ∷ es) = after last (tickOf s) es
 
 -- the replies of its arrivals, in order
-abbrev pub replies : ℕ → Stream → List Event → List Reply
+abbrev pub replies : ℕ → Stream → List StreamEvent → List Reply
 replies last s [] = []
 replies last s (arrival a ∷ es) = replyOf (arriveOf last s a) ∷ replies last (streamOf (arriveOf last s a)) es
 replies last s (tick ∷ es) = replies last (tickOf s) es
@@ -34,7 +34,7 @@ octetsAt k a (Discarded s) = 0
 
 -- the octets that the events bring into one queue, the one at place k when they begin: each tick brings it a place nearer, and after current
 -- it is prior, place 0, where no frame of a fit stream joins
-abbrev pub octetsInto : ℕ → ℕ → Stream → List Event → ℕ
+abbrev pub octetsInto : ℕ → ℕ → Stream → List StreamEvent → ℕ
 octetsInto last k s [] = 0
 octetsInto last k s (arrival a ∷ es) = octetsAt k a (arriveOf last s a) + octetsInto last k (streamOf (arriveOf last s a)) es
 octetsInto last k s (tick ∷ es) = octetsInto last (k - 1) (tickOf s) es

@@ -24,7 +24,7 @@ abbrev pub reserveOf : ℕ → Stream
 reserveOf permitted = record { reserved = true; permitted = permitted; place = currentPlace; left = permitted }
 
 -- what refusal 19 asks of a reserved stream's place and left: one of the places up to the last, and left at most P
-pub record Fit (last : ℕ) (s : Stream) : Type 0 where
+pub record StreamFit (last : ℕ) (s : Stream) : Type 0 where
   pub first-place : currentPlace ≤ s .place
   pub last-place : s .place ≤ last
   pub left-within : s .left ≤ s .permitted

@@ -7,7 +7,7 @@ use mathlib.Core.List.{List}
 use native.Mathlib.Omega.{arith}
 use lib.ListN.{length}
 use borrow.Author.Tests.{eq-eqb, ne-eqb}
-use Rattle.capture_file.specs.Checks.{refusalOf}
+use Rattle.capture_file.specs.Checks.{fileRefusal}
 use Rattle.capture_file.specs.File.{portCount}
 use Rattle.capture_file.specs.declared.FileRefusal.{FileRefusal}
 use Rattle.capture.specs.Output.{output, portsText, refusalText}
@@ -31,7 +31,7 @@ returns c =
     let r = c .before .before .before .before .before .before .refusal .ensures in
     let w = c .before .before .put-refusal .ensures in
     let text : refusalText (c .before .before .before .before .before .before .refusal .result) ≡ output (a .file .now) =
-    rw r (sym (ap (λ (b : Bool). cond b (portsText (a .file .now) portCount) (refusalText (refusalOf (a .file .now))))
+    rw r (sym (ap (λ (b : Bool). cond b (portsText (a .file .now) portCount) (refusalText (fileRefusal (a .file .now))))
     (ne-eqb _ _ (λ e. c .before .before .before .before .if1 .taken (ap (λ (x : FileRefusal). x .number) r ∙ e))))) in
     ((w .0 .0 ∙ ap (λ (t : List ℕ). 0 + length t) text, w .0 .1 ∙ ap (put (a .text .now) 0) text), omega (arith, w .1))
 
@@ -48,7 +48,7 @@ returns-2 c =
     let good = ap (λ (x : FileRefusal). x .number) (sym (c .before .before .before .before .before .before .refusal .ensures)) ∙ c .before .before .before .before .if1 .left in
     let w = c .before .before .put-ports .ensures in
     let text : portsText (a .file .now) portCount ≡ output (a .file .now) =
-    sym (ap (λ (b : Bool). cond b (portsText (a .file .now) portCount) (refusalText (refusalOf (a .file .now)))) (eq-eqb _ _ good)) in
+    sym (ap (λ (b : Bool). cond b (portsText (a .file .now) portCount) (refusalText (fileRefusal (a .file .now)))) (eq-eqb _ _ good)) in
     ((w .0 .0 ∙ ap (λ (t : List ℕ). 0 + length t) text, w .0 .1 ∙ ap (put (a .text .now) 0) text), w .1)
 
 pub put-output-spec : {M : Type 1} → statement M

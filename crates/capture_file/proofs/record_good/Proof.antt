@@ -3,7 +3,7 @@ use borrow.Author.Needs.{needs}
 use mathlib.Core.Path.{_∙_, _≡_, sym}
 use borrow.Author.Tests.{not-false, not-true}
 use Rattle.capture_file.specs.Checks.{fieldsGood, recordGood}
-use Rattle.capture_file.specs.File.{kindOf, numberA, numberB, streamOf}
+use Rattle.capture_file.specs.File.{kindOf, numberA, numberB, streamOctetOf}
 use Rattle.capture_file.proofs.record_good.Statement.{statement}
 use Rattle.capture_file.proofs.record_good.Tie as tie
 
@@ -26,7 +26,7 @@ returns : tie.Need-returns
 unfolding recordGood
 returns c =
     let a = c .before .before .before .before .before .before .before .args in
-    let e : c .before .fields-good .result ≡ fieldsGood (kindOf (a .file .now) (a .index)) (streamOf (a .file .now) (a .index)) (numberA (a .file .now) (a .index)) (numberB (a .file .now) (a .index)) =
+    let e : c .before .fields-good .result ≡ fieldsGood (kindOf (a .file .now) (a .index)) (streamOctetOf (a .file .now) (a .index)) (numberA (a .file .now) (a .index)) (numberB (a .file .now) (a .index)) =
     rw (c .before .before .before .before .before .kind .ensures, c .before .before .before .before .stream .ensures, c .before .before .before .number-a .ensures, c .before .before .number-b .ensures) at (c .before .fields-good .ensures) in
     simp (sym e ∙ not-true _ (c .if1 .taken))
 
@@ -37,7 +37,7 @@ returns-2 : tie.Need-returns-2
 unfolding recordGood
 returns-2 c =
     let a = c .before .before .before .before .before .before .before .before .args in
-    let e : c .before .before .fields-good .result ≡ fieldsGood (kindOf (a .file .now) (a .index)) (streamOf (a .file .now) (a .index)) (numberA (a .file .now) (a .index)) (numberB (a .file .now) (a .index)) =
+    let e : c .before .before .fields-good .result ≡ fieldsGood (kindOf (a .file .now) (a .index)) (streamOctetOf (a .file .now) (a .index)) (numberA (a .file .now) (a .index)) (numberB (a .file .now) (a .index)) =
     rw (c .before .before .before .before .before .before .kind .ensures, c .before .before .before .before .before .stream .ensures, c .before .before .before .before .number-a .ensures, c .before .before .before .number-b .ensures) at (c .before .before .fields-good .ensures) in
     simp (sym e ∙ not-false _ (c .before .if1 .left), c .end .ensures)
 

@@ -5,7 +5,7 @@ use native.Mathlib.Omega.{arith}
 use borrow.Author.Needs.{needs}
 use borrow.Rule.Slice.PartMut.{putMid}
 use Rattle.queue.specs.Place.{withFrame}
-use Rattle.queue.specs.Ring.{partLength, placeOffset, joinedMemory}
+use Rattle.queue.specs.Ring.{partLength, ringOffset, joinedMemory}
 use Rattle.queue.proofs.PlaceLaws.{frame-put-mid}
 use Rattle.queue.proofs.join_at.Statement.{statement}
 use Rattle.queue.proofs.join_at.Tie as tie
@@ -36,7 +36,7 @@ unfolding joinedMemory
 returns c =
     let a = c .before .before .before .before .before .before .args in
     let from = c .before .before .before .before .part-start .result in
-    let at = placeOffset (a .queue) (a .queue .count) in
+    let at = ringOffset (a .queue) (a .queue .count) in
     ap (putMid from (from + partLength - from) (a .memory .now)) (c .before .before .join .ensures)
     ∙ frame-put-mid from (from + partLength - from) (a .memory .now) at (omega arith) (a .frame)
     ∙ ap (λ (start : ℕ). withFrame (a .memory .now) (start + at) (a .frame)) (c .before .before .before .before .part-start .ensures)

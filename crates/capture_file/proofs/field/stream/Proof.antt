@@ -3,7 +3,7 @@ use borrow.Author.Needs.{needs}
 use Prim.Native.Nat.{_+_, ℕ}
 use mathlib.Core.Path.{ap}
 use lib.ListN.{getD}
-use Rattle.capture_file.specs.File.{streamOf}
+use Rattle.capture_file.specs.File.{streamOctetOf}
 use Rattle.capture_file.proofs.field.stream.Statement.{statement}
 use Rattle.capture_file.proofs.field.stream.Tie as tie
 
@@ -17,7 +17,7 @@ shared-slice-read-result : tie.Need-shared-slice-read-result
 shared-slice-read-result c = search needs
 
 returns : tie.Need-returns
-unfolding streamOf
+unfolding streamOctetOf
 returns c = ap (λ (at : ℕ). getD (c .before .before .before .args .file .now) (at + 1) 0) (c .before .start .ensures)
 
 pub stream-spec : {M : Type 1} → statement M

@@ -7,7 +7,7 @@ use borrow.Author.Needs.{needs}
 use Rattle.lists.specs.Turns.{sumTo}
 use Rattle.record.specs.Entry.{streamAt}
 use Rattle.record.specs.Layout.{streamCount}
-use Rattle.fitness.specs.Clauses.{permittedOf}
+use Rattle.record.specs.Reservations.{permittedOf}
 use Rattle.fitness.proofs.streams.permitted_sum.Statement.{statement}
 use Rattle.fitness.proofs.streams.permitted_sum.Tie as tie
 

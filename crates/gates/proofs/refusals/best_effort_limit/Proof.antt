@@ -4,7 +4,7 @@ use mathlib.Core.Path.{_≡_, _∙_, sym, ap, ap₂}
 use native.Mathlib.Nat.{mul-zero, mul-le-mul}
 use native.Mathlib.Omega.{arith}
 use borrow.Author.Needs.{needs}
-use Rattle.fitness.specs.Clauses.{permittedSum}
+use Rattle.record.specs.Reservations.{permittedSum}
 use Rattle.record.specs.Head.{delayAt, linkAt}
 use Rattle.gates.proofs.refusals.best_effort_limit.Statement.{statement}
 use Rattle.gates.proofs.refusals.best_effort_limit.Tie as tie
