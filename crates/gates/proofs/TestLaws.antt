@@ -5,6 +5,7 @@ use mathlib.Core.Path.{_≡_, sym, ap, _∙_}
 use mathlib.Core.Bool.{Bool, true, false, not, cond}
 use mathlib.Core.Logic.{_⊎_, inl, inr}
 use lib.Dec.{leb}
+use borrow.Author.Needs.{needs}
 use borrow.Author.Tests.{le-leb, lt-leb}
 use Rattle.stream.specs.declared.Stream.{Stream}
 use Rattle.binding.specs.declared.Lookup.{Lookup}
@@ -48,6 +49,9 @@ module _ (n rest : ℕ) where
 
   pub past-found : (r : ℕ) (x : Bool) (l y : Lookup) → l ≡ y → x ≡ isBound l → x ≡ false → r ≡ rest → r ≡ cond (isBound y) n rest
   past-found r x l y so told left decides = past-is r x (isBound y) (told ∙ ap isBound so) left decides
+
+-- what closes a return of code that makes one such test after the other
+pub ruleset tests = (at-is, at-is-not, at-reserved, at-unreserved, at-least, at-found, past-is, past-is-not, past-reserved, past-unreserved, past-least, past-found, needs)
 
 -- numbers that are none of those from the least to the greatest
 abbrev pub Outside : ℕ → ℕ → ℕ → Type 0

@@ -1,15 +1,14 @@
 -- Which actions are no tick, are no transmit and send nothing, and what is no reserved frame. Assumes nothing.
 use Prim.Native.Nat.{ℕ}
 use mathlib.Core.Bool.{Bool, false, cond}
-use mathlib.Core.Path.{_≡_, refl, sym, ap, _∙_}
+use mathlib.Core.Path.{_≡_, refl, ap}
 use mathlib.Core.List.{List}
 use native.Mathlib.Omega.{arith}
 use lib.ListN.{getD}
-use Rattle.lists.proofs.EachLaws.{differ}
 use Rattle.stream.specs.declared.Reply.{Reply}
-use Rattle.steps.specs.Call.{Call, ticking, transmitting}
+use Rattle.steps.specs.Call.{Call, ticking}
 use Rattle.port_laws.specs.Counting.{Action, actionOf, toBestEffort, toFrame, neither}
-use Rattle.guarantee.specs.Events.{Marked, Sent, reservedSent, bestEffortSent, none, broughtBy, isTransmit, sentBy}
+use Rattle.guarantee.specs.Events.{Marked, reservedSent, bestEffortSent, none, broughtBy, isTransmit, sentBy}
 use Rattle.guarantee.specs.Claims.{isTick}
 use Rattle.guarantee.proofs.Run.{Quiet}
 

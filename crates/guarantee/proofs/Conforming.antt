@@ -23,7 +23,7 @@ use Rattle.stream.proofs.TickLaws.{tick-cases}
 use Rattle.record.specs.Layout.{streamCount}
 use Rattle.ranges.specs.Ranges.{leastCharge, greatestCharge, chargeFits}
 use Rattle.ranges.proofs.RangeLaws.{within-bounds}
-use Rattle.port_laws.specs.Counting.{Action, actionOf, toArrive, toReserve, toTick, toTransmit, toBestEffort, toFrame, neither}
+use Rattle.port_laws.specs.Counting.{Action, actionOf, toArrive, toReserve, toBestEffort, toFrame, neither}
 use Rattle.guarantee.specs.Events.{Sent, Event, action}
 use Rattle.guarantee.specs.Claims.{isTick, NoTick, PurgesNothing, offer, offers, OffersWithin, Prompt, ConformingPrompt}
 use Rattle.lists.proofs.EachLaws.{differ, all-rest}

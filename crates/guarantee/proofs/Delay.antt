@@ -16,7 +16,7 @@ use Rattle.stream.specs.State.{currentPlace}
 use Rattle.stream.specs.Steps.{arriveOf}
 use Rattle.stream.specs.Replies.{granted, replyOf}
 use Rattle.stream.proofs.FitLaws.{joins-onward, joins-within}
-use Rattle.port_laws.specs.Counting.{Action, actionOf, toArrive, toReserve, toTick, toTransmit, toBestEffort, toFrame, neither}
+use Rattle.port_laws.specs.Counting.{Action, actionOf, toArrive}
 use Rattle.guarantee.specs.Events.{Marked, Sent, reservedSent, Event, action}
 use Rattle.guarantee.specs.Claims.{isTick, Tick, PurgesNothing, tickCount, Sends, SentBefore, AllSentBefore}
 use Rattle.lists.proofs.EachLaws.{differ, all-rest, some-before, some-last}

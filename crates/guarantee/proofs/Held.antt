@@ -21,7 +21,6 @@ use Rattle.steps.specs.Roles.{roleAt}
 use Rattle.steps.proofs.RoleLaws.{role-same}
 use Rattle.gates.specs.Refusals.{arriveRefusal}
 use Rattle.steps.specs.Call.{Call}
-use Rattle.port_laws.specs.Counting.{actionOf}
 use Rattle.guarantee.specs.Events.{Marked, reservedSent, bestEffortSent}
 use Rattle.guarantee.proofs.Run.{View, free, permittedOf, ownRefusal}
 use Rattle.guarantee.proofs.Tied.{Tied}

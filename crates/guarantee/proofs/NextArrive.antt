@@ -18,7 +18,7 @@ use Rattle.stream.proofs.FitLaws.{OnlyMoves, joins-within, arrive-moves}
 use Rattle.queue.specs.declared.Frame.{Frame}
 use Rattle.queue.specs.Ring.{placeCount, joinedMemory, joinedQueue}
 use Rattle.queue.specs.Waiting.{waiting}
-use Rattle.queue.proofs.WaitingLaws.{joins, joins-elsewhere, joins-length, length-waiting}
+use Rattle.queue.proofs.WaitingLaws.{joins, joins-elsewhere, length-waiting}
 use Rattle.lists.proofs.EachLaws.{differ}
 use Rattle.record.specs.Layout.{Whole, queueCount, bestEffort, streamCount, memoryLength}
 use Rattle.record.specs.Head.{priorAt, linkAt, queueAt, withQueue}

@@ -9,7 +9,7 @@ use Rattle.queue.specs.declared.Frame.{Frame}
 use Rattle.queue.specs.declared.Queue.{Queue}
 use Rattle.queue.specs.Ring.{placeCount, joinedMemory, joinedQueue}
 use Rattle.queue.specs.Waiting.{waiting}
-use Rattle.queue.proofs.WaitingLaws.{joins, joins-elsewhere, joins-length}
+use Rattle.queue.proofs.WaitingLaws.{joins, joins-elsewhere}
 use Rattle.lists.proofs.EachLaws.{differ}
 use Rattle.record.specs.Layout.{Whole, bestEffort, memoryLength}
 use Rattle.record.specs.Head.{waitsAt, queueAt}

@@ -1,6 +1,6 @@
 -- Bind on a port that holds a view, granted or refused: it touches neither queues nor streams. Assumes nothing.
 use Prim.Native.Nat.{ℕ}
-use mathlib.Core.Path.{_≡_, refl, sym}
+use mathlib.Core.Path.{refl, sym}
 use mathlib.Core.Logic.{inl}
 use mathlib.Core.List.{List}
 use native.Mathlib.Omega.{arith}
@@ -14,7 +14,6 @@ use Rattle.binding.specs.Binding.{bindStep}
 use Rattle.gates.specs.FrameRefusals.{bindRefusal}
 use Rattle.steps.specs.Call.{Call, binding}
 use Rattle.port.specs.Calls.{called}
-use Rattle.port_laws.specs.Counting.{actionOf}
 use Rattle.port_laws.proofs.GateNumbers.{refusal-own}
 use Rattle.guarantee.specs.Events.{Marked, marked}
 use Rattle.guarantee.proofs.Run.{View, quiet}

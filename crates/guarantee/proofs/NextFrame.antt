@@ -1,20 +1,18 @@
 -- A Frame that is refused with 17 on a port that holds a view. Assumes nothing.
 use Prim.Native.Nat.{ℕ}
 use mathlib.Core.Bool.{false}
-use mathlib.Core.Path.{_≡_, refl}
+use mathlib.Core.Path.{_≡_}
 use mathlib.Core.List.{List}
 use native.Mathlib.Omega.{arith}
-use Rattle.header.specs.Header.{chargeOf, lengthFits}
-use Rattle.binding.specs.Finding.{frameLookup}
+use Rattle.header.specs.Header.{lengthFits}
 use Rattle.gates.specs.FrameRefusals.{frameRefusal}
 use Rattle.gates.specs.Becoming.{frameStep}
 use Rattle.steps.specs.Call.{Call, framing}
 use Rattle.port.specs.Calls.{called}
-use Rattle.port_laws.specs.Counting.{actionOf}
 use Rattle.port_laws.proofs.FrameLaws.{frame-refused}
 use Rattle.port_laws.proofs.GateNumbers.{refusal-own}
 use Rattle.guarantee.specs.Events.{Marked, marked}
-use Rattle.guarantee.proofs.Run.{View, quiet}
+use Rattle.guarantee.proofs.Run.{View}
 use Rattle.guarantee.proofs.Held.{Holds}
 use Rattle.guarantee.proofs.Next.{Next, by-quiet-gate}
 

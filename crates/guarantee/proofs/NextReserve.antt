@@ -20,7 +20,6 @@ use Rattle.gates.specs.Refusals.{openRefusal, reserveRefusal}
 use Rattle.gates.proofs.GateLaws.{reserve-allowed}
 use Rattle.steps.specs.Call.{Terms, Call, opening, reserving}
 use Rattle.port.specs.Calls.{called}
-use Rattle.port_laws.specs.Counting.{actionOf}
 use Rattle.port_laws.proofs.GateNumbers.{refusal-own, open-taken}
 use Rattle.guarantee.specs.Events.{Marked, marked}
 use Rattle.guarantee.proofs.Run.{View, free, refuses-reservation, reserves}

@@ -32,7 +32,6 @@ use Rattle.ticking.specs.Ticking.{tickedAt, tickedRecord, tickStep}
 use Rattle.gates.specs.Refusals.{closedRefusal}
 use Rattle.steps.specs.Call.{Call, ticking}
 use Rattle.port.specs.Calls.{called}
-use Rattle.port_laws.specs.Counting.{actionOf}
 use Rattle.port_laws.proofs.GateNumbers.{closed-passes}
 use Rattle.guarantee.specs.Events.{Marked, reservedSent, marked}
 use Rattle.guarantee.proofs.Run.{View, free, octets, ticks}

@@ -16,8 +16,7 @@ use Rattle.stream.specs.State.{currentPlace, StreamFit}
 use Rattle.stream.specs.Steps.{arriveOf}
 use Rattle.stream.specs.Replies.{granted}
 use Rattle.stream.proofs.FitLaws.{joins-onward}
-use Rattle.steps.specs.Call.{Call}
-use Rattle.port_laws.specs.Counting.{Action, actionOf, toArrive, toReserve, toTick, toTransmit, toBestEffort, toFrame, neither}
+use Rattle.port_laws.specs.Counting.{Action, toArrive, toReserve}
 use Rattle.ranges.specs.Ranges.{leastCharge}
 use Rattle.guarantee.specs.Events.{Marked, Sent, reservedSent, none, isTransmit, Event, action}
 use Rattle.guarantee.specs.Claims.{isTick, Tick, NoTick, reservedCharge, reservedOctets, Idle, Linked, LinkCondition, PurgesNothing}

@@ -23,7 +23,7 @@ use Rattle.stream.proofs.Used.{used, used-most, used-arrive, used-tick}
 use Rattle.record.specs.Layout.{streamCount}
 use Rattle.ranges.specs.Ranges.{leastCharge, greatestCharge}
 use Rattle.ranges.proofs.RangeLaws.{within-bounds}
-use Rattle.port_laws.specs.Counting.{Action, actionOf, toArrive, toReserve, toTick, toTransmit, toBestEffort, toFrame, neither}
+use Rattle.port_laws.specs.Counting.{Action}
 use Rattle.guarantee.specs.Events.{Marked, Sent}
 use Rattle.lists.proofs.EachLaws.{all-snoc}
 use Rattle.guarantee.proofs.Run.{View, free, octets, permittedOf, SameQueues, SameStreams, OneQueue, OneStream, queueAfter, Effect, quiet, refuses-reservation, reserves, refuses-arrival, arrives, ticks, sends, idles}

@@ -16,7 +16,7 @@ use Rattle.stream.specs.Steps.{arriveOf, tickOf}
 use Rattle.stream.specs.Replies.{granted, refusedBy, replyOf, streamOf}
 use Rattle.record.specs.Layout.{streamCount}
 use Rattle.ranges.specs.Ranges.{chargeFits}
-use Rattle.port_laws.specs.Counting.{Action, actionOf, toArrive, toReserve, toTick, toTransmit, toBestEffort, toFrame, neither}
+use Rattle.port_laws.specs.Counting.{Action, toArrive, toReserve, toTick, toTransmit, toBestEffort, toFrame, neither}
 use Rattle.guarantee.specs.Events.{Marked, Sent, reservedSent, none, Event, action}
 
 -- the queues, by role (0 prior, 1 current, and so on), and the streams

@@ -27,7 +27,6 @@ use Rattle.steps.proofs.OutcomeLaws.{grants, let-through}
 use Rattle.steps.specs.Call.{Terms, Call, opening}
 use Rattle.port.specs.Calls.{called}
 use Rattle.port.specs.Quick.{quicklyCalled}
-use Rattle.port_laws.specs.Counting.{actionOf}
 use Rattle.port_laws.proofs.QuickLaws.{quick-call}
 use Rattle.port_laws.proofs.StayLaws.{stays-fit}
 use Rattle.port_laws.proofs.OpenLaws.{opened-open, opened-link, opened-queue, opened-stream}

@@ -10,6 +10,8 @@ use borrow.Author.Tests.{ltb-false}
 use Rattle.record.specs.Layout.{recordLength, memoryLength}
 use Rattle.fitness.specs.Fit.{lentRefusal}
 use Rattle.fitness.proofs.FitLaws.{fit-record, lent-fit}
+use borrow.Author.Needs.{needs}
+use Rattle.steps.proofs.OutcomeLaws.{stopped, passed}
 use Rattle.gates.proofs.GateLaws.{past}
 use Rattle.port.specs.Quick.{lengthRefusal}
 
@@ -44,3 +46,6 @@ module _ (r : ℕ) (p m : List ℕ) (zero : r ≡ 0) where
 
     pub long-memory : memoryLength ≤ length m
     long-memory = long-enough p m (sym e ∙ zero) .room
+
+-- what closes the needs of code that asks this and then makes the rest of the call
+pub ruleset calls = (stopped, passed, lent-record, lent-memory, long-record, long-memory, needs)

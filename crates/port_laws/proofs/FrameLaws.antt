@@ -6,8 +6,7 @@ use mathlib.Core.Logic.{inl, inr, ⊎-elim}
 use mathlib.Core.List.{List}
 use native.Mathlib.Omega.{arith}
 use borrow.Author.Needs.{needs}
-use lib.ListN.{length}
-use lib.Dec.{leb, ltb}
+use lib.Dec.{leb}
 use Rattle.lists.proofs.Order.{eq-or-not}
 use Rattle.stream.specs.declared.Arrival.{Arrival}
 use Rattle.stream.specs.declared.Arrival.the-variants.{Joined, Discarded}
@@ -16,12 +15,10 @@ use Rattle.stream.specs.Steps.{arriveOf}
 use Rattle.stream.specs.Replies.{granted, replyOf}
 use Rattle.queue.specs.declared.Frame.{Frame}
 use Rattle.queue.specs.Ring.{placeCount, joinedMemory, joinedQueue}
-use Rattle.record.specs.Layout.{bestEffort, streamCount, memoryLength}
-use Rattle.record.specs.Head.{openAt, waitsAt, queueAt, withQueue}
+use Rattle.record.specs.Head.{openAt, queueAt, withQueue}
 use Rattle.record.specs.Entry.{streamAt}
-use Rattle.ranges.specs.Ranges.{chargeFits}
 use Rattle.header.specs.Header.{chargeOf, lengthFits}
-use Rattle.fitness.specs.Fit.{recordFits, lentRefusal}
+use Rattle.fitness.specs.Fit.{lentRefusal}
 use Rattle.steps.specs.Call.{framing}
 use Rattle.steps.specs.Outcome.{Outcome, outcome, refused, gated}
 use Rattle.steps.proofs.OutcomeLaws.{grants, refuses}
@@ -32,7 +29,7 @@ use Rattle.best_effort.specs.BestEffort.{bestEffortStep}
 use Rattle.binding.specs.declared.Lookup.{Lookup}
 use Rattle.binding.specs.declared.Lookup.the-variants.{Bound, Unbound}
 use Rattle.binding.specs.Finding.{frameLookup}
-use Rattle.gates.specs.Refusals.{arriveRefusal, bestEffortLimit, bestEffortRefusal}
+use Rattle.gates.specs.Refusals.{arriveRefusal, bestEffortRefusal}
 use Rattle.gates.specs.FrameRefusals.{frameRefusal}
 use Rattle.gates.proofs.TestLaws.{Outside, outside-low, outside-high, low-test, high-test}
 use Rattle.gates.specs.Becoming.{becoming, becomes, frameStep}

@@ -1,11 +1,10 @@
 -- What a record reads after Open, whatever stood in it before: nothing of it but its length is asked. Assumes nothing.
-use Prim.Native.Nat.{ℕ, zero, suc, _<_}
-use mathlib.Core.Path.{_≡_, refl, ap, _∙_}
+use Prim.Native.Nat.{ℕ, _<_}
+use mathlib.Core.Path.{_≡_, ap, _∙_}
 use mathlib.Core.Bool.{true, false}
 use mathlib.Core.List.{List}
 use native.Mathlib.Omega.{arith}
 use lib.ListN.{length}
-use Rattle.lists.specs.Turns.{sumTo}
 use Rattle.lists.proofs.TurnLaws.{sumTo-same, sumTo-none, iterate-keeps, iterate-each}
 use Rattle.stream.specs.declared.Stream.{Stream}
 use Rattle.queue.specs.Ring.{emptyQueue}

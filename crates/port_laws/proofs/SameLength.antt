@@ -6,7 +6,6 @@ use mathlib.Core.List.{List}
 use lib.ListN.{length}
 use lib.Dec.{leb, eqb}
 use Rattle.lists.proofs.TurnLaws.{iterate-keeps}
-use Rattle.stream.specs.declared.Stream.{Stream}
 use Rattle.stream.specs.declared.Reply.{Reply}
 use Rattle.stream.specs.declared.Arrival.{Arrival}
 use Rattle.stream.specs.declared.Arrival.the-variants.{Joined, Discarded}
@@ -14,7 +13,6 @@ use Rattle.stream.specs.State.{lastPlace, reserveOf}
 use Rattle.stream.specs.Steps.{arriveOf, tickOf}
 use Rattle.stream.specs.Replies.{replyOf}
 use Rattle.queue.specs.declared.Frame.{Frame}
-use Rattle.queue.specs.declared.Queue.{Queue}
 use Rattle.queue.specs.Ring.{placeCount, joinedQueue, sentQueue, emptyQueue}
 use Rattle.queue.proofs.WaitingLaws.{joins-length}
 use Rattle.record.specs.Layout.{bestEffort, streamCount}
@@ -25,7 +23,7 @@ use Rattle.record.proofs.OpenPairs.{length-queue}
 use Rattle.record.proofs.BindingPairs.{length-binding}
 use Rattle.fitness.specs.Fit.{lentRefusal}
 use Rattle.steps.specs.Call.{Call, opening, reserving, arriving, ticking, transmitting, joiningBestEffort, binding, framing}
-use Rattle.steps.specs.Outcome.{Outcome, refused, performed}
+use Rattle.steps.specs.Outcome.{Outcome, refused}
 use Rattle.steps.specs.Roles.{roleAt, priorRole, currentRole}
 use Rattle.steps.specs.Moves.{moved}
 use Rattle.arriving.specs.Arriving.{arrived, arriveStep}

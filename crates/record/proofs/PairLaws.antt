@@ -14,7 +14,7 @@ use Rattle.lists.proofs.EqualLaws.{equal-octets, octets-equal}
 use Rattle.lists.proofs.TurnLaws.{both}
 use Rattle.octets.specs.Numbers.{twoOf, twoOctets, eightOf}
 use Rattle.octets.proofs.NumberLaws.{Octets, two-octets, two-again, eight-same}
-use Rattle.record.specs.Layout.{entryOffset, pairOffset, addressOffset, addressLength}
+use Rattle.record.specs.Layout.{entryOffset, pairOffset, addressLength}
 use Rattle.record.specs.Entry.{vidAt, addressAt, samePair, pairOctets}
 use Rattle.record.specs.PairNumber.{pairAt, pairOf}
 

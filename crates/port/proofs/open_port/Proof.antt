@@ -1,7 +1,5 @@
 -- `port::open_port` meets its contract. By 18 and 19; then the rest of the call. Assumes nothing.
-use borrow.Author.Needs.{needs}
-use Rattle.steps.proofs.OutcomeLaws.{stopped, passed}
-use Rattle.port.proofs.LengthLaws.{lent-record, lent-memory}
+use Rattle.port.proofs.LengthLaws.{calls}
 use Rattle.port.proofs.open_port.Statement.{statement}
 use Rattle.port.proofs.open_port.Tie as tie
 
@@ -9,10 +7,10 @@ pub open-port-spec : {M : Type 1} → statement M
 open-port-spec =
     tie.close
     (tie.spec
-    (λ c κs. search needs)
-    (λ c κs. search needs)
-    (λ c. search needs)
-    (λ c. search (stopped, needs))
-    (λ c κs. search (lent-record, lent-memory, needs))
-    (λ c. search needs)
-    (λ c. search (passed, needs)))
+    (λ c κs. search calls)
+    (λ c κs. search calls)
+    (λ c. search calls)
+    (λ c. search calls)
+    (λ c κs. search calls)
+    (λ c. search calls)
+    (λ c. search calls))

@@ -1,7 +1,5 @@
 -- `port::transmit` meets its contract. By 18 and 19; then the rest of the call. Assumes nothing.
-use borrow.Author.Needs.{needs}
-use Rattle.steps.proofs.OutcomeLaws.{stopped, passed}
-use Rattle.port.proofs.LengthLaws.{lent-record, lent-memory}
+use Rattle.port.proofs.LengthLaws.{calls}
 use Rattle.port.proofs.transmit.Statement.{statement}
 use Rattle.port.proofs.transmit.Tie as tie
 
@@ -9,10 +7,10 @@ pub transmit-spec : {M : Type 1} → statement M
 transmit-spec =
     tie.close
     (tie.spec
-    (λ c κs. search needs)
-    (λ c κs. search needs)
-    (λ c. search needs)
-    (λ c. search (stopped, needs))
-    (λ c κs. search (lent-record, lent-memory, needs))
-    (λ c. search needs)
-    (λ c. search (passed, needs)))
+    (λ c κs. search calls)
+    (λ c κs. search calls)
+    (λ c. search calls)
+    (λ c. search calls)
+    (λ c κs. search calls)
+    (λ c. search calls)
+    (λ c. search calls))

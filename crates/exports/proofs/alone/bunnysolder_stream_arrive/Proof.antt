@@ -58,7 +58,6 @@ use Rattle.stream.proofs.Arrival.reply as told
 use Rattle.stream.proofs.Arrival.reply.Symbol as told-def
 use Rattle.stream.proofs.Arrival.reply.Symbol.{name as #told}
 use Rattle.stream.proofs.Arrival.reply.Met as told-thm
-use Rattle.exports.specs.Handed.{handed}
 use Rattle.exports.proofs.alone.bunnysolder_stream_arrive.Key.{name as #export}
 use Rattle.exports.proofs.alone.bunnysolder_stream_arrive as export
 use Rattle.exports.proofs.alone.bunnysolder_stream_arrive.Statement as stated

@@ -2,7 +2,7 @@
 use native.Mathlib.Omega.{arith}
 use borrow.Author.Needs.{needs}
 use Rattle.gates.specs.Refusals.{bestEffortRefusal}
-use Rattle.gates.proofs.TestLaws.{at-is, at-is-not, past-is, past-is-not}
+use Rattle.gates.proofs.TestLaws.{tests}
 use Rattle.gates.proofs.refusals.best_effort.Statement.{statement}
 use Rattle.gates.proofs.refusals.best_effort.Tie as tie
 
@@ -12,11 +12,11 @@ best-effort-spec =
     tie.close
     (tie.spec
     (λ c κs. search needs)
-    (λ c. (search (at-is, at-is-not, past-is, past-is-not, needs) depth 9, λ zero. absurd (omega arith)))
+    (λ c. (search tests depth 12 fits 8000, λ zero. absurd (omega arith)))
     (λ c κs. search needs)
-    (λ c. (search (at-is, at-is-not, past-is, past-is-not, needs) depth 9, λ zero. absurd (omega arith)))
+    (λ c. (search tests depth 12 fits 8000, λ zero. absurd (omega arith)))
     (λ c κs. search needs)
-    (λ c. (search (at-is, at-is-not, past-is, past-is-not, needs) depth 9, λ zero. absurd (omega arith)))
+    (λ c. (search tests depth 12 fits 8000, λ zero. absurd (omega arith)))
     (λ c κs. search needs)
-    (λ c. (search (at-is, at-is-not, past-is, past-is-not, needs) depth 9, λ zero. absurd (omega arith)))
-    (λ c. (search (at-is, at-is-not, past-is, past-is-not, needs) depth 9, λ zero. c .before .exceeds-limit .ensures .1 (c .if4 .left))))
+    (λ c. (search tests depth 12 fits 8000, λ zero. absurd (omega arith)))
+    (λ c. (search tests depth 12 fits 8000, λ zero. c .before .exceeds-limit .ensures .1 (c .if4 .left))))

@@ -5,7 +5,7 @@ use borrow.Author.Tests.{not-false}
 use Rattle.ranges.proofs.RangeLaws.{within-bounds}
 use borrow.Author.Needs.{needs}
 use Rattle.gates.specs.FrameRefusals.{bindRefusal}
-use Rattle.gates.proofs.TestLaws.{at-is, at-is-not, at-unreserved, at-least, at-found, past-is, past-is-not, past-unreserved, past-least, past-found}
+use Rattle.gates.proofs.TestLaws.{tests}
 use Rattle.gates.proofs.refusals.bind.Statement.{statement}
 use Rattle.gates.proofs.refusals.bind.Tie as tie
 
@@ -15,16 +15,16 @@ bind-spec =
     tie.close
     (tie.spec
     (λ c κs. search needs)
-    (λ c. search (at-is, at-is-not, at-unreserved, at-least, at-found, past-is, past-is-not, past-unreserved, past-least, past-found, needs) depth 12 fits 8000)
-    (λ c. search (at-is, at-is-not, at-unreserved, at-least, at-found, past-is, past-is-not, past-unreserved, past-least, past-found, needs) depth 12 fits 8000)
+    (λ c. search tests depth 12 fits 8000)
+    (λ c. search tests depth 12 fits 8000)
     (λ c κs. search needs)
-    (λ c. search (at-is, at-is-not, at-unreserved, at-least, at-found, past-is, past-is-not, past-unreserved, past-least, past-found, needs) depth 12 fits 8000)
+    (λ c. search tests depth 12 fits 8000)
     (λ c κs. search needs)
-    (λ c. search (at-is, at-is-not, at-unreserved, at-least, at-found, past-is, past-is-not, past-unreserved, past-least, past-found, needs) depth 12 fits 8000)
+    (λ c. search tests depth 12 fits 8000)
     (λ c κs. search needs)
-    (λ c. search (at-is, at-is-not, at-unreserved, at-least, at-found, past-is, past-is-not, past-unreserved, past-least, past-found, needs) depth 12 fits 8000)
+    (λ c. search tests depth 12 fits 8000)
     (λ c. omega (arith, within-bounds _ _ (c .before .before .before .before .before .before .before .before .before .before .before .before .args .vid) (sym (c .before .before .before .vid-fits .ensures) ∙ not-false _ (c .before .before .if4 .left)) .1))
     (λ c κs. search needs)
     (λ c κs. search needs)
-    (λ c. search (at-is, at-is-not, at-unreserved, at-least, at-found, past-is, past-is-not, past-unreserved, past-least, past-found, needs) depth 12 fits 8000)
-    (λ c. search (at-is, at-is-not, at-unreserved, at-least, at-found, past-is, past-is-not, past-unreserved, past-least, past-found, needs) depth 12 fits 8000))
+    (λ c. search tests depth 12 fits 8000)
+    (λ c. search tests depth 12 fits 8000))

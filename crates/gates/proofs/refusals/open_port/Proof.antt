@@ -1,7 +1,7 @@
 -- `gates::refusals::open_port` meets its contract. Test after test. Assumes nothing.
 use borrow.Author.Needs.{needs}
 use Rattle.gates.specs.Refusals.{openRefusal}
-use Rattle.gates.proofs.TestLaws.{at-is, at-is-not, past-is, past-is-not}
+use Rattle.gates.proofs.TestLaws.{tests}
 use Rattle.gates.proofs.refusals.open_port.Statement.{statement}
 use Rattle.gates.proofs.refusals.open_port.Tie as tie
 
@@ -11,9 +11,9 @@ open-port-spec =
     tie.close
     (tie.spec
     (λ c κs. search needs)
-    (λ c. search (at-is, at-is-not, past-is, past-is-not, needs) depth 9)
+    (λ c. search tests depth 12 fits 8000)
     (λ c κs. search needs)
-    (λ c. search (at-is, at-is-not, past-is, past-is-not, needs) depth 9)
+    (λ c. search tests depth 12 fits 8000)
     (λ c κs. search needs)
-    (λ c. search (at-is, at-is-not, past-is, past-is-not, needs) depth 9)
-    (λ c. search (at-is, at-is-not, past-is, past-is-not, needs) depth 9))
+    (λ c. search tests depth 12 fits 8000)
+    (λ c. search tests depth 12 fits 8000))

@@ -2,7 +2,7 @@
 use native.Mathlib.Omega.{arith}
 use borrow.Author.Needs.{needs}
 use Rattle.gates.specs.Refusals.{reserveRefusal}
-use Rattle.gates.proofs.TestLaws.{at-is, at-is-not, at-reserved, at-least, past-is, past-is-not, past-reserved, past-least}
+use Rattle.gates.proofs.TestLaws.{tests}
 use Rattle.gates.proofs.refusals.reserve.Statement.{statement}
 use Rattle.gates.proofs.refusals.reserve.Tie as tie
 
@@ -12,12 +12,12 @@ reserve-spec =
     tie.close
     (tie.spec
     (λ c κs. search needs)
-    (λ c. (search (at-is, at-is-not, at-reserved, at-least, past-is, past-is-not, past-reserved, past-least, needs) depth 9, λ zero. absurd (omega arith)))
-    (λ c. (search (at-is, at-is-not, at-reserved, at-least, past-is, past-is-not, past-reserved, past-least, needs) depth 9, λ zero. absurd (omega arith)))
+    (λ c. (search tests depth 12 fits 8000, λ zero. absurd (omega arith)))
+    (λ c. (search tests depth 12 fits 8000, λ zero. absurd (omega arith)))
     (λ c κs. search needs)
-    (λ c. (search (at-is, at-is-not, at-reserved, at-least, past-is, past-is-not, past-reserved, past-least, needs) depth 9, λ zero. absurd (omega arith)))
+    (λ c. (search tests depth 12 fits 8000, λ zero. absurd (omega arith)))
     (λ c κs. search needs)
-    (λ c. (search (at-is, at-is-not, at-reserved, at-least, past-is, past-is-not, past-reserved, past-least, needs) depth 9, λ zero. absurd (omega arith)))
+    (λ c. (search tests depth 12 fits 8000, λ zero. absurd (omega arith)))
     (λ c κs. search needs)
-    (λ c. (search (at-is, at-is-not, at-reserved, at-least, past-is, past-is-not, past-reserved, past-least, needs) depth 9, λ zero. absurd (omega arith)))
-    (λ c. (search (at-is, at-is-not, at-reserved, at-least, past-is, past-is-not, past-reserved, past-least, needs) depth 9, λ zero. c .before .exceeds-share .ensures .1 (c .if5 .left))))
+    (λ c. (search tests depth 12 fits 8000, λ zero. absurd (omega arith)))
+    (λ c. (search tests depth 12 fits 8000, λ zero. c .before .exceeds-share .ensures .1 (c .if5 .left))))

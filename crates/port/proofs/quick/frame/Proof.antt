@@ -1,7 +1,5 @@
 -- `port::quick::frame` meets its contract. By the lengths; then the rest of the call. Assumes nothing.
-use borrow.Author.Needs.{needs}
-use Rattle.steps.proofs.OutcomeLaws.{stopped, passed}
-use Rattle.port.proofs.LengthLaws.{long-record, long-memory}
+use Rattle.port.proofs.LengthLaws.{calls}
 use Rattle.port.proofs.quick.frame.Statement.{statement}
 use Rattle.port.proofs.quick.frame.Tie as tie
 
@@ -9,12 +7,12 @@ pub frame-spec : {M : Type 1} → statement M
 frame-spec =
     tie.close
     (tie.spec
-    (λ c κs. search needs)
-    (λ c κs. search needs)
-    (λ c. search needs)
-    (λ c. search needs)
-    (λ c. search (stopped, needs))
-    (λ c κs. search (long-record, long-memory, needs))
-    (λ c. search needs)
-    (λ c. search needs)
-    (λ c. search (passed, needs)))
+    (λ c κs. search calls)
+    (λ c κs. search calls)
+    (λ c. search calls)
+    (λ c. search calls)
+    (λ c. search calls)
+    (λ c κs. search calls)
+    (λ c. search calls)
+    (λ c. search calls)
+    (λ c. search calls))

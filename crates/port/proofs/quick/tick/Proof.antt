@@ -1,7 +1,5 @@
 -- `port::quick::tick` meets its contract. By the lengths; then the rest of the call. Assumes nothing.
-use borrow.Author.Needs.{needs}
-use Rattle.steps.proofs.OutcomeLaws.{stopped, passed}
-use Rattle.port.proofs.LengthLaws.{long-record, long-memory}
+use Rattle.port.proofs.LengthLaws.{calls}
 use Rattle.port.proofs.quick.tick.Statement.{statement}
 use Rattle.port.proofs.quick.tick.Tie as tie
 
@@ -9,10 +7,10 @@ pub tick-spec : {M : Type 1} → statement M
 tick-spec =
     tie.close
     (tie.spec
-    (λ c κs. search needs)
-    (λ c κs. search needs)
-    (λ c. search needs)
-    (λ c. search (stopped, needs))
-    (λ c κs. search (long-record, long-memory, needs))
-    (λ c. search needs)
-    (λ c. search (passed, needs)))
+    (λ c κs. search calls)
+    (λ c κs. search calls)
+    (λ c. search calls)
+    (λ c. search calls)
+    (λ c κs. search calls)
+    (λ c. search calls)
+    (λ c. search calls))
