@@ -14,8 +14,6 @@ use Rattle.ranges.specs.Ranges.{vidFits}
 use Rattle.ranges.proofs.RangeLaws.{within-bounds}
 use Rattle.header.specs.Header.{headerLength, chargeOf, lengthFits}
 use Rattle.header.proofs.HeaderLaws.{header-whole}
-use borrow.Author.Needs.{needs}
-use Rattle.steps.proofs.OutcomeLaws.{stopped, passed, passed-record}
 use Rattle.steps.specs.Outcome.{Outcome, gated}
 use Rattle.arriving.specs.Arriving.{arriveStep}
 use Rattle.best_effort.specs.BestEffort.{bestEffortStep}
@@ -25,7 +23,7 @@ use Rattle.binding.specs.Finding.{lookup, isBound, frameLookup}
 use Rattle.gates.specs.Refusals.{arriveRefusal, bestEffortRefusal}
 use Rattle.gates.specs.FrameRefusals.{bindRefusal, frameRefusal}
 use Rattle.gates.specs.Becoming.{becomes, frameStep}
-use Rattle.gates.proofs.GateLaws.{past, open-link, open-delay, reserve-stream, arrive-stream, arrive-charge, best-effort-charge, best-effort-free}
+use Rattle.gates.proofs.GateLaws.{past}
 
 pub record BindAllowed (p : List ℕ) (s : ℕ) (address : List ℕ) (vid : ℕ) : Type 0 where
   pub opened : openAt p ≡ true
@@ -99,6 +97,3 @@ module _ (p m octets : List ℕ) (tag charge : ℕ) (found : Lookup) (left : Out
   pub became-best-effort : left ≡ gated (bestEffortRefusal p charge) p m (bestEffortStep p m charge tag) → found ≡ Unbound
       → found ≡ frameLookup p octets → charge ≡ chargeOf octets → left ≡ frameStep p m octets tag
   became-best-effort does is found-so charge-so = became (found-so, charge-so) (does ∙ ap (becomes p m charge tag) (sym is))
-
--- what closes the needs of code that asks a gate and then makes a step
-pub ruleset gates = (stopped, passed, passed-record, open-link, open-delay, reserve-stream, arrive-stream, arrive-charge, best-effort-charge, best-effort-free, bind-stream, bind-vid, frame-length, frame-header, became-arrival, became-best-effort, needs)

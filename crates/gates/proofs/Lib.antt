@@ -2,3 +2,5 @@
 pub mod GateLaws
 pub mod FrameGateLaws
 pub mod TestLaws
+pub mod NumberLaws
+pub mod GateNeeds

@@ -3,7 +3,6 @@
 use Prim.Native.Nat.{ℕ, _≤_, _<_}
 use mathlib.Core.Path.{_≡_, sym, ap, _∙_}
 use mathlib.Core.Bool.{Bool, true, false, not, cond}
-use mathlib.Core.Logic.{_⊎_, inl, inr}
 use lib.Dec.{leb}
 use borrow.Author.Needs.{needs}
 use borrow.Author.Tests.{le-leb, lt-leb}
@@ -52,29 +51,3 @@ module _ (n rest : ℕ) where
 
 -- what closes a return of code that makes one such test after the other
 pub ruleset tests = (at-is, at-is-not, at-reserved, at-unreserved, at-least, at-found, past-is, past-is-not, past-reserved, past-unreserved, past-least, past-found, needs)
-
--- numbers that are none of those from the least to the greatest
-abbrev pub Outside : ℕ → ℕ → ℕ → Type 0
-Outside least greatest n = (n < least) ⊎ (greatest < n)
-
-pub outside-low : (least greatest n : ℕ) → n < least → Outside least greatest n
-outside-low least greatest n h = inl h
-
-pub outside-high : (least greatest n : ℕ) → greatest < n → Outside least greatest n
-outside-high least greatest n h = inr h
-
--- what a chain of tests decides is none of them where each test's number is none
-module _ (least greatest : ℕ) (b : Bool) (n rest : ℕ) (h : Outside least greatest rest) where
-  pub low-test : n < least → Outside least greatest (cond b n rest)
-  low-test low = told b
-    where
-      told : (t : Bool) → Outside least greatest (cond t n rest)
-      told true = inl low
-      told false = h
-
-  pub high-test : greatest < n → Outside least greatest (cond b n rest)
-  high-test high = told b
-    where
-      told : (t : Bool) → Outside least greatest (cond t n rest)
-      told true = inr high
-      told false = h

@@ -31,7 +31,7 @@ use Rattle.binding.specs.declared.Lookup.the-variants.{Bound, Unbound}
 use Rattle.binding.specs.Finding.{frameLookup}
 use Rattle.gates.specs.Refusals.{arriveRefusal, bestEffortRefusal}
 use Rattle.gates.specs.FrameRefusals.{frameRefusal}
-use Rattle.gates.proofs.TestLaws.{Outside, outside-low, outside-high, low-test, high-test}
+use Rattle.gates.proofs.NumberLaws.{Outside, outside-low, outside-high, low-test, high-test}
 use Rattle.gates.specs.Becoming.{becoming, becomes, frameStep}
 use Rattle.port.specs.Calls.{called}
 

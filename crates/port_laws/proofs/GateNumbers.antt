@@ -9,7 +9,7 @@ use Rattle.gates.specs.Refusals.{openRefusal, reserveRefusal, arriveRefusal, cl
 use Rattle.gates.specs.FrameRefusals.{bindRefusal, frameRefusal}
 use Rattle.gates.specs.Table.{refusalOf}
 use borrow.Author.Needs.{needs}
-use Rattle.gates.proofs.TestLaws.{Outside, outside-low, low-test}
+use Rattle.gates.proofs.NumberLaws.{Outside, outside-low, low-test}
 
 -- an open port refuses Open with 2, and neither Tick nor Transmit
 pub open-taken : (p : List ℕ) (t : Terms) → openAt p ≡ true → openRefusal p t ≡ 2

@@ -1,5 +1,5 @@
 -- `gates::best_effort` meets its contract. By the gate; then the step. Assumes nothing.
-use Rattle.gates.proofs.FrameGateLaws.{gates}
+use Rattle.gates.proofs.GateNeeds.{gates}
 use Rattle.gates.proofs.best_effort.Statement.{statement}
 use Rattle.gates.proofs.best_effort.Tie as tie
 

@@ -1,5 +1,5 @@
 -- `gates::bind` meets its contract. By the gate; then the step. Assumes nothing.
-use Rattle.gates.proofs.FrameGateLaws.{gates}
+use Rattle.gates.proofs.GateNeeds.{gates}
 use Rattle.gates.proofs.bind.Statement.{statement}
 use Rattle.gates.proofs.bind.Tie as tie
 

@@ -1,5 +1,5 @@
 -- `gates::frame` meets its contract. By the gate; then by the lookup, the call that the frame becomes. Assumes nothing.
-use Rattle.gates.proofs.FrameGateLaws.{gates}
+use Rattle.gates.proofs.GateNeeds.{gates}
 use Rattle.gates.proofs.frame.Statement.{statement}
 use Rattle.gates.proofs.frame.Tie as tie
 

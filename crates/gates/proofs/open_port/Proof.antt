@@ -1,5 +1,5 @@
 -- `gates::open_port` meets its contract. By the gate; then the step. Assumes nothing.
-use Rattle.gates.proofs.FrameGateLaws.{gates}
+use Rattle.gates.proofs.GateNeeds.{gates}
 use Rattle.gates.proofs.open_port.Statement.{statement}
 use Rattle.gates.proofs.open_port.Tie as tie
 

@@ -1,5 +1,5 @@
 -- `gates::transmit` meets its contract. By the gate; then the step. Assumes nothing.
-use Rattle.gates.proofs.FrameGateLaws.{gates}
+use Rattle.gates.proofs.GateNeeds.{gates}
 use Rattle.gates.proofs.transmit.Statement.{statement}
 use Rattle.gates.proofs.transmit.Tie as tie
 
