@@ -4,3 +4,5 @@ pub mod FrameGateLaws
 pub mod TestLaws
 pub mod NumberLaws
 pub mod GateNeeds
+pub mod TableLaws
+pub mod TableCases

@@ -1,4 +1,4 @@
--- Document 01's cases C1 to C12, each as calls on a port never openedCase, and what they reply. Stream 5 with P = 200, L = 2,142, K = 1, unless said
+-- Document 01's cases C1 to C12, each as calls on a port never opened, and what they reply. Stream 5 with P = 200, L = 2,142, K = 1, unless said
 -- otherwise.
 use mathlib.Core.List.{List, [], _∷_, _++_}
 use Rattle.stream.specs.declared.Reply.{Reply}
@@ -16,7 +16,7 @@ pub record Case : Type 0 where
 abbrev pub continued : Case → List Call → List Reply → Case
 continued c cs rs = record { calls = c .calls ++ cs; expected = c .expected ++ rs }
 
--- the port open, and the stream reservedCase
+-- the port open, and the stream reserved
 abbrev pub openedCase : Case
 openedCase = record { calls = opening (terms 2142 1) ∷ []; expected = granted 600 0 ∷ [] }
 
