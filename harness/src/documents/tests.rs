@@ -89,10 +89,10 @@ fn undefined(module: &str, name: &str) -> String {
 
 #[test]
 fn definitions_of_every_sort_are_known() {
-    finds(unknown, &sentence("`stream/Steps` · `arriveOf`, `tickOf`; `stream/State` · `Fit`; `port_laws/Lists` · `Call`"), &[]);
+    finds(unknown, &sentence("`stream/Steps` · `arriveOf`, `tickOf`; `stream/State` · `StreamFit`; `steps/Call` · `Call`"), &[]);
     finds(unknown, &sentence("`stream/declared` · `Reply`,\n`Arrival`; `port_laws/proofs/QuickLaws` · `quick-call`"), &[]);
     finds(unknown, &sentence("`port_laws/proofs/LookupLaws` · `bound-found`"), &[]);
-    finds(unknown, &column("stream/Steps", "`arriveOf`, `tickOf`; `stream/State` · `Fit`"), &[]);
+    finds(unknown, &column("stream/Steps", "`arriveOf`, `tickOf`; `stream/State` · `StreamFit`"), &[]);
 }
 
 #[test]
@@ -138,7 +138,7 @@ const TEXT: &str = "### 1.1 A\n\n(`stream/Steps` · `tickOf`)\n\n### 1.2 B\n\n(`
 
 /// The text with these rows in its index.
 fn with_index(rows: &str) -> String {
-    format!("{TEXT}{rows}\n\n### 12.2 C\n\n(`stream/State` · `Fit`)\n")
+    format!("{TEXT}{rows}\n\n### 12.2 C\n\n(`stream/State` · `StreamFit`)\n")
 }
 
 #[test]
