@@ -19,3 +19,4 @@ pub mod NextTick
 pub mod NextTransmit
 pub mod Play
 pub mod Theorem
+pub mod ClaimCases

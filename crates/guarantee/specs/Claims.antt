@@ -115,11 +115,15 @@ offer s neither = 0
 abbrev pub offers : ℕ → List Event → ℕ
 offers s = sumOf (λ e. offer s (action e))
 
+-- "never offers more than its permitted octets"
+abbrev pub Offered : ℕ → ℕ → List Event → Type 0
+Offered s permitted between = offers s between ≤ permitted
+
 -- "a stream that never offers more than its permitted octets between ticks", "also before the first tick and after the last": in no stretch without a
 -- tick
 abbrev pub OffersWithin : ℕ → ℕ → List Event → Type 0
 OffersWithin s permitted es =
-    (before between after : List Event) → es ≡ before ++ (between ++ after) → All NoTick between → offers s between ≤ permitted
+    (before between after : List Event) → es ≡ before ++ (between ++ after) → All NoTick between → Offered s permitted between
 
 -- "has each frame accepted as current and sent before the second tick after it"; "as current" is a reply "whose first number is 1"
 abbrev pub Prompt : Marked → Event → List Event → Type 0

@@ -3,3 +3,4 @@ pub mod Events
 pub mod Claims
 pub mod Demand3
 pub mod Beyond
+pub mod Instances
