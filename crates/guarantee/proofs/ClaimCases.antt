@@ -17,7 +17,7 @@ use Rattle.steps.specs.Call.{Call, reserving, arriving, ticking, transmitting, 
 use Rattle.port_laws.specs.Counting.{Action, toTick, toTransmit, toReserve, toArrive, toBestEffort, toFrame, neither, actionOf}
 use Rattle.guarantee.specs.Events.{Sent, reservedSent, bestEffortSent, none, marked, Made, broughtBy, isTransmit, sentBy, Event, eventsAfter, bothRuns}
 use Rattle.guarantee.specs.Claims.{isTick, tickCount, reservedCharge, reservedOctets, Idle, Linked, PurgesNothing, replyOfSent, SaysWhatItSends, AlikeMarked, SameRecord, Sends, offer, offers, Offered, isReserveOf, isArriveOf, remaining, grants, answers, Alike, NotByHost}
-use Rattle.guarantee.specs.Instances.{answered, frameOf, tick, purges, joins, joined, sendsReserved, joinsNext, discarded, epoch, offered, joinsTwice, sendsTwice, grantOf5, allowed, denied, refusalOf6, joinsOther, joinsBestEffort, mixed, tagOf, stacking}
+use Rattle.guarantee.specs.Instances.{replied, markedFrame, quietTick, purgingTick, joinsCurrent, currentFrame, sendsReserved, joinsNext, discardedArrival, epoch, offered, joinsTwice, sendsTwice, grantOf5, allowed, denied, refusalOf6, joinsOther, joinsBestEffort, mixed, tagOf, stacking}
 
 -- the charge and the number of a sent frame
 abbrev chargeSent : Sent → ℕ
@@ -46,13 +46,13 @@ secondOf (toFrame octets tag) = 0
 secondOf neither = 0
 
 -- `marked`: a frame's call has the call's number for a tag, and a reservation keeps its P
-marked-arrive : tagOf (marked 3 (arriving 5 120 7)) ≡ 3
+marked-arrive : tagOf (actionOf (marked 3 (arriving 5 120 7))) ≡ 3
 marked-arrive = refl
 
-marked-best-effort : tagOf (marked 3 (joiningBestEffort 300 7)) ≡ 3
+marked-best-effort : tagOf (actionOf (marked 3 (joiningBestEffort 300 7))) ≡ 3
 marked-best-effort = refl
 
-marked-frame : tagOf (marked 3 (framing [] 7)) ≡ 3
+marked-frame : tagOf (actionOf (marked 3 (framing [] 7))) ≡ 3
 marked-frame = refl
 
 marked-charge : secondOf (actionOf (marked 3 (arriving 5 120 7))) ≡ 120
@@ -161,24 +161,24 @@ transmit-no-tick = refl
 other-no-tick : isTick neither ≡ false
 other-no-tick = refl
 
-ticks-counted : tickCount (tick ∷ joins ∷ joinsNext ∷ tick ∷ joins ∷ []) ≡ 2
+ticks-counted : tickCount (quietTick ∷ joinsCurrent ∷ joinsNext ∷ quietTick ∷ joinsCurrent ∷ []) ≡ 2
 ticks-counted = refl
 
 -- `reservedCharge`, `reservedOctets`: frames of best effort are not in it
-best-effort-charge : reservedCharge (bestEffortSent (frameOf 255 300 2 5)) ≡ 0
+best-effort-charge : reservedCharge (bestEffortSent (markedFrame 255 300 2 5)) ≡ 0
 best-effort-charge = refl
 
 octets-sent : reservedOctets (sendsReserved ∷ sendsReserved ∷ []) ≡ 240
 octets-sent = refl
 
 -- `replyOfSent`
-reply-stream : replyOfSent (λ f. f .tag) (reservedSent (frameOf 5 120 7 3)) .first ≡ 5
+reply-stream : replyOfSent (λ f. f .tag) (reservedSent (markedFrame 5 120 7 3)) .first ≡ 5
 reply-stream = refl
 
-reply-tag : replyOfSent (λ f. f .tag) (reservedSent (frameOf 5 120 7 3)) .second ≡ 7
+reply-tag : replyOfSent (λ f. f .tag) (reservedSent (markedFrame 5 120 7 3)) .second ≡ 7
 reply-tag = refl
 
-reply-number : replyOfSent (λ f. f .number) (bestEffortSent (frameOf 255 300 2 5)) .second ≡ 5
+reply-number : replyOfSent (λ f. f .number) (bestEffortSent (markedFrame 255 300 2 5)) .second ≡ 5
 reply-number = refl
 
 reply-nothing : replyOfSent (λ f. f .tag) none .first ≡ 254
@@ -200,7 +200,7 @@ offer-best-effort = refl
 offer-reserve : offer 5 (toReserve 5 200) ≡ 0
 offer-reserve = refl
 
-offers-counted : offers 5 (joins ∷ joinsNext ∷ joinsOther ∷ []) ≡ 220
+offers-counted : offers 5 (joinsCurrent ∷ joinsNext ∷ joinsOther ∷ []) ≡ 220
 offers-counted = refl
 
 -- `isReserveOf`, `isArriveOf`
@@ -217,13 +217,13 @@ reserve-no-arrive : isArriveOf 5 (toReserve 5 200) ≡ false
 reserve-no-arrive = refl
 
 -- `remaining`: the ticks, the stream's reservations and its arrivals, and no other calls
-ticks-remain : length (remaining 5 (tick ∷ tick ∷ [])) ≡ 2
+ticks-remain : length (remaining 5 (quietTick ∷ quietTick ∷ [])) ≡ 2
 ticks-remain = refl
 
 reservations-remain : length (remaining 5 (grantOf5 ∷ [])) ≡ 1
 reservations-remain = refl
 
-arrivals-remain : length (remaining 5 (joins ∷ joinsNext ∷ discarded ∷ [])) ≡ 3
+arrivals-remain : length (remaining 5 (joinsCurrent ∷ joinsNext ∷ discardedArrival ∷ [])) ≡ 3
 arrivals-remain = refl
 
 others-struck-out : length (remaining 5 (refusalOf6 ∷ joinsOther ∷ joinsBestEffort ∷ sendsReserved ∷ [])) ≡ 0
@@ -236,7 +236,7 @@ granted-so = refl
 refused-so : grants 6 (refusalOf6 ∷ []) ≡ false ∷ []
 refused-so = refl
 
-answers-so : map (λ (r : Reply). r .refusal) (answers 5 (grantOf5 ∷ joins ∷ discarded ∷ [])) ≡ 0 ∷ 14 ∷ []
+answers-so : map (λ (r : Reply). r .refusal) (answers 5 (grantOf5 ∷ joinsCurrent ∷ discardedArrival ∷ [])) ≡ 0 ∷ 14 ∷ []
 answers-so = refl
 
 -- all of it in one list
@@ -246,25 +246,25 @@ mixed-counted = (refl, (refl, (refl, refl)))
 -- and what the claims say of one event or one epoch: 516 octets are less than a share of 600, and a transmit of a reserved frame is not idle
 epoch-fails : Linked 600 epoch → ⊥
 epoch-fails (inl enough) = omega arith
-epoch-fails (inr (inl idle)) = idle .1 (frameOf 5 516 7 2) refl
+epoch-fails (inr (inl idle)) = idle .1 (markedFrame 5 516 7 2) refl
 
 busy-not-idle : Idle sendsReserved → ⊥
-busy-not-idle idle = idle .1 joined refl
+busy-not-idle idle = idle .1 currentFrame refl
 
 -- 168 octets are more than 84
 offered-too-much : Offered 5 84 offered → ⊥
 offered-too-much within = omega arith
 
 -- a tick that purges a frame is told from one that does not
-purge-told : PurgesNothing purges → ⊥
+purge-told : PurgesNothing purgingTick → ⊥
 purge-told nothing = omega (arith, ap (λ (r : Reply). r .first) (nothing refl))
 
 -- and nothing is said of the reply to an arrival
-arrival-replies : PurgesNothing joins
+arrival-replies : PurgesNothing joinsCurrent
 arrival-replies t = differ (sym t)
 
 -- a reserved frame is sent by the transmit that shows it and replies its stream and tag
-sends-so : Sends joined sendsReserved
+sends-so : Sends currentFrame sendsReserved
 sends-so = (refl, refl)
 
 -- a transmit replies the frame's tag, and its number where that is the tag; no other call's replies differ, and the records do not
@@ -283,11 +283,11 @@ grants-differ calls grant = differ (ap (λ (b : List Bool). getD b 0 true) grant
 
 -- nor where the calls differ
 calls-differ : Alike 5 allowed (grantOf5 ∷ joinsNext ∷ [])
-calls-differ calls grant = absurd (omega (arith, ap (λ (cs : List Call). tagOf (getD cs 1 ticking)) calls))
+calls-differ calls grant = absurd (omega (arith, ap (λ (cs : List Call). tagOf (actionOf (getD cs 1 ticking))) calls))
 
 -- a discard is not the host's fault, nor is a Frame that is too short
-discard-allowed : NotByHost discarded
+discard-allowed : NotByHost discardedArrival
 discard-allowed = (λ e. omega arith, (λ e. omega arith, λ e. omega arith))
 
-short-frame-allowed : NotByHost (answered (framing [] 9) (refusedBy 17))
+short-frame-allowed : NotByHost (replied (framing [] 9) (refusedBy 17))
 short-frame-allowed = (λ e. omega arith, (λ e. omega arith, λ e. omega arith))
