@@ -16,3 +16,6 @@ pub mod StayLaws
 pub mod CasesHold
 pub mod GateNumbers
 pub mod FreshFit
+pub mod FramesHold
+pub mod CaseNumbers
+pub mod CountingCases

@@ -1,9 +1,10 @@
 -- Document 01's cases C1 to C12, each as calls on a port never opened, and what they reply. Stream 5 with P = 200, L = 2,142, K = 1, unless said
 -- otherwise.
 use mathlib.Core.List.{List, [], _∷_, _++_}
+use lib.ListN.{replicate}
 use Rattle.stream.specs.declared.Reply.{Reply}
 use Rattle.stream.specs.Replies.{granted, refusedBy}
-use Rattle.steps.specs.Call.{terms, Call, opening, reserving, arriving, ticking, transmitting, joiningBestEffort}
+use Rattle.steps.specs.Call.{terms, Call, opening, reserving, arriving, ticking, transmitting, joiningBestEffort, binding, framing}
 use Rattle.port.specs.Calls.{called}
 use Rattle.port_laws.specs.Lists.{replies, freshRecord, freshMemory}
 
@@ -85,6 +86,19 @@ c12 =
 
 abbrev pub cases : List Case
 cases = c1 ∷ c2 ∷ c3 ∷ c4 ∷ c5 ∷ c6 ∷ sample ∷ c7 ∷ c8 ∷ c9 ∷ c10 ∷ c11 ∷ c12 ∷ []
+
+-- beside them, the calls that no case makes: a Bind, the Frame that becomes an Arrive by it, and one without a VLAN tag
+abbrev pub caseAddress : List ℕ
+caseAddress = 1 ∷ 0 ∷ 94 ∷ 0 ∷ 0 ∷ 5 ∷ []
+
+abbrev pub caseTagged : List ℕ
+caseTagged = caseAddress ++ (replicate {A = ℕ} 6 0 ++ (129 ∷ 0 ∷ 0 ∷ 100 ∷ replicate {A = ℕ} 44 0))
+
+abbrev pub framesCase : Case
+framesCase =
+    continued reservedCase
+    (binding 5 caseAddress 100 ∷ framing caseTagged 7 ∷ framing (replicate {A = ℕ} 60 0) 8 ∷ [])
+    (granted 0 0 ∷ granted 1 116 ∷ granted 84 0 ∷ [])
 
 -- what the calls reply to a case
 abbrev pub repliesTo : Case → List Reply

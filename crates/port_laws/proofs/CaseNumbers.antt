@@ -1,0 +1,83 @@
+-- What the cases expect, one number of each, as the rules of a share, of one stream and of a frame's charge have it: no port is run here. Assumes
+-- nothing.
+use Prim.Native.Nat.{ℕ, _+_, _-_, _*_}
+use mathlib.Core.Bool.{cond}
+use mathlib.Core.Path.{_≡_, refl}
+use mathlib.Core.List.{List, [], _∷_}
+use lib.ListN.{getD, replicate}
+use lib.Dec.{ltb}
+use Rattle.stream.specs.declared.Reply.{Reply}
+use Rattle.stream.specs.State.{lastPlace, reserveOf}
+use Rattle.stream.specs.Steps.{attempt, arriveOf, tickOf}
+use Rattle.stream.specs.Replies.{refusedBy}
+use Rattle.stream.specs.Alone.{StreamEvent, arrival, tick, replies}
+use Rattle.ranges.specs.Ranges.{shareOf}
+use Rattle.header.specs.Header.{chargeOf}
+use Rattle.steps.specs.Call.{Call, opening, reserving, arriving, ticking, transmitting, joiningBestEffort, binding, framing}
+use Rattle.port_laws.specs.Cases.{Case, c1, c2, c4, c5, sample, c7, c8, c9, c10, c12, caseTagged, framesCase}
+
+-- the reply that is expected to call number n of a case, and the rule's reply to arrival number n of a stream with P = 200
+abbrev expectedOf : Case → ℕ → Reply
+expectedOf c n = getD (c .expected) n (refusedBy 98)
+
+abbrev byRule : List StreamEvent → ℕ → Reply
+byRule es n = getD (replies lastPlace (reserveOf 200) es) n (refusedBy 99)
+
+-- the tag of call number n of a case
+abbrev tagOf : Call → ℕ
+tagOf (opening t) = 0
+tagOf (reserving s permitted) = 0
+tagOf (arriving s charge tag) = tag
+tagOf ticking = 0
+tagOf transmitting = 0
+tagOf (joiningBestEffort charge tag) = tag
+tagOf (binding s address vid) = 0
+tagOf (framing octets tag) = tag
+
+-- the shares of C1 and C2, and what P = 200 and P = 400 leave of that of C4
+c1-share : expectedOf c1 1 .first ≡ shareOf 1626
+c1-share = refl
+
+c2-share : expectedOf c2 1 .first ≡ shareOf 23046
+c2-share = refl
+
+c4-rest : expectedOf c4 3 .first ≡ shareOf 2142 - (200 + 400)
+c4-rest = refl
+
+-- C5 to C10 by the rule of one stream
+c5-left : expectedOf c5 2 .second ≡ byRule (arrival 200 ∷ []) 0 .second
+unfolding attempt arriveOf
+c5-left = refl
+
+c7-place : expectedOf c7 5 .first ≡ byRule (arrival 120 ∷ arrival 100 ∷ arrival 90 ∷ arrival 84 ∷ []) 3 .first
+unfolding attempt arriveOf
+c7-place = refl
+
+c8-refusal : expectedOf c8 5 .refusal ≡ byRule (arrival 200 ∷ arrival 200 ∷ arrival 200 ∷ arrival 84 ∷ []) 3 .refusal
+unfolding attempt arriveOf
+c8-refusal = refl
+
+c9-place : expectedOf c9 7 .first ≡ byRule (arrival 200 ∷ arrival 200 ∷ arrival 200 ∷ arrival 84 ∷ tick ∷ arrival 84 ∷ []) 4 .first
+unfolding attempt arriveOf tickOf
+c9-place = refl
+
+c10-refusal : expectedOf c10 3 .refusal ≡ byRule (arrival 201 ∷ arrival 84 ∷ []) 1 .refusal
+unfolding attempt arriveOf
+c10-refusal = refl
+
+-- the frames of the sample are sent in the order of their arrivals
+sample-tag : expectedOf sample 4 .second ≡ tagOf (getD (sample .calls) 2 ticking)
+sample-tag = refl
+
+-- K times what is not reserved of L is best effort's limit in C12
+c12-refusal : expectedOf c12 4 .refusal ≡ cond (ltb (1 * (2142 - 200)) (1542 + 400 + 84)) 16 0
+c12-refusal = refl
+
+-- a Frame's charge, to its stream and to best effort
+frame-left : expectedOf framesCase 3 .second ≡ byRule (arrival (chargeOf caseTagged) ∷ []) 0 .second
+unfolding attempt arriveOf chargeOf
+frame-left = refl
+
+frame-waits : expectedOf framesCase 4 .first ≡ chargeOf (replicate {A = ℕ} 60 0)
+unfolding chargeOf
+frame-waits = refl
