@@ -4,13 +4,15 @@ use mathlib.Core.Bool.{true, false}
 use mathlib.Core.Path.{_≡_, refl}
 use mathlib.Core.List.{[], _∷_, _++_}
 use lib.ListN.{length}
+use lib.Dec.{eqb}
+use Rattle.stream.specs.Steps.{attempt, arriveOf}
 use Rattle.record.specs.Head.{priorAt}
 use Rattle.header.specs.Header.{lengthFits}
 use Rattle.fitness.specs.Clauses.{priorFits}
 use Rattle.guarantee.specs.Claims.{tickCount, reservedOctets, answers}
-use Rattle.guarantee_examples.specs.Examples.{light, withheld, untagged}
-use Rattle.guarantee_examples.specs.LeftOpen.{crowdedOpening, crowdedGrant, crowdedBefore, crowdedFrame, tooSoon, crowded, busyBefore, busyNextArrival, secondFrame, thirdFrame, sixAnswers, shortestFrame, unfitRecord}
-use Rattle.guarantee_examples.specs.AddUp.{sentAt, broughtAt, accepted, purged, EventsAddUp}
+use Rattle.guarantee_examples.specs.Examples.{busy, light, withheld, permitted200, untagged}
+use Rattle.guarantee_examples.specs.LeftOpen.{crowdedOpening, crowdedGrant, crowdedBefore, crowdedPlace, crowdedFrame, tooSoon, crowded, busyBefore, busyNextArrival, busyWith, secondFrame, thirdFrame, busySecond, busyThird, purgesNone, sixAnswers, discards, queueFull, shortestFrame, unfitRecord, keptTag, numberTag}
+use Rattle.guarantee_examples.specs.AddUp.{sentAt, broughtAt, accepted, purged, framesAccepted, framesSent, framesPurged, byRule, tagSent, numberSent, EventsAddUp}
 
 light-frame : sentAt light 5 ≡ broughtAt light 3
 light-frame = refl
@@ -41,6 +43,22 @@ unfit-prior : priorFits unfitRecord ≡ false
 unfolding priorAt
 unfit-prior = refl
 
+crowded-joins : crowdedPlace ≡ byRule 200 120 .first
+unfolding attempt arriveOf
+crowded-joins = refl
+
+busy-frames : framesAccepted 5 (busyWith busySecond busyThird purgesNone) ≡ framesSent busy + framesPurged (busyWith busySecond busyThird purgesNone)
+busy-frames = refl
+
+full-no-discard : eqb queueFull discards ≡ false
+full-no-discard = refl
+
+tag-of-call : keptTag ≡ tagSent (broughtAt permitted200 2)
+tag-of-call = refl
+
+number-of-call : numberTag ≡ numberSent (broughtAt permitted200 2)
+number-of-call = refl
+
 pub events-add-up : EventsAddUp
 events-add-up =
     record {
@@ -53,4 +71,9 @@ events-add-up =
       crowded-six = crowded-six;
       shortest-fits = shortest-fits;
       unfit-prior = unfit-prior;
+      crowded-joins = crowded-joins;
+      busy-frames = busy-frames;
+      full-no-discard = full-no-discard;
+      tag-of-call = tag-of-call;
+      number-of-call = number-of-call;
     }

@@ -1,19 +1,23 @@
 -- What adds up in the events of the examples themselves, whatever the port: the numbers of frames, what was accepted, and the replies to a stream.
 use Prim.Native.Nat.{ℕ, _+_}
-use mathlib.Core.Bool.{true, false, cond}
+use mathlib.Core.Bool.{true, false, _&&_, cond}
 use mathlib.Core.Path.{_≡_}
 use mathlib.Core.List.{List, [], _∷_, _++_, map}
 use lib.ListN.{length, getD}
 use lib.Dec.{eqb}
 use Rattle.lists.specs.Turns.{sumOf}
+use Rattle.stream.specs.declared.Reply.{Reply}
+use Rattle.stream.specs.State.{lastPlace, reserveOf}
+use Rattle.stream.specs.Replies.{refusedBy}
+use Rattle.stream.specs.Alone.{arrival, replies}
 use Rattle.header.specs.Header.{lengthFits}
 use Rattle.fitness.specs.Clauses.{priorFits}
 use Rattle.steps.specs.Call.{ticking}
 use Rattle.port_laws.specs.Counting.{actionOf}
-use Rattle.guarantee.specs.Events.{Sent, none, Event, action, broughtBy}
-use Rattle.guarantee.specs.Claims.{isTick, tickCount, reservedOctets, offer, answers}
-use Rattle.guarantee_examples.specs.Examples.{light, withheld, untagged, callsOf}
-use Rattle.guarantee_examples.specs.LeftOpen.{crowdedOpening, crowdedGrant, crowdedBefore, crowdedFrame, tooSoon, crowded, busyBefore, busyNextArrival, secondFrame, thirdFrame, sixAnswers, shortestFrame, unfitRecord}
+use Rattle.guarantee.specs.Events.{Sent, reservedSent, bestEffortSent, none, Event, action, broughtBy}
+use Rattle.guarantee.specs.Claims.{isTick, tickCount, reservedOctets, offer, isArriveOf, answers}
+use Rattle.guarantee_examples.specs.Examples.{busy, light, withheld, permitted200, untagged, callsOf}
+use Rattle.guarantee_examples.specs.LeftOpen.{crowdedOpening, crowdedGrant, crowdedBefore, crowdedPlace, crowdedFrame, tooSoon, crowded, busyBefore, busyNextArrival, busyWith, secondFrame, thirdFrame, busySecond, busyThird, purgesNone, sixAnswers, discards, queueFull, shortestFrame, unfitRecord, keptTag, numberTag}
 
 -- what event number n of a list sends, and what its call brings
 abbrev pub sentAt : List Event → ℕ → Sent
@@ -28,6 +32,36 @@ accepted s = sumOf (λ e. cond (eqb (e .reply .refusal) 0) (offer s (action e)) 
 
 abbrev pub purged : List Event → ℕ
 purged = sumOf (λ e. cond (isTick (action e)) (e .reply .second) 0)
+
+-- the reserved frames that are accepted on a stream, that are sent, and that ticks purge
+abbrev pub framesAccepted : ℕ → List Event → ℕ
+framesAccepted s = sumOf (λ e. cond (isArriveOf s (action e) && eqb (e .reply .refusal) 0) 1 0)
+
+abbrev framesOf : Sent → ℕ
+framesOf (reservedSent f) = 1
+framesOf (bestEffortSent f) = 0
+framesOf none = 0
+
+abbrev pub framesSent : List Event → ℕ
+framesSent = sumOf (λ e. framesOf (e .sent))
+
+abbrev pub framesPurged : List Event → ℕ
+framesPurged = sumOf (λ e. cond (isTick (action e)) (e .reply .first) 0)
+
+-- the reply to the one arrival of a stream by itself
+abbrev pub byRule : ℕ → ℕ → Reply
+byRule permitted charge = getD (replies lastPlace (reserveOf permitted) (arrival charge ∷ [])) 0 (refusedBy 0)
+
+-- the tag and the number of a reserved frame
+abbrev pub tagSent : Sent → ℕ
+tagSent (reservedSent f) = f .tag
+tagSent (bestEffortSent f) = 0
+tagSent none = 0
+
+abbrev pub numberSent : Sent → ℕ
+numberSent (reservedSent f) = f .number
+numberSent (bestEffortSent f) = 0
+numberSent none = 0
 
 pub record EventsAddUp : Type 0 where
   -- the frame that `light` sends first is that of its fourth call
@@ -46,3 +80,12 @@ pub record EventsAddUp : Type 0 where
   pub shortest-fits : lengthFits (untagged shortestFrame) ≡ true
   -- the queue that is prior in the unfit record is none
   pub unfit-prior : priorFits unfitRecord ≡ false
+  -- the frame of `crowded` joins the queue that the rule of its stream alone chooses
+  pub crowded-joins : crowdedPlace ≡ byRule 200 120 .first
+  -- no frame of `busy` is lost: those accepted are sent or purged
+  pub busy-frames : framesAccepted 5 (busyWith busySecond busyThird purgesNone) ≡ framesSent busy + framesPurged (busyWith busySecond busyThird purgesNone)
+  -- a full queue is no discard
+  pub full-no-discard : eqb queueFull discards ≡ false
+  -- the tags that the memories keep are that of the call which brought the frame, and its number
+  pub tag-of-call : keptTag ≡ tagSent (broughtAt permitted200 2)
+  pub number-of-call : numberTag ≡ numberSent (broughtAt permitted200 2)

@@ -22,7 +22,7 @@ use Rattle.guarantee.specs.Events.{Sent, reservedSent, Made, bothRuns, Event, e
 use Rattle.guarantee.specs.Claims.{LinkCondition, Sends, SentBefore, OffersWithin}
 use Rattle.guarantee.specs.Demand3.{runsOf}
 use Rattle.guarantee_examples.specs.Examples.{Happens, untagged, busy, permitted200, permitted100, callsOf}
-use Rattle.guarantee_examples.specs.LeftOpen.{transmitted, laterCalls, crowdedBefore, crowdedToSecondTick, crowdedAfter, crowdedWith, crowdedPlace, crowdedFrame, tooSoon, crowdedThird, crowded, busyLastArrival, busyAfter, busyWith, secondFrame, thirdFrame, busySecond, busyThird, purgesNone, nearlyWith, nearly, aloneCalls, aloneWith, sixAnswers, alone, arrivedWith, discards, tooShort, unfit, queueFull, shortestFrame, unfitRecord}
+use Rattle.guarantee_examples.specs.LeftOpen.{transmitted, laterCalls, crowdedBefore, crowdedToSecondTick, crowdedAfter, crowdedWith, crowdedPlace, crowdedFrame, tooSoon, crowdedThird, crowded, busyLastArrival, busyAfter, busyWith, secondFrame, thirdFrame, busySecond, busyThird, purgesNone, nearlyWith, nearly, aloneCalls, aloneWith, sixAnswers, alone, arrivedWith, discards, tooShort, unfit, queueFull, shortestFrame, unfitRecord, keptTag, numberTag}
 
 -- where the tag of current's first frame ends at opening, when current is queue 1
 abbrev pub tagOctet : ℕ
@@ -39,8 +39,8 @@ pub record OpenPartsHappen : Type 0 where
 
 -- the last octet of the frame's tag in the memory of each run of `permitted200`: the caller's tag, and the call's number
 pub record TagsKept : Type 0 where
-  pub own-tag : map (λ (x : Made). getD (x .real .memory) tagOctet 0) (bothRuns called (callsOf permitted200) freshRecord freshMemory) ≡ 0 ∷ 0 ∷ 7 ∷ []
-  pub shown-tag : map (λ (x : Made). getD (x .shown .memory) tagOctet 0) (bothRuns called (callsOf permitted200) freshRecord freshMemory) ≡ 0 ∷ 0 ∷ 2 ∷ []
+  pub own-tag : map (λ (x : Made). getD (x .real .memory) tagOctet 0) (bothRuns called (callsOf permitted200) freshRecord freshMemory) ≡ 0 ∷ 0 ∷ keptTag ∷ []
+  pub shown-tag : map (λ (x : Made). getD (x .shown .memory) tagOctet 0) (bothRuns called (callsOf permitted200) freshRecord freshMemory) ≡ 0 ∷ 0 ∷ numberTag ∷ []
 
 -- what follows from the fields of `demand-3`
 pub record DemandSays : Type 0 where

@@ -212,3 +212,10 @@ shortestFrame = 60
 -- a record that is unfit: closed, but its prior queue has a number that no queue for reserved traffic has
 abbrev pub unfitRecord : List ℕ
 unfitRecord = set freshRecord priorOffset queueCount
+
+-- the tag of the frame of `permitted200`, as the caller gave it, and where each tag is its call's number
+abbrev pub keptTag : ℕ
+keptTag = 7
+
+abbrev pub numberTag : ℕ
+numberTag = 2
