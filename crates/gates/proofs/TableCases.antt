@@ -1,7 +1,7 @@
 -- Each row of the table on a port just opened with L = 2,142 and K = 1 and stream 5 reserved with P = 200, in numbers. Assumes nothing.
 use Prim.Native.Nat.{ℕ}
 use mathlib.Core.Path.{_≡_, refl}
-use mathlib.Core.List.{List, [], _∷_}
+use mathlib.Core.List.{List}
 use lib.ListN.{replicate}
 use Rattle.lists.specs.Turns.{allTo, sumTo, listTo, iterate}
 use Rattle.lists.specs.Equal.{octetsEqual}

@@ -11,7 +11,8 @@ use Rattle.ranges.specs.Ranges.{shareOf}
 use Rattle.steps.specs.Call.{arriving, ticking}
 use Rattle.guarantee.specs.Events.{Sent, reservedSent, Event}
 use Rattle.guarantee.specs.Claims.{SameRecord, LinkCondition, PurgesNothing, SaysWhatItSends, Sends, Prompt, OffersWithin}
-use Rattle.guarantee_examples.specs.Examples.{replied, Happens, permitted200}
+use Rattle.guarantee.specs.Instances.{replied}
+use Rattle.guarantee_examples.specs.Examples.{Happens, permitted200}
 use Rattle.guarantee_examples.specs.LeftOpen.{transmitted, crowdedOpening, crowdedGrant, crowdedBefore, crowdedBetween, crowdedFourth, crowdedToSecondTick, crowdedAfter, crowdedWith, crowdedFrame, crowdedPlace, crowded, busyBefore, busyNextArrival, busyLastArrival, busyToThirdTick, busyToFourthTick, busyAfter, busyWith, thirdFrame, busySecond, busyThird, purgesNone, aloneWith, arrivedWith, discards, tooShort, unfit, queueFull}
 use Rattle.guarantee_examples.specs.Derived.{DemandSays}
 use Rattle.guarantee_examples.proofs.LinkTest.{link-holds}

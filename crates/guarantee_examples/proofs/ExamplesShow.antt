@@ -13,7 +13,8 @@ use Rattle.steps.specs.Call.{terms, opening, reserving, arriving, ticking}
 use Rattle.guarantee.specs.Events.{Marked, reservedSent, Event}
 use Rattle.guarantee.specs.Claims.{reservedOctets, Idle, LinkCondition, PurgesNothing, Sends, AllSentBefore}
 use Rattle.guarantee.proofs.CallLaws.{none-reserved}
-use Rattle.guarantee_examples.specs.Examples.{markedFrame, sending, replied, busy, light, withheld, silent}
+use Rattle.guarantee.specs.Instances.{markedFrame, replied}
+use Rattle.guarantee_examples.specs.Examples.{sending, busy, light, withheld, silent}
 use Rattle.guarantee_examples.specs.Shown.{ExamplesShow}
 use Rattle.guarantee_examples.proofs.LinkTest.{link-holds, none-idle}
 use Rattle.guarantee_examples.proofs.ExamplesHappen.{all-happen}

@@ -28,7 +28,8 @@ use Rattle.guarantee.specs.Claims.{reservedOctets, Idle, LinkCondition, PurgesN
 use Rattle.guarantee.specs.Beyond.{SentByReply}
 use Rattle.guarantee.specs.Demand3.{Promised}
 use Rattle.guarantee.proofs.Theorem.{promised-by-less, sent-as-replied, quick-events}
-use Rattle.guarantee_examples.specs.Examples.{replied, Happens, untagged}
+use Rattle.guarantee.specs.Instances.{replied}
+use Rattle.guarantee_examples.specs.Examples.{Happens, untagged}
 use Rattle.guarantee_examples.specs.LeftOpen.{transmitted, busyBefore, busyNextArrival, busyLastArrival, busyToSecondTick, busyToThirdTick, busyAfter, busyWith, secondFrame, busySecond, busyThird, purgesNone, nearlyBefore, nearlyEpoch, nearlyWith, nearly, crowded, aloneCalls, alone, unfitRecord, shortestFrame}
 use Rattle.guarantee_examples.specs.Derived.{OpenPartsHappen, TheoremsSay}
 use Rattle.guarantee_examples.proofs.LinkTest.{links, link-holds, none-idle}

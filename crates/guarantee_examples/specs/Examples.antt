@@ -14,20 +14,15 @@ use Rattle.steps.specs.Outcome.{Outcome, outcome}
 use Rattle.sending.specs.Sending.{nothing}
 use Rattle.steps.specs.Call.{terms, Call, opening, reserving, arriving, ticking, transmitting, joiningBestEffort, binding, framing}
 use Rattle.port.specs.Calls.{called}
-use Rattle.guarantee.specs.Events.{Marked, Sent, reservedSent, bestEffortSent, none, isTransmit, Event}
+use Rattle.guarantee.specs.Events.{Sent, reservedSent, bestEffortSent, none, isTransmit, Event}
 use Rattle.port_laws.specs.Counting.{actionOf}
 use Rattle.guarantee.specs.Claims.{replyOfSent}
+use Rattle.guarantee.specs.Instances.{replied, markedFrame, sentEvent}
 use Rattle.guarantee.specs.Demand3.{CallList, eventsIn}
 
--- an event that sends nothing, and a transmit that sends the frame of a call
-abbrev pub replied : Call → Reply → Event
-replied c reply = record { call = c; reply = reply; shown = reply; sent = none }
-
-abbrev pub markedFrame : ℕ → ℕ → ℕ → ℕ → Marked
-markedFrame stream charge tag number = record { stream = stream; charge = charge; tag = tag; number = number }
-
+-- a transmit that sends the frame of a call
 abbrev pub sending : Sent → Reply → Event
-sending sent reply = record { call = transmitting; reply = reply; shown = replyOfSent (λ f. f .number) sent; sent = sent }
+sending sent reply = sentEvent sent reply (replyOfSent (λ f. f .number) sent)
 
 -- these are the events of a list of calls
 pub record Happens (es : List Event) : Type 0 where

@@ -9,7 +9,8 @@ use Rattle.record.specs.Layout.{priorOffset, queueCount}
 use Rattle.steps.specs.Call.{terms, Call, opening, reserving, arriving, ticking, transmitting, joiningBestEffort, binding, framing}
 use Rattle.port_laws.specs.Lists.{freshRecord}
 use Rattle.guarantee.specs.Events.{Marked, Sent, reservedSent, none, Event}
-use Rattle.guarantee_examples.specs.Examples.{replied, markedFrame, sending, address, taggedTo, callsOf}
+use Rattle.guarantee.specs.Instances.{replied, markedFrame}
+use Rattle.guarantee_examples.specs.Examples.{sending, address, taggedTo, callsOf}
 
 -- a transmit of which it is open what it sends, what it replies, and what it replies where each tag is its call's number
 abbrev pub transmitted : Sent → Reply → Reply → Event

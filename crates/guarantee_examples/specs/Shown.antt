@@ -9,7 +9,8 @@ use Rattle.steps.specs.Call.{reserving, arriving, ticking}
 use Rattle.port_laws.specs.Lists.{freshRecord, freshMemory}
 use Rattle.guarantee.specs.Events.{events}
 use Rattle.guarantee.specs.Claims.{reservedOctets, Idle, LinkCondition, PurgesNothing, SentBefore, AllSentBefore, offers, remaining, grants, answers}
-use Rattle.guarantee_examples.specs.Examples.{markedFrame, Happens, busy, light, afterArrival, withheld, permitted200, permitted100, framed, silently, silent, callsOf}
+use Rattle.guarantee.specs.Instances.{markedFrame}
+use Rattle.guarantee_examples.specs.Examples.{Happens, busy, light, afterArrival, withheld, permitted200, permitted100, framed, silently, silent, callsOf}
 
 -- each example is what happens in a list of calls, the last one by the machine whose transmit says nothing
 pub record AllHappen : Type 0 where

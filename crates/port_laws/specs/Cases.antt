@@ -1,5 +1,6 @@
 -- Document 01's cases C1 to C12, each as calls on a port never opened, and what they reply. Stream 5 with P = 200, L = 2,142, K = 1, unless said
 -- otherwise.
+use Prim.Native.Nat.{ℕ}
 use mathlib.Core.List.{List, [], _∷_, _++_}
 use lib.ListN.{replicate}
 use Rattle.stream.specs.declared.Reply.{Reply}
