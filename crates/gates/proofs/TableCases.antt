@@ -1,7 +1,7 @@
--- Each row of the table on a port just opened with L = 2,142 and K = 1 and stream 5 reserved with P = 200, in numbers. Assumes nothing.
+-- Each row of the table in numbers, on a port that is open with L = 2,142 and K = 1 and has stream 5 reserved with P = 200. Assumes nothing.
 use Prim.Native.Nat.{ℕ}
 use mathlib.Core.Path.{_≡_, refl}
-use mathlib.Core.List.{List}
+use mathlib.Core.List.{List, [], _∷_, _++_}
 use lib.ListN.{replicate}
 use Rattle.lists.specs.Turns.{allTo, sumTo, listTo, iterate}
 use Rattle.lists.specs.Equal.{octetsEqual}
@@ -10,13 +10,12 @@ use Rattle.stream.specs.Steps.{attempt, arriveOf, tickOf}
 use Rattle.queue.specs.Place.{frameAt, withFrame}
 use Rattle.queue.specs.Ring.{joinedMemory, frontOf}
 use Rattle.queue.specs.Waiting.{waiting}
-use Rattle.record.specs.Layout.{recordLength, memoryLength}
 use Rattle.record.specs.Head.{openAt, withOpen, priorAt, withPrior, delayAt, withDelay, linkAt, withLink, waitsAt, withWaits, queueAt, withQueue}
 use Rattle.record.specs.Entry.{streamAt, withStream, withPlace, boundAt, vidAt, addressAt, withBinding, dropped}
 use Rattle.header.specs.Header.{chargeOf, lengthFits, taggedFrame, vidOf}
 use Rattle.steps.specs.Call.{terms, Call, opening, reserving, arriving, ticking, transmitting, joiningBestEffort, binding, framing}
 use Rattle.steps.specs.Roles.{roleAt}
-use Rattle.opening.specs.Opening.{openedRecord, reservedRecord}
+use Rattle.opening.specs.Opening.{openedRecord}
 use Rattle.arriving.specs.Arriving.{arriveStep}
 use Rattle.ticking.specs.Ticking.{tickedRecord, tickStep}
 use Rattle.sending.specs.Sending.{transmitStep}
@@ -26,22 +25,19 @@ use Rattle.gates.specs.Refusals.{openRefusal, reserveRefusal, arriveRefu
 use Rattle.gates.specs.FrameRefusals.{bindRefusal, frameRefusal}
 use Rattle.gates.specs.Table.{refusalOf, stepOf}
 
--- the record and the memory
+-- its record up to the entry of stream 5, all that is read here: open, prior 0, K and L, then reserved at current with 200 octets left of 200
 abbrev port : List ℕ
-port = reservedRecord (openedRecord (replicate recordLength 0) (terms 2142 1)) 5 200
-
-abbrev room : List ℕ
-room = replicate memoryLength 0
+port = (1 ∷ 0 ∷ 1 ∷ 0 ∷ 0 ∷ 0 ∷ 8 ∷ 94 ∷ []) ++ (replicate {A = ℕ} 136 0 ++ (1 ∷ 1 ∷ 0 ∷ 200 ∷ 0 ∷ 200 ∷ []))
 
 -- what a call with these arguments refuses there, and the numbers that its step replies
 abbrev refuses : Call → ℕ
 refuses c = refusalOf c port
 
 abbrev first : Call → ℕ
-first c = stepOf c port room .reply .first
+first c = stepOf c port [] .reply .first
 
 abbrev second : Call → ℕ
-second c = stepOf c port room .reply .second
+second c = stepOf c port [] .reply .second
 
 -- Open is refused as open already, and its step replies the share
 open-refuses : refuses (opening (terms 2142 1)) ≡ 2
@@ -52,12 +48,12 @@ open-replies : first (opening (terms 2142 1)) ≡ 600
 unfolding allTo sumTo listTo iterate twoOf fourOf attempt arriveOf tickOf frameAt withFrame joinedMemory frontOf waiting openAt withOpen priorAt withPrior delayAt withDelay linkAt withLink waitsAt withWaits queueAt withQueue streamAt withStream withPlace boundAt vidAt addressAt withBinding dropped roleAt openedRecord arriveStep tickedRecord tickStep transmitStep bestEffortStep openRefusal reserveRefusal arriveRefusal closedRefusal bestEffortRefusal bindRefusal frameRefusal lookupFrom lookup frameLookup octetsEqual chargeOf lengthFits taggedFrame vidOf
 open-replies = refl
 
--- Reserve of a reserved stream, and the share still free after another one of 100
+-- Reserve of a reserved stream, and the P that the step writes
 reserve-refuses : refuses (reserving 5 200) ≡ 6
 unfolding allTo sumTo listTo iterate twoOf fourOf attempt arriveOf tickOf frameAt withFrame joinedMemory frontOf waiting openAt withOpen priorAt withPrior delayAt withDelay linkAt withLink waitsAt withWaits queueAt withQueue streamAt withStream withPlace boundAt vidAt addressAt withBinding dropped roleAt openedRecord arriveStep tickedRecord tickStep transmitStep bestEffortStep openRefusal reserveRefusal arriveRefusal closedRefusal bestEffortRefusal bindRefusal frameRefusal lookupFrom lookup frameLookup octetsEqual chargeOf lengthFits taggedFrame vidOf
 reserve-refuses = refl
 
-reserve-replies : first (reserving 6 100) ≡ 300
+reserve-replies : streamAt (stepOf (reserving 5 100) port [] .port) 5 .permitted ≡ 100
 unfolding allTo sumTo listTo iterate twoOf fourOf attempt arriveOf tickOf frameAt withFrame joinedMemory frontOf waiting openAt withOpen priorAt withPrior delayAt withDelay linkAt withLink waitsAt withWaits queueAt withQueue streamAt withStream withPlace boundAt vidAt addressAt withBinding dropped roleAt openedRecord arriveStep tickedRecord tickStep transmitStep bestEffortStep openRefusal reserveRefusal arriveRefusal closedRefusal bestEffortRefusal bindRefusal frameRefusal lookupFrom lookup frameLookup octetsEqual chargeOf lengthFits taggedFrame vidOf
 reserve-replies = refl
 
