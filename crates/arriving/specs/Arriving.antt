@@ -7,11 +7,11 @@ use Rattle.stream.specs.declared.Stream.{Stream}
 use Rattle.stream.specs.declared.Arrival.{Arrival}
 use Rattle.stream.specs.declared.Reply.{Reply}
 use Rattle.stream.specs.declared.Arrival.the-variants.{Joined, Discarded}
-use Rattle.stream.specs.State.{lastPlace}
 use Rattle.stream.specs.Steps.{arriveOf}
 use Rattle.stream.specs.Replies.{replyOf}
 use Rattle.queue.specs.declared.Frame.{Frame}
 use Rattle.queue.specs.Ring.{placeCount, joinedMemory, joinedQueue}
+use Rattle.record.specs.Queues.{lastPlaceAt}
 use Rattle.record.specs.Head.{queueAt, withQueue}
 use Rattle.record.specs.Entry.{streamAt}
 use Rattle.steps.specs.Outcome.{Outcome, outcome, refused}
@@ -36,5 +36,5 @@ arrived p m s f reply (Discarded spent) = outcome reply (moved p s spent) m
 -- Arrive(s, a, tag), with document 01's reply to what the rule says
 unfoldable pub arriveStep : List ℕ → List ℕ → ℕ → ℕ → ℕ → Outcome
 arriveStep p m s a tag =
-    let answer = arriveOf lastPlace (streamAt p s) a in
+    let answer = arriveOf (lastPlaceAt p) (streamAt p s) a in
     arrived p m s (record { stream = s; charge = a; tag = tag }) (replyOf answer) answer

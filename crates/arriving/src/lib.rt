@@ -4,9 +4,10 @@ use stream::Arrival;
 use stream::Reply;
 use stream::Stream;
 ghost use mathlib.Core.Path.{_≡_};
-ghost use Prim.Native.Nat.{_≤_, _<_};
-ghost use lib.ListN.{length};
-ghost use Rattle.record.specs.Layout.{Whole, streamCount, queueCount, memoryLength};
+ghost use Prim.Native.Nat.{_<_};
+ghost use Rattle.queue.specs.Ring.{HasPart};
+ghost use Rattle.record.specs.Layout.{Whole, streamCount, queueRoom};
+ghost use Rattle.record.specs.Queues.{HasMemory};
 ghost use Rattle.steps.specs.Outcome.{outcome};
 ghost use Rattle.arriving.specs.Arriving.{joinedInto, arriveStep};
 
@@ -23,7 +24,7 @@ fn join(
     number: u8,
     frame: Frame,
 ) -> Reply
-    requires { ⌜ Whole (now port) × ((memoryLength ≤ length (now memory)) × ((stream < streamCount) × (number < queueCount))) ⌝ }
+    requires { ⌜ Whole (now port) × (HasPart (now memory) number × ((stream < streamCount) × (number < queueRoom))) ⌝ }
     ensures { λ r. ⌜ outcome r (now (port .exit)) (now (memory .exit)) ≡ joinedInto (now (port .entry)) (now (memory .entry)) stream reply next number frame ⌝ }
 {
     let queue = record::head::queue_at(port, number);
@@ -38,7 +39,7 @@ fn join(
 
 // Arrive(s, a, tag).
 pub fn arrive(port: &mut [u8], memory: &mut [u8], stream: u8, charge: u16, tag: u32) -> Reply
-    requires { ⌜ Whole (now port) × ((memoryLength ≤ length (now memory)) × (stream < streamCount)) ⌝ }
+    requires { ⌜ Whole (now port) × (HasMemory (now port) (now memory) × (stream < streamCount)) ⌝ }
     ensures { λ r. ⌜ outcome r (now (port .exit)) (now (memory .exit)) ≡ arriveStep (now (port .entry)) (now (memory .entry)) stream charge tag ⌝ }
 {
     let frame = Frame {
@@ -46,11 +47,12 @@ pub fn arrive(port: &mut [u8], memory: &mut [u8], stream: u8, charge: u16, tag: 
         charge,
         tag,
     };
-    let arrival = record::entry::stream_at(port, stream).arrive(charge);
+    let roles = steps::roles_of(port);
+    let arrival = record::entry::stream_at(port, stream).arrive(roles.queues - 1, charge);
     let reply = arrival.reply();
     match arrival {
         Arrival::Joined(place, next) => {
-            let number = steps::in_role(port, place);
+            let number = steps::in_role(roles, place);
             join(port, memory, stream, reply, next, number, frame)
         }
         Arrival::Discarded(spent) => {

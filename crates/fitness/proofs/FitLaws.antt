@@ -1,5 +1,5 @@
 -- What a fit record has, clause by clause, as facts that a proof uses; and so what refusals 18 and 19 ask. Assumes nothing.
-use Prim.Native.Nat.{ℕ, _≤_, _<_}
+use Prim.Native.Nat.{ℕ, _+_, _<_, _≤_}
 use mathlib.Core.Path.{_≡_, refl, ap₂}
 use mathlib.Core.Bool.{Bool, true, false, _&&_, cond}
 use mathlib.Core.List.{List}
@@ -10,7 +10,8 @@ use borrow.Author.Tests.{leb-true, ltb-true, ltb-false, eqb-true, le-leb, lt-ltb
 use Rattle.lists.specs.Turns.{allTo, allOf}
 use Rattle.lists.proofs.TurnLaws.{both, allTo-at, allTo-all}
 use Rattle.queue.specs.Waiting.{waiting, chargesOf}
-use Rattle.record.specs.Layout.{queueCount, bestEffort, allQueues, streamCount, recordLength, memoryLength}
+use Rattle.record.specs.Layout.{streamCount, recordLength, memoryLength}
+use Rattle.record.specs.Queues.{queuesAt, lastPlaceAt, bestEffortAt, HasMemory}
 use Rattle.record.specs.Head.{openAt, priorAt, delayAt, linkAt, waitsAt, queueAt}
 use Rattle.record.specs.Entry.{streamAt}
 use Rattle.ranges.specs.Ranges.{shareOf, linkFits, delayFits}
@@ -22,12 +23,12 @@ use Rattle.fitness.proofs.TestLaws.{if-asked}
 -- the clauses, in their order
 pub record Fit (p m : List ℕ) : Type 0 where
   pub long : recordLength ≤ length p
-  pub prior : priorAt p < queueCount
-  pub queues : (q : ℕ) → q < allQueues → queueFits (queueAt p q) ≡ true
-  pub streams : (s : ℕ) → s < streamCount → streamFits (streamAt p s) ≡ true
+  pub prior : priorAt p < queuesAt p
+  pub queues : (q : ℕ) → q < queuesAt p + 1 → queueFits (queueAt p q) ≡ true
+  pub streams : (s : ℕ) → s < streamCount → streamFits (lastPlaceAt p) (streamAt p s) ≡ true
   pub bindings : (s : ℕ) → s < streamCount → bindingFits p s (unlikeEarlier p s) ≡ true
-  pub frames : (q : ℕ) → q < allQueues → allOf (frameFits q) (waiting m q (queueAt p q)) ≡ true
-  pub waits : waitsAt p ≡ chargesOf (waiting m bestEffort (queueAt p bestEffort))
+  pub frames : (q : ℕ) → q < queuesAt p + 1 → allOf (frameFits (bestEffortAt p) q) (waiting m q (queueAt p q)) ≡ true
+  pub waits : waitsAt p ≡ chargesOf (waiting m (bestEffortAt p) (queueAt p (bestEffortAt p)))
   pub plan : openFits p ≡ true
 
 -- a record that passes the test is fit
@@ -43,12 +44,12 @@ fit-record p m h =
     let to-long = both (leb recordLength (length p)) (priorFits p) (to-prior .0) in
     record {
       long = leb-true recordLength (length p) (to-long .0);
-      prior = ltb-true (priorAt p) queueCount (to-long .1);
-      queues = λ q b. allTo-at (λ i. queueFits (queueAt p i)) allQueues q b (to-prior .1);
-      streams = λ s b. allTo-at (λ i. streamFits (streamAt p i)) streamCount s b (to-queues .1);
+      prior = ltb-true (priorAt p) (queuesAt p) (to-long .1);
+      queues = λ q b. allTo-at (λ i. queueFits (queueAt p i)) (queuesAt p + 1) q b (to-prior .1);
+      streams = λ s b. allTo-at (λ i. streamFits (lastPlaceAt p) (streamAt p i)) streamCount s b (to-queues .1);
       bindings = λ s b. allTo-at (λ i. bindingFits p i (unlikeEarlier p i)) streamCount s b (to-streams .1);
-      frames = λ q b. allTo-at (λ i. allOf (frameFits i) (waiting m i (queueAt p i))) allQueues q b (to-bindings .1);
-      waits = eqb-true (waitsAt p) (chargesOf (waiting m bestEffort (queueAt p bestEffort))) (to-frames .1);
+      frames = λ q b. allTo-at (λ i. allOf (frameFits (bestEffortAt p) i) (waiting m i (queueAt p i))) (queuesAt p + 1) q b (to-bindings .1);
+      waits = eqb-true (waitsAt p) (chargesOf (waiting m (bestEffortAt p) (queueAt p (bestEffortAt p)))) (to-frames .1);
       plan = to-waits .1;
     }
 
@@ -61,11 +62,11 @@ record-fit p m f =
     (ap₂ _&&_
     (ap₂ _&&_
     (ap₂ _&&_
-    (ap₂ _&&_ (ap₂ _&&_ (le-leb recordLength (length p) (f .long)) (lt-ltb (priorAt p) queueCount (f .prior))) (allTo-all _ allQueues (f .queues)))
+    (ap₂ _&&_ (ap₂ _&&_ (le-leb recordLength (length p) (f .long)) (lt-ltb (priorAt p) (queuesAt p) (f .prior))) (allTo-all _ (queuesAt p + 1) (f .queues)))
     (allTo-all _ streamCount (f .streams)))
     (allTo-all _ streamCount (f .bindings)))
-    (allTo-all _ allQueues (f .frames)))
-    (eq-eqb (waitsAt p) (chargesOf (waiting m bestEffort (queueAt p bestEffort))) (f .waits)))
+    (allTo-all _ (queuesAt p + 1) (f .frames)))
+    (eq-eqb (waitsAt p) (chargesOf (waiting m (bestEffortAt p) (queueAt p (bestEffortAt p)))) (f .waits)))
     (f .plan)
 
 -- the last clause on an open port, as facts
@@ -97,16 +98,16 @@ plan-fit p plan =
     (le-leb (permittedSum p) (shareOf (linkAt p)) (plan .sum)))
 
 -- neither 18 nor 19: the memory has its places, and the record passes the test
-pub lent-fit : (p m : List ℕ) → lentRefusal p m ≡ 0 → (memoryLength ≤ length m) × (recordFits p m ≡ true)
+pub lent-fit : (p m : List ℕ) → lentRefusal p m ≡ 0 → (HasMemory p m) × (recordFits p m ≡ true)
 unfolding lentRefusal
-lent-fit p m h = told (ltb (length m) memoryLength) (recordFits p m) refl refl h
+lent-fit p m h = told (ltb (length m) (memoryLength (queuesAt p))) (recordFits p m) refl refl h
   where
-    told : (short fit : Bool) → ltb (length m) memoryLength ≡ short → recordFits p m ≡ fit → _≡_ {A = ℕ} (cond short 18 (cond fit 0 19)) 0
-        → (memoryLength ≤ length m) × (recordFits p m ≡ true)
+    told : (short fit : Bool) → ltb (length m) (memoryLength (queuesAt p)) ≡ short → recordFits p m ≡ fit → _≡_ {A = ℕ} (cond short 18 (cond fit 0 19)) 0
+        → (HasMemory p m) × (recordFits p m ≡ true)
     told true fit a b e = absurd (omega arith)
-    told false true a b e = (ltb-false (length m) memoryLength a, b)
+    told false true a b e = (ltb-false (length m) (memoryLength (queuesAt p)) a, b)
     told false false a b e = absurd (omega arith)
 
-pub fit-lent : (p m : List ℕ) → memoryLength ≤ length m → recordFits p m ≡ true → lentRefusal p m ≡ 0
+pub fit-lent : (p m : List ℕ) → HasMemory p m → recordFits p m ≡ true → lentRefusal p m ≡ 0
 unfolding lentRefusal
-fit-lent p m long fit = rw (le-ltb (length m) memoryLength long, fit)
+fit-lent p m long fit = rw (le-ltb (length m) (memoryLength (queuesAt p)) long, fit)

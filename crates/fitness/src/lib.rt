@@ -7,10 +7,9 @@ pub mod streams;
 
 ghost use mathlib.Core.Path.{_≡_};
 ghost use mathlib.Core.Bool.{_&&_};
-ghost use Prim.Native.Nat.{_≤_};
-ghost use lib.ListN.{length};
-ghost use Rattle.record.specs.Layout.{Whole, memoryLength};
-ghost use Rattle.fitness.specs.Clauses.{waitsFit, planFits, openFits};
+ghost use Rattle.record.specs.Layout.{Whole};
+ghost use Rattle.record.specs.Queues.{HasMemory};
+ghost use Rattle.fitness.specs.Clauses.{priorFits, waitsFit, planFits, openFits};
 ghost use Rattle.fitness.specs.Fit.{recordFits, lentRefusal};
 
 // The refusals of a memory that is too short and of a record that is unfit.
@@ -28,13 +27,22 @@ fn both(one: bool, other: bool) -> bool
     false
 }
 
+// Whether prior is one of the queues for reserved traffic.
+fn prior_fits(port: &[u8]) -> bool
+    requires { ⌜ Whole (now port) ⌝ }
+    ensures { λ r. ⌜ r ≡ priorFits (now (port .entry)) ⌝ }
+{
+    record::head::prior(port) < record::head::queues(port)
+}
+
 // Whether W is the sum of the charges waiting in best effort.
 fn waits_fit(port: &[u8], memory: &[u8]) -> bool
-    requires { ⌜ Whole (now port) × (memoryLength ≤ length (now memory)) ⌝ }
+    requires { ⌜ Whole (now port) × HasMemory (now port) (now memory) ⌝ }
     ensures { λ r. ⌜ r ≡ waitsFit (now (port .entry)) (now (memory .entry)) ⌝ }
 {
-    let queue = record::head::queue_at(port, record::BEST_EFFORT);
-    record::head::waits(port) == queue::charges(memory, record::BEST_EFFORT, queue)
+    let best = record::head::queues(port);
+    let queue = record::head::queue_at(port, best);
+    record::head::waits(port) == queue::charges(memory, best, queue)
 }
 
 // Whether L, K, every P and their sum are in their ranges.
@@ -67,13 +75,13 @@ fn open_fits(port: &[u8]) -> bool
 
 // Whether the record is fit, clause by clause.
 fn record_fits(port: &[u8], memory: &[u8]) -> bool
-    requires { ⌜ memoryLength ≤ length (now memory) ⌝ }
+    requires { ⌜ HasMemory (now port) (now memory) ⌝ }
     ensures { λ r. ⌜ r ≡ recordFits (now (port .entry)) (now (memory .entry)) ⌝ }
 {
     if port.len() < record::RECORD_LENGTH {
         return false;
     }
-    if record::QUEUES <= record::head::prior(port) {
+    if !prior_fits(port) {
         return false;
     }
     if !queues::fit(port) {
@@ -98,7 +106,7 @@ fn record_fits(port: &[u8], memory: &[u8]) -> bool
 pub fn refusal(port: &[u8], memory: &[u8]) -> u8
     ensures { λ r. ⌜ r ≡ lentRefusal (now (port .entry)) (now (memory .entry)) ⌝ }
 {
-    if memory.len() < record::MEMORY_LENGTH {
+    if memory.len() < record::head::memory_length(port) {
         return SHORT_MEMORY;
     }
     if record_fits(port, memory) {

@@ -16,9 +16,10 @@ pub(crate) fn fit(port: &[u8]) -> bool
     requires { ⌜ Whole (now port) ⌝ }
     ensures { λ r. ⌜ r ≡ queuesFit (now (port .entry)) ⌝ }
 {
+    let best = record::head::queues(port);
     let mut ok = true;
     let mut q: u8 = 0;
-    while q < record::ALL_QUEUES {
+    while q <= best {
         ok = crate::both(queue_fits(record::head::queue_at(port, q)), ok);
         q += 1;
     }

@@ -7,19 +7,17 @@ ghost use Rattle.record.specs.Entry.{streamAt};
 ghost use Rattle.record.specs.Reservations.{permittedOf, permittedSum};
 ghost use Rattle.fitness.specs.Clauses.{streamFits, streamsFit, reservationFits};
 
-// The first and the last place, as the ranges take numbers.
+// The first place, as the ranges take numbers.
 const CURRENT: u32 = stream::CURRENT as u32;
 
-const LAST: u32 = stream::LAST as u32;
-
-// Whether the stream, if it is reserved, has a place and at most P left.
-fn stream_fits(stream: Stream) -> bool
-    ensures { λ r. ⌜ r ≡ streamFits stream ⌝ }
+// Whether the stream, if it is reserved, has a place up to the last and at most P left.
+fn stream_fits(last: u8, stream: Stream) -> bool
+    ensures { λ r. ⌜ r ≡ streamFits last stream ⌝ }
 {
     if !stream.reserved {
         return true;
     }
-    let placed = ranges::within(stream.place as u32, CURRENT, LAST);
+    let placed = ranges::within(stream.place as u32, CURRENT, last as u32);
     crate::both(placed, stream.left <= stream.permitted)
 }
 
@@ -28,10 +26,11 @@ pub(crate) fn fit(port: &[u8]) -> bool
     requires { ⌜ Whole (now port) ⌝ }
     ensures { λ r. ⌜ r ≡ streamsFit (now (port .entry)) ⌝ }
 {
+    let last = record::head::last_place(port);
     let mut ok = true;
     let mut s: u8 = 0;
     while s < record::STREAMS {
-        ok = crate::both(stream_fits(record::entry::stream_at(port, s)), ok);
+        ok = crate::both(stream_fits(last, record::entry::stream_at(port, s)), ok);
         s += 1;
     }
     ok

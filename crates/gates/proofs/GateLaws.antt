@@ -7,7 +7,8 @@ use native.Mathlib.Omega.{arith}
 use lib.Dec.{leb, ltb}
 use borrow.Author.Tests.{leb-false, ltb-false, not-false}
 use Rattle.queue.specs.Ring.{placeCount}
-use Rattle.record.specs.Layout.{bestEffort, streamCount}
+use Rattle.record.specs.Layout.{streamCount}
+use Rattle.record.specs.Queues.{bestEffortAt}
 use Rattle.record.specs.Head.{openAt, linkAt, waitsAt, queueAt}
 use Rattle.record.specs.Entry.{streamAt}
 use Rattle.ranges.specs.Ranges.{leastCharge, greatestCharge, greatestShare, greatestDelay, chargeFits, shareOf, linkFits, delayFits, permittedFits}
@@ -86,22 +87,22 @@ arrive-allowed p s charge e =
 pub record BestEffortAllowed (p : List ℕ) (charge : ℕ) : Type 0 where
   pub opened : openAt p ≡ true
   pub charge-fits : chargeFits charge ≡ true
-  pub free : queueAt p bestEffort .count < placeCount
+  pub free : queueAt p (bestEffortAt p) .count < placeCount
   pub limit : waitsAt p + charge ≤ bestEffortLimit p
 
 pub best-effort-allowed : (p : List ℕ) (charge : ℕ) → bestEffortRefusal p charge ≡ 0 → BestEffortAllowed p charge
 unfolding bestEffortRefusal
 best-effort-allowed p charge e =
     let above : ℕ = cond (ltb (bestEffortLimit p) (waitsAt p + charge)) 16 0 in
-    let full : ℕ = cond (leb placeCount (queueAt p bestEffort .count)) 15 above in
+    let full : ℕ = cond (leb placeCount (queueAt p (bestEffortAt p) .count)) 15 above in
     let a = past (not (openAt p)) 1 (cond (not (chargeFits charge)) 13 full) (omega arith) e in
     let b = past (not (chargeFits charge)) 13 full (omega arith) (a .1) in
-    let c = past (leb placeCount (queueAt p bestEffort .count)) 15 above (omega arith) (b .1) in
+    let c = past (leb placeCount (queueAt p (bestEffortAt p) .count)) 15 above (omega arith) (b .1) in
     let d = past (ltb (bestEffortLimit p) (waitsAt p + charge)) 16 0 (omega arith) (c .1) in
     record {
       opened = not-false (openAt p) (a .0);
       charge-fits = not-false (chargeFits charge) (b .0);
-      free = leb-false placeCount (queueAt p bestEffort .count) (c .0);
+      free = leb-false placeCount (queueAt p (bestEffortAt p) .count) (c .0);
       limit = ltb-false (bestEffortLimit p) (waitsAt p + charge) (d .0);
     }
 
@@ -129,5 +130,5 @@ module _ (r : ℕ) (p : List ℕ) (zero : r ≡ 0) where
     pub best-effort-charge : charge < 65536
     best-effort-charge = omega (arith, within-bounds leastCharge greatestCharge charge (best-effort-allowed p charge (sym e ∙ zero) .charge-fits) .1)
 
-    pub best-effort-free : queueAt p bestEffort .count < placeCount
+    pub best-effort-free : queueAt p (bestEffortAt p) .count < placeCount
     best-effort-free = best-effort-allowed p charge (sym e ∙ zero) .free

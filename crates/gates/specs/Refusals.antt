@@ -5,7 +5,8 @@ use mathlib.Core.Bool.{not, cond}
 use mathlib.Core.List.{List}
 use lib.Dec.{leb, ltb}
 use Rattle.queue.specs.Ring.{placeCount}
-use Rattle.record.specs.Layout.{bestEffort, streamCount}
+use Rattle.record.specs.Layout.{streamCount}
+use Rattle.record.specs.Queues.{bestEffortAt}
 use Rattle.record.specs.Head.{openAt, delayAt, linkAt, waitsAt, queueAt}
 use Rattle.record.specs.Entry.{streamAt}
 use Rattle.ranges.specs.Ranges.{chargeFits, shareOf, linkFits, delayFits, permittedFits}
@@ -49,5 +50,5 @@ unfoldable pub bestEffortRefusal : List ℕ → ℕ → ℕ
 bestEffortRefusal p charge =
     cond (not (openAt p)) 1
     (cond (not (chargeFits charge)) 13
-    (cond (leb placeCount (queueAt p bestEffort .count)) 15
+    (cond (leb placeCount (queueAt p (bestEffortAt p) .count)) 15
     (cond (ltb (bestEffortLimit p) (waitsAt p + charge)) 16 0)))

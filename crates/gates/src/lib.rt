@@ -6,7 +6,8 @@ use stream::Reply;
 ghost use mathlib.Core.Path.{_≡_};
 ghost use Prim.Native.Nat.{_≤_};
 ghost use lib.ListN.{length};
-ghost use Rattle.record.specs.Layout.{Whole, memoryLength, addressLength};
+ghost use Rattle.record.specs.Layout.{Whole, addressLength};
+ghost use Rattle.record.specs.Queues.{HasMemory};
 ghost use Rattle.steps.specs.Call.{terms};
 ghost use Rattle.steps.specs.Outcome.{outcome, performed};
 ghost use Rattle.opening.specs.Opening.{openStep, reserveStep};
@@ -45,7 +46,7 @@ pub fn reserve(port: &mut [u8], memory: &[u8], stream: u8, permitted: u32) -> Re
 
 // Arrive.
 pub fn arrive(port: &mut [u8], memory: &mut [u8], stream: u8, charge: u32, tag: u32) -> Reply
-    requires { ⌜ Whole (now port) × (memoryLength ≤ length (now memory)) ⌝ }
+    requires { ⌜ Whole (now port) × HasMemory (now port) (now memory) ⌝ }
     ensures { λ r. ⌜ outcome r (now (port .exit)) (now (memory .exit)) ≡ performed (λ p. arriveRefusal p stream charge) (λ p m. arriveStep p m stream charge tag) (now (port .entry)) (now (memory .entry)) ⌝ }
 {
     let refusal = refusals::arrive(port, stream, charge);
@@ -57,7 +58,7 @@ pub fn arrive(port: &mut [u8], memory: &mut [u8], stream: u8, charge: u32, tag: 
 
 // Tick.
 pub fn tick(port: &mut [u8], memory: &[u8]) -> Reply
-    requires { ⌜ Whole (now port) × (memoryLength ≤ length (now memory)) ⌝ }
+    requires { ⌜ Whole (now port) × HasMemory (now port) (now memory) ⌝ }
     ensures { λ r. ⌜ outcome r (now (port .exit)) (now (memory .entry)) ≡ performed closedRefusal tickStep (now (port .entry)) (now (memory .entry)) ⌝ }
 {
     let refusal = refusals::closed(port);
@@ -69,7 +70,7 @@ pub fn tick(port: &mut [u8], memory: &[u8]) -> Reply
 
 // Transmit.
 pub fn transmit(port: &mut [u8], memory: &[u8]) -> Reply
-    requires { ⌜ Whole (now port) × (memoryLength ≤ length (now memory)) ⌝ }
+    requires { ⌜ Whole (now port) × HasMemory (now port) (now memory) ⌝ }
     ensures { λ r. ⌜ outcome r (now (port .exit)) (now (memory .entry)) ≡ performed closedRefusal transmitStep (now (port .entry)) (now (memory .entry)) ⌝ }
 {
     let refusal = refusals::closed(port);
@@ -81,7 +82,7 @@ pub fn transmit(port: &mut [u8], memory: &[u8]) -> Reply
 
 // Best effort.
 pub fn best_effort(port: &mut [u8], memory: &mut [u8], charge: u32, tag: u32) -> Reply
-    requires { ⌜ Whole (now port) × (memoryLength ≤ length (now memory)) ⌝ }
+    requires { ⌜ Whole (now port) × HasMemory (now port) (now memory) ⌝ }
     ensures { λ r. ⌜ outcome r (now (port .exit)) (now (memory .exit)) ≡ performed (λ p. bestEffortRefusal p charge) (λ p m. bestEffortStep p m charge tag) (now (port .entry)) (now (memory .entry)) ⌝ }
 {
     let refusal = refusals::best_effort(port, charge);
@@ -105,7 +106,7 @@ pub fn bind(port: &mut [u8], memory: &[u8], stream: u8, address: &[u8], vid: u32
 
 // Frame.
 pub fn frame(port: &mut [u8], memory: &mut [u8], octets: &[u8], tag: u32) -> Reply
-    requires { ⌜ Whole (now port) × (memoryLength ≤ length (now memory)) ⌝ }
+    requires { ⌜ Whole (now port) × HasMemory (now port) (now memory) ⌝ }
     ensures { λ r. ⌜ outcome r (now (port .exit)) (now (memory .exit)) ≡ performed (λ p. frameRefusal p (now (octets .entry))) (λ p m. frameStep p m (now (octets .entry)) tag) (now (port .entry)) (now (memory .entry)) ⌝ }
 {
     let refusal = refusals::frame(port, octets);

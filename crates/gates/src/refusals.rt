@@ -5,7 +5,8 @@ ghost use Prim.Native.Nat.{_+_, _≤_, _<_};
 ghost use lib.ListN.{length};
 ghost use lib.Dec.{leb, ltb};
 ghost use Rattle.queue.specs.Ring.{placeCount};
-ghost use Rattle.record.specs.Layout.{Whole, bestEffort, addressLength};
+ghost use Rattle.record.specs.Layout.{Whole, addressLength};
+ghost use Rattle.record.specs.Queues.{bestEffortAt};
 ghost use Rattle.record.specs.Head.{linkAt, waitsAt, queueAt};
 ghost use Rattle.ranges.specs.Ranges.{shareOf};
 ghost use Rattle.record.specs.Reservations.{permittedSum};
@@ -143,9 +144,9 @@ fn best_effort_limit(port: &[u8]) -> u32
 // Whether as many frames wait in best effort as it has places.
 fn is_full(port: &[u8]) -> bool
     requires { ⌜ Whole (now port) ⌝ }
-    ensures { λ r. ⌜ r ≡ leb placeCount (queueAt (now (port .entry)) bestEffort .count) ⌝ }
+    ensures { λ r. ⌜ r ≡ leb placeCount (queueAt (now (port .entry)) (bestEffortAt (now (port .entry))) .count) ⌝ }
 {
-    queue::PLACES <= record::head::queue_at(port, record::BEST_EFFORT).count
+    queue::PLACES <= record::head::best_effort(port).count
 }
 
 // Whether W with this charge is above the limit. Where it is not, it is a number of 32 bits, since the limit is.

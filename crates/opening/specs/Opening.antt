@@ -1,11 +1,12 @@
 -- Open(L, K) and Reserve(s, P).
-use Prim.Native.Nat.{ℕ, _-_}
+use Prim.Native.Nat.{ℕ, _+_, _-_}
 use mathlib.Core.List.{List}
 use Rattle.lists.specs.Turns.{iterate}
 use Rattle.stream.specs.State.{reserveOf}
 use Rattle.stream.specs.Replies.{granted}
 use Rattle.queue.specs.Ring.{emptyQueue}
-use Rattle.record.specs.Layout.{allQueues, streamCount}
+use Rattle.record.specs.Layout.{streamCount}
+use Rattle.record.specs.Queues.{queuesAt}
 use Rattle.record.specs.Head.{linkAt, withOpen, withPrior, withDelay, withLink, withWaits, withQueue}
 use Rattle.record.specs.Entry.{withStream, dropped}
 use Rattle.ranges.specs.Ranges.{shareOf}
@@ -17,9 +18,9 @@ use Rattle.steps.specs.Outcome.{Outcome, outcome}
 abbrev pub openedHead : List ℕ → Terms → List ℕ
 openedHead p t = withWaits (withLink (withDelay (withPrior (withOpen p) 0) (t .delay)) (t .link)) 0
 
--- "empties all queues"
+-- "empties all queues", those for reserved traffic and best effort
 abbrev pub allEmptied : List ℕ → List ℕ
-allEmptied = iterate (λ q l. withQueue l q emptyQueue) allQueues
+allEmptied p = iterate (λ q l. withQueue l q emptyQueue) (queuesAt p + 1) p
 
 -- "drops all reservations and bindings"
 abbrev pub allDropped : List ℕ → List ℕ

@@ -27,8 +27,9 @@ fn empty_queues(port: &mut [u8])
     requires { ⌜ Whole (now port) ⌝ }
     ensures { λ _. ⌜ now (port .exit) ≡ allEmptied (now (port .entry)) ⌝ }
 {
+    let best = record::head::queues(port);
     let mut q: u8 = 0;
-    while q < record::ALL_QUEUES {
+    while q <= best {
         record::head::put_queue(port, q, Queue::empty());
         q += 1;
     }

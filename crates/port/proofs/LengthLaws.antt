@@ -8,6 +8,7 @@ use lib.ListN.{length}
 use lib.Dec.{ltb}
 use borrow.Author.Tests.{ltb-false}
 use Rattle.record.specs.Layout.{recordLength, memoryLength}
+use Rattle.record.specs.Queues.{queuesAt, HasMemory}
 use Rattle.fitness.specs.Fit.{lentRefusal}
 use Rattle.fitness.proofs.FitLaws.{fit-record, lent-fit}
 use borrow.Author.Needs.{needs}
@@ -18,14 +19,14 @@ use Rattle.port.specs.Quick.{lengthRefusal}
 -- record and memory are long enough
 pub record Long (p m : List ℕ) : Type 0 where
   pub whole : recordLength ≤ length p
-  pub room : memoryLength ≤ length m
+  pub room : HasMemory p m
 
 pub long-enough : (p m : List ℕ) → lengthRefusal p m ≡ 0 → Long p m
 unfolding lengthRefusal
 long-enough p m e =
-    let a = past (ltb (length m) memoryLength) 18 (cond (ltb (length p) recordLength) 19 0) (omega arith) e in
+    let a = past (ltb (length m) (memoryLength (queuesAt p))) 18 (cond (ltb (length p) recordLength) 19 0) (omega arith) e in
     let b = past (ltb (length p) recordLength) 19 0 (omega arith) (a .1) in
-    record { whole = ltb-false (length p) recordLength (b .0); room = ltb-false (length m) memoryLength (a .0) }
+    record { whole = ltb-false (length p) recordLength (b .0); room = ltb-false (length m) (memoryLength (queuesAt p)) (a .0) }
 
 -- so are a record and a memory that 18 and 19 do not refuse
 pub lent-enough : (p m : List ℕ) → lentRefusal p m ≡ 0 → Long p m
@@ -37,14 +38,14 @@ module _ (r : ℕ) (p m : List ℕ) (zero : r ≡ 0) where
     pub lent-record : recordLength ≤ length p
     lent-record = lent-enough p m (sym e ∙ zero) .whole
 
-    pub lent-memory : memoryLength ≤ length m
+    pub lent-memory : HasMemory p m
     lent-memory = lent-enough p m (sym e ∙ zero) .room
 
   module _ (e : r ≡ lengthRefusal p m) where
     pub long-record : recordLength ≤ length p
     long-record = long-enough p m (sym e ∙ zero) .whole
 
-    pub long-memory : memoryLength ≤ length m
+    pub long-memory : HasMemory p m
     long-memory = long-enough p m (sym e ∙ zero) .room
 
 -- what closes the needs of code that asks this and then makes the rest of the call

@@ -6,13 +6,14 @@ use mathlib.Core.List.{List}
 use lib.ListN.{length}
 use lib.Dec.{ltb}
 use Rattle.record.specs.Layout.{recordLength, memoryLength}
+use Rattle.record.specs.Queues.{queuesAt}
 use Rattle.steps.specs.Call.{Call}
 use Rattle.steps.specs.Outcome.{Outcome, gated, performed}
 use Rattle.gates.specs.Table.{refusalOf, stepOf}
 
 -- 18 where the memory is too short, 19 where the record is
 unfoldable pub lengthRefusal : List ℕ → List ℕ → ℕ
-lengthRefusal p m = cond (ltb (length m) memoryLength) 18 (cond (ltb (length p) recordLength) 19 0)
+lengthRefusal p m = cond (ltb (length m) (memoryLength (queuesAt p))) 18 (cond (ltb (length p) recordLength) 19 0)
 
 -- the quick call with these refusals of its own and this step
 abbrev pub unscanned : (List ℕ → ℕ) → (List ℕ → List ℕ → Outcome) → List ℕ → List ℕ → Outcome

@@ -18,7 +18,7 @@ ghost use Rattle.port.specs.Quick.{lengthRefusal, unscanned};
 fn lengths(port: &[u8], memory: &[u8]) -> u8
     ensures { λ r. ⌜ r ≡ lengthRefusal (now (port .entry)) (now (memory .entry)) ⌝ }
 {
-    if memory.len() < record::MEMORY_LENGTH {
+    if memory.len() < record::head::memory_length(port) {
         return fitness::SHORT_MEMORY;
     }
     if port.len() < record::RECORD_LENGTH {

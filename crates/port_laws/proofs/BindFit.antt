@@ -8,8 +8,10 @@ use native.Mathlib.Omega.{arith}
 use Rattle.lists.specs.Window.{get}
 use Rattle.lists.proofs.Order.{eq-or-not}
 use Rattle.lists.proofs.TurnLaws.{both, allTo-at, allTo-all}
-use Rattle.record.specs.Layout.{bestEffort, streamCount, addressLength}
+use Rattle.record.specs.Layout.{streamCount, addressLength}
+use Rattle.record.specs.Queues.{bestEffortAt}
 use Rattle.record.specs.Entry.{streamAt, boundAt, vidAt, addressAt, samePair, withBinding}
+use Rattle.record.proofs.QueueLaws.{queues-most, queues-binding}
 use Rattle.record.proofs.BindingPairs.{length-binding, open-binding, prior-binding, delay-binding, link-binding, waits-binding, queue-binding, stream-binding, bound-binding, vid-binding, address-binding, other-bound-binding, other-vid-binding, other-address-binding}
 use Rattle.record.proofs.PairLaws.{pair-back}
 use Rattle.ranges.specs.Ranges.{vidFits}
@@ -90,15 +92,16 @@ pub bind-fits : (p m : List ℕ) (s : ℕ) (address : List ℕ) (vid : ℕ) → 
 bind-fits p m s address vid h below reserved range free =
     let fit = fit-record p m h in
     let k = withBinding p s address vid in
+    let same = queues-binding p s address vid in
     record-fit k m
     (record {
       long = omega (arith, length-binding p s address vid, fit .long);
-      prior = omega (arith, prior-binding p s address vid, fit .prior);
-      queues = λ q c. rw (queue-binding p s address vid q (omega arith)) (fit .queues q c);
-      streams = λ t c. rw (stream-binding p s address vid t) (fit .streams t c);
+      prior = omega (arith, prior-binding p s address vid, same, fit .prior);
+      queues = λ q c. rw (queue-binding p s address vid q (omega (arith, queues-most k))) (fit .queues q (omega (arith, same)));
+      streams = λ t c. rw (same, stream-binding p s address vid t) (fit .streams t c);
       bindings = bindings-fit p m fit s address vid below free reserved range;
-      frames = λ q c. rw (queue-binding p s address vid q (omega arith)) (fit .frames q c);
-      waits = rw (waits-binding p s address vid, queue-binding p s address vid bestEffort (omega arith)) (fit .waits);
+      frames = λ q c. rw (same, queue-binding p s address vid q (omega (arith, queues-most k))) (fit .frames q (omega (arith, same)));
+      waits = rw (same, waits-binding p s address vid, queue-binding p s address vid (bestEffortAt p) (omega (arith, queues-most p))) (fit .waits);
       plan =
           plan-stays p k (λ t c. same-stream _ _ (stream-binding p s address vid t)) (open-binding p s address vid) (link-binding p s address vid) (delay-binding p s address vid)
           (fit .plan);

@@ -7,7 +7,7 @@ use mathlib.Core.List.{List, [], _∷_}
 use lib.ListN.{getD, replicate}
 use lib.Dec.{ltb}
 use Rattle.stream.specs.declared.Reply.{Reply}
-use Rattle.stream.specs.State.{lastPlace, reserveOf}
+use Rattle.stream.specs.State.{leastQueues, reserveOf}
 use Rattle.stream.specs.Steps.{attempt, arriveOf, tickOf}
 use Rattle.stream.specs.Replies.{refusedBy}
 use Rattle.stream.specs.Alone.{StreamEvent, arrival, tick, replies}
@@ -21,7 +21,7 @@ abbrev expectedOf : Case → ℕ → Reply
 expectedOf c n = getD (c .expected) n (refusedBy 98)
 
 abbrev byRule : List StreamEvent → ℕ → Reply
-byRule es n = getD (replies lastPlace (reserveOf 200) es) n (refusedBy 99)
+byRule es n = getD (replies (leastQueues - 1) (reserveOf 200) es) n (refusedBy 99)
 
 -- the tag of call number n of a case
 abbrev tagOf : Call → ℕ

@@ -10,11 +10,11 @@ use lib.Dec.{leb}
 use Rattle.lists.proofs.Order.{eq-or-not}
 use Rattle.stream.specs.declared.Arrival.{Arrival}
 use Rattle.stream.specs.declared.Arrival.the-variants.{Joined, Discarded}
-use Rattle.stream.specs.State.{lastPlace}
 use Rattle.stream.specs.Steps.{arriveOf}
 use Rattle.stream.specs.Replies.{granted, replyOf}
 use Rattle.queue.specs.declared.Frame.{Frame}
 use Rattle.queue.specs.Ring.{placeCount, joinedMemory, joinedQueue}
+use Rattle.record.specs.Queues.{lastPlaceAt}
 use Rattle.record.specs.Head.{openAt, queueAt, withQueue}
 use Rattle.record.specs.Entry.{streamAt}
 use Rattle.header.specs.Header.{chargeOf, lengthFits}
@@ -96,7 +96,7 @@ unfolding arriveRefusal bestEffortRefusal arriveStep bestEffortStep
 becomes-not-17 p m charge tag (Bound s) =
     gated-not-17 (arriveRefusal p s charge) p m (arriveStep p m s charge tag)
     (search (low-test, high-test, outside-low, needs) depth 9)
-    (arrived-not-17 p m s (record { stream = s; charge = charge; tag = tag }) (arriveOf lastPlace (streamAt p s) charge))
+    (arrived-not-17 p m s (record { stream = s; charge = charge; tag = tag }) (arriveOf (lastPlaceAt p) (streamAt p s) charge))
 becomes-not-17 p m charge tag Unbound =
     gated-not-17 (bestEffortRefusal p charge) p m (bestEffortStep p m charge tag)
     (search (low-test, high-test, outside-low, needs) depth 9)

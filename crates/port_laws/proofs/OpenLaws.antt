@@ -1,5 +1,5 @@
 -- What a record reads after Open, whatever stood in it before: nothing of it but its length is asked. Assumes nothing.
-use Prim.Native.Nat.{ℕ, _<_}
+use Prim.Native.Nat.{ℕ, _+_, _<_}
 use mathlib.Core.Path.{_≡_, ap, _∙_}
 use mathlib.Core.Bool.{true, false}
 use mathlib.Core.List.{List}
@@ -8,9 +8,11 @@ use lib.ListN.{length}
 use Rattle.lists.proofs.TurnLaws.{sumTo-same, sumTo-none, iterate-keeps, iterate-each}
 use Rattle.stream.specs.declared.Stream.{Stream}
 use Rattle.queue.specs.Ring.{emptyQueue}
-use Rattle.record.specs.Layout.{Whole, allQueues, streamCount}
+use Rattle.record.specs.Layout.{Whole, streamCount}
+use Rattle.record.specs.Queues.{queuesAt}
 use Rattle.record.specs.Head.{openAt, withOpen, priorAt, withPrior, delayAt, withDelay, linkAt, withLink, waitsAt, queueAt, withQueue}
 use Rattle.record.specs.Entry.{streamAt, boundAt, dropped}
+use Rattle.record.proofs.QueueLaws.{queues-most, queues-open, queues-delay, queues-link, queues-queue, queues-dropped}
 use Rattle.record.proofs.HeadPairs.{prior-prior, waits-waits, prior-waits, queue-queue, other-queue, prior-queue, waits-queue}
 use Rattle.record.proofs.KeepLaws.{keeps-prior, keeps-waits}
 use Rattle.record.proofs.OpenPairs.{length-open, open-open, length-delay, delay-delay, open-delay, prior-delay, length-link, link-link, open-link, prior-link, delay-link, length-queue, open-queue, delay-queue, link-queue, length-dropped, open-dropped, prior-dropped, delay-dropped, link-dropped, waits-dropped, queue-dropped, stream-dropped, bound-dropped, other-stream-dropped, other-bound-dropped}
@@ -18,17 +20,18 @@ use Rattle.record.specs.Reservations.{permittedOf, permittedSum}
 use Rattle.steps.specs.Call.{Terms}
 use Rattle.opening.specs.Opening.{openedHead, allEmptied, allDropped, openedRecord}
 
--- a whole record with the head that Open writes
-record Opened (t : Terms) (l : List ℕ) : Type 0 where
+-- a whole record with the head that Open writes, and as many queues as before
+record Opened (p : List ℕ) (t : Terms) (l : List ℕ) : Type 0 where
   whole : Whole l
   opened : openAt l ≡ true
+  count : queuesAt l ≡ queuesAt p
   prior : priorAt l ≡ 0
   epochs : delayAt l ≡ t .delay
   octets : linkAt l ≡ t .link
   waits : waitsAt l ≡ 0
 
 -- as it is written, field after field
-head-opened : (p : List ℕ) (t : Terms) → Whole p → Opened t (openedHead p t)
+head-opened : (p : List ℕ) (t : Terms) → Whole p → Opened p t (openedHead p t)
 head-opened p t h =
     let a = withOpen p in
     let b = withPrior a 0 in
@@ -41,6 +44,7 @@ head-opened p t h =
     record {
       whole = omega (arith, keeps-waits d 0 .long);
       opened = keeps-waits d 0 .opened ∙ open-link c (t .link) ∙ open-delay b (t .delay) ∙ keeps-prior a 0 .opened ∙ open-open p h;
+      count = keeps-waits d 0 .queues ∙ queues-link c (t .link) ∙ queues-delay b (t .delay) ∙ keeps-prior a 0 .queues ∙ queues-open p;
       prior = prior-waits d 0 ∙ prior-link c (t .link) ∙ prior-delay b (t .delay) ∙ prior-prior a 0 in-a;
       epochs = keeps-waits d 0 .delay ∙ delay-link c (t .link) ∙ delay-delay b (t .delay) in-b;
       octets = keeps-waits d 0 .link ∙ link-link c (t .link) in-c;
@@ -48,22 +52,24 @@ head-opened p t h =
     }
 
 -- emptying a queue and dropping a stream leave the head
-queue-leaves : (t : Terms) (q : ℕ) (l : List ℕ) → Opened t l → Opened t (withQueue l q emptyQueue)
-queue-leaves t q l o =
+queue-leaves : (p : List ℕ) (t : Terms) (q : ℕ) (l : List ℕ) → Opened p t l → Opened p t (withQueue l q emptyQueue)
+queue-leaves p t q l o =
     record {
       whole = omega (arith, length-queue l q emptyQueue, o .whole);
       opened = open-queue l q emptyQueue ∙ o .opened;
+      count = queues-queue l q emptyQueue ∙ o .count;
       prior = prior-queue l q emptyQueue ∙ o .prior;
       epochs = delay-queue l q emptyQueue ∙ o .epochs;
       octets = link-queue l q emptyQueue ∙ o .octets;
       waits = waits-queue l q emptyQueue ∙ o .waits;
     }
 
-dropped-leaves : (t : Terms) (s : ℕ) (l : List ℕ) → Opened t l → Opened t (dropped l s)
-dropped-leaves t s l o =
+dropped-leaves : (p : List ℕ) (t : Terms) (s : ℕ) (l : List ℕ) → Opened p t l → Opened p t (dropped l s)
+dropped-leaves p t s l o =
     record {
       whole = omega (arith, length-dropped l s, o .whole);
       opened = open-dropped l s ∙ o .opened;
+      count = queues-dropped l s ∙ o .count;
       prior = prior-dropped l s ∙ o .prior;
       epochs = delay-dropped l s ∙ o .epochs;
       octets = link-dropped l s ∙ o .octets;
@@ -71,10 +77,10 @@ dropped-leaves t s l o =
     }
 
 -- after each turn of emptying, its queue is empty
-emptied : (l : List ℕ) (q : ℕ) → q < allQueues → Whole (allEmptied l) → queueAt (allEmptied l) q ≡ emptyQueue
+emptied : (l : List ℕ) (q : ℕ) → q < queuesAt l + 1 → Whole (allEmptied l) → queueAt (allEmptied l) q ≡ emptyQueue
 emptied l q b whole =
-    iterate-each (λ r k. Whole k → r < allQueues → queueAt k r ≡ emptyQueue) (λ r k. withQueue k r emptyQueue) allQueues l
-    (λ r k w c. queue-queue k r emptyQueue (omega (arith, length-queue k r emptyQueue, w)) (omega arith))
+    iterate-each (λ r k. Whole k → r < queuesAt l + 1 → queueAt k r ≡ emptyQueue) (λ r k. withQueue k r emptyQueue) (queuesAt l + 1) l
+    (λ r k w c. queue-queue k r emptyQueue (omega (arith, length-queue k r emptyQueue, w)) (omega (arith, queues-most l)))
     (λ r i k h g w c. other-queue k i emptyQueue r (λ e. omega arith) ∙ g (omega (arith, length-queue k i emptyQueue, w)) c)
     q b whole b
 
@@ -95,19 +101,23 @@ freed l s b =
 
 module _ (p : List ℕ) (t : Terms) (h : Whole p) where
   -- the head, after all queues and then all streams
-  emptied-head : Opened t (allEmptied (openedHead p t))
-  emptied-head = iterate-keeps (Opened t) (λ q l. withQueue l q emptyQueue) allQueues (openedHead p t) (queue-leaves t) (head-opened p t h)
+  emptied-head : Opened p t (allEmptied (openedHead p t))
+  emptied-head =
+      iterate-keeps (Opened p t) (λ q l. withQueue l q emptyQueue) (queuesAt (openedHead p t) + 1) (openedHead p t) (queue-leaves p t) (head-opened p t h)
 
-  record-opened : Opened t (openedRecord p t)
+  record-opened : Opened p t (openedRecord p t)
   unfolding openedRecord
-  record-opened = iterate-keeps (Opened t) (λ s l. dropped l s) streamCount (allEmptied (openedHead p t)) (dropped-leaves t) emptied-head
+  record-opened = iterate-keeps (Opened p t) (λ s l. dropped l s) streamCount (allEmptied (openedHead p t)) (dropped-leaves p t) emptied-head
 
-  -- the port is open, prior is queue 0, K and L are those given, W is 0
+  -- the port is open and has as many queues as before, prior is queue 0, K and L are those given, W is 0
   pub opened-whole : Whole (openedRecord p t)
   opened-whole = record-opened .whole
 
   pub opened-open : openAt (openedRecord p t) ≡ true
   opened-open = record-opened .opened
+
+  pub opened-queues : queuesAt (openedRecord p t) ≡ queuesAt p
+  opened-queues = record-opened .count
 
   pub opened-prior : priorAt (openedRecord p t) ≡ 0
   opened-prior = record-opened .prior
@@ -122,12 +132,12 @@ module _ (p : List ℕ) (t : Terms) (h : Whole p) where
   opened-waits = record-opened .waits
 
   -- every queue is empty
-  pub opened-queue : (q : ℕ) → q < allQueues → queueAt (openedRecord p t) q ≡ emptyQueue
+  pub opened-queue : (q : ℕ) → q < queuesAt p + 1 → queueAt (openedRecord p t) q ≡ emptyQueue
   unfolding openedRecord
   opened-queue q b =
       iterate-keeps (λ l. queueAt l q ≡ emptyQueue) (λ s l. dropped l s) streamCount (allEmptied (openedHead p t))
-      (λ s l g. queue-dropped l s q (omega arith) ∙ g)
-      (emptied (openedHead p t) q b (emptied-head .whole))
+      (λ s l g. queue-dropped l s q (omega (arith, queues-most p)) ∙ g)
+      (emptied (openedHead p t) q (omega (arith, head-opened p t h .count)) (emptied-head .whole))
 
   -- no stream is reserved, and none is bound
   pub opened-stream : (s : ℕ) → s < streamCount → streamAt (openedRecord p t) s .reserved ≡ false
@@ -150,5 +160,5 @@ length-opened p t =
     let b = withPrior a 0 in
     let c = withDelay b (t .delay) in
     iterate-keeps (λ l. length l ≡ length p) (λ s l. dropped l s) streamCount (allEmptied (openedHead p t)) (λ s l e. length-dropped l s ∙ e)
-    (iterate-keeps (λ l. length l ≡ length p) (λ q l. withQueue l q emptyQueue) allQueues (openedHead p t) (λ q l e. length-queue l q emptyQueue ∙ e)
+    (iterate-keeps (λ l. length l ≡ length p) (λ q l. withQueue l q emptyQueue) (queuesAt (openedHead p t) + 1) (openedHead p t) (λ q l e. length-queue l q emptyQueue ∙ e)
     (keeps-waits (withLink c (t .link)) 0 .long ∙ length-link c (t .link) ∙ length-delay b (t .delay) ∙ keeps-prior a 0 .long ∙ length-open p))

@@ -7,6 +7,7 @@ use lib.ListN.{length}
 use lib.Dec.{ltb}
 use borrow.Author.Tests.{le-ltb}
 use Rattle.record.specs.Layout.{recordLength, memoryLength}
+use Rattle.record.specs.Queues.{queuesAt}
 use Rattle.fitness.specs.Fit.{recordFits, lentRefusal}
 use Rattle.steps.specs.Call.{Call}
 use Rattle.steps.specs.Outcome.{gated, performed}
@@ -19,7 +20,7 @@ use Rattle.fitness.proofs.FitLaws.{fit-record}
 pub same-refusal : (p m : List ℕ) → recordFits p m ≡ true → lengthRefusal p m ≡ lentRefusal p m
 unfolding lengthRefusal lentRefusal
 same-refusal p m fit =
-    ap (cond (ltb (length m) memoryLength) 18)
+    ap (cond (ltb (length m) (memoryLength (queuesAt p))) 18)
     (ap (λ (b : Bool). cond b 19 0) (le-ltb (length p) recordLength (fit-record p m fit .long)) ∙ sym (ap (λ (b : Bool). cond b 0 19) fit))
 
 -- so every quick call is the call

@@ -5,11 +5,13 @@ use mathlib.Core.Bool.{Bool, true, false, cond}
 use mathlib.Core.List.{List}
 use native.Mathlib.Omega.{arith}
 use Rattle.lists.proofs.TurnLaws.{sumTo-change}
-use Rattle.stream.specs.State.{lastPlace, reserveOf}
+use Rattle.stream.specs.State.{reserveOf}
 use Rattle.stream.proofs.FitLaws.{fit-reserve}
-use Rattle.record.specs.Layout.{Whole, bestEffort, streamCount}
+use Rattle.record.specs.Layout.{Whole, streamCount}
+use Rattle.record.specs.Queues.{lastPlaceAt, bestEffortAt}
 use Rattle.record.specs.Head.{openAt, linkAt}
 use Rattle.record.specs.Entry.{streamAt}
+use Rattle.record.proofs.QueueLaws.{queues-least, queues-most}
 use Rattle.record.proofs.EntryPairs.{stream-stream, other-stream, stream-cases, prior-stream, waits-stream, queue-stream}
 use Rattle.record.proofs.KeepLaws.{keeps-stream}
 use Rattle.ranges.specs.Ranges.{shareOf, linkFits, delayFits, permittedFits}
@@ -56,14 +58,15 @@ reserve-fits p m s permitted h opened b free least share =
     let x = reserveOf permitted in
     let k = reservedRecord p s permitted in
     let keeps = keeps-stream p s x in
+    let same = keeps .queues in
     record-fit k m
     (record {
       long = omega (arith, keeps .long, fit .long);
-      prior = omega (arith, prior-stream p s x, fit .prior);
-      queues = λ q c. rw (queue-stream p s x q (omega arith)) (fit .queues q c);
-      streams = λ t c. stream-cases p s x (λ y. streamFits y ≡ true) t (fit .long) c (λ e. fit-stream x (fit-reserve lastPlace permitted (omega arith))) (λ o. fit .streams t c);
+      prior = omega (arith, prior-stream p s x, same, fit .prior);
+      queues = λ q c. rw (queue-stream p s x q (omega (arith, queues-most k))) (fit .queues q (omega (arith, same)));
+      streams = λ t c. rw same (stream-cases p s x (λ y. streamFits (lastPlaceAt p) y ≡ true) t (fit .long) c (λ e. fit-stream (lastPlaceAt p) x (fit-reserve (lastPlaceAt p) permitted (omega (arith, queues-least p)))) (λ o. fit .streams t c));
       bindings = bindings-stay p k m fit keeps (λ t c r. stream-cases p s x (λ y. y .reserved ≡ true) t (fit .long) c (λ e. refl) (λ o. r));
-      frames = λ q c. rw (queue-stream p s x q (omega arith)) (fit .frames q c);
-      waits = rw (waits-stream p s x, queue-stream p s x bestEffort (omega arith)) (fit .waits);
+      frames = λ q c. rw (same, queue-stream p s x q (omega (arith, queues-most k))) (fit .frames q (omega (arith, same)));
+      waits = rw (same, waits-stream p s x, queue-stream p s x (bestEffortAt p) (omega (arith, queues-most p))) (fit .waits);
       plan = plan-fit k (reserved-plan p s permitted (fit .long) b (fit-plan p opened (fit .plan)) free least share);
     })

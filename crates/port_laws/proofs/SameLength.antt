@@ -9,13 +9,14 @@ use Rattle.lists.proofs.TurnLaws.{iterate-keeps}
 use Rattle.stream.specs.declared.Reply.{Reply}
 use Rattle.stream.specs.declared.Arrival.{Arrival}
 use Rattle.stream.specs.declared.Arrival.the-variants.{Joined, Discarded}
-use Rattle.stream.specs.State.{lastPlace, reserveOf}
+use Rattle.stream.specs.State.{reserveOf}
 use Rattle.stream.specs.Steps.{arriveOf, tickOf}
 use Rattle.stream.specs.Replies.{replyOf}
 use Rattle.queue.specs.declared.Frame.{Frame}
 use Rattle.queue.specs.Ring.{placeCount, joinedQueue, sentQueue, emptyQueue}
 use Rattle.queue.proofs.WaitingLaws.{joins-length}
-use Rattle.record.specs.Layout.{bestEffort, streamCount}
+use Rattle.record.specs.Layout.{streamCount}
+use Rattle.record.specs.Queues.{lastPlaceAt, bestEffortAt}
 use Rattle.record.specs.Head.{waitsAt, queueAt, withPrior, withQueue}
 use Rattle.record.specs.Entry.{streamAt}
 use Rattle.record.proofs.KeepLaws.{keeps-prior, keeps-waits, keeps-place, keeps-stream}
@@ -69,14 +70,15 @@ module _ (p m : List ℕ) where
   arrive-length : (s charge tag : ℕ) → AsLong (arriveStep p m s charge tag)
   unfolding arriveStep
   arrive-length s charge tag =
-      let r = arriveOf lastPlace (streamAt p s) charge in
+      let r = arriveOf (lastPlaceAt p) (streamAt p s) charge in
       arrived-length s (record { stream = s; charge = charge; tag = tag }) (replyOf r) r
 
   best-effort-length : (charge tag : ℕ) → AsLong (bestEffortStep p m charge tag)
   unfolding bestEffortStep
   best-effort-length charge tag =
-      let q = queueAt p bestEffort in
-      (keeps-waits (withQueue p bestEffort (joinedQueue q)) (waitsAt p + charge) .long ∙ length-queue p bestEffort (joinedQueue q), joins-length m bestEffort q (bestEffortFrame charge tag))
+      let best = bestEffortAt p in
+      let q = queueAt p best in
+      (keeps-waits (withQueue p best (joinedQueue q)) (waitsAt p + charge) .long ∙ length-queue p best (joinedQueue q), joins-length m best q (bestEffortFrame charge tag))
 
   tick-length : AsLong (tickStep p m)
   unfolding tickStep tickedRecord
@@ -92,10 +94,11 @@ module _ (p m : List ℕ) where
   transmit-length =
       let x = roleAt p priorRole in
       let y = roleAt p currentRole in
+      let best = bestEffortAt p in
       either AsLong (eqb (queueAt p x .count) 0) _ _
       (either AsLong (eqb (queueAt p y .count) 0) _ _
-      (either AsLong (eqb (queueAt p bestEffort .count) 0) _ _ (refl, refl)
-      (keeps-waits (withQueue p bestEffort (sentQueue (queueAt p bestEffort))) _ .long ∙ length-queue p bestEffort (sentQueue (queueAt p bestEffort)), refl))
+      (either AsLong (eqb (queueAt p best .count) 0) _ _ (refl, refl)
+      (keeps-waits (withQueue p best (sentQueue (queueAt p best))) _ .long ∙ length-queue p best (sentQueue (queueAt p best)), refl))
       (length-queue p y (sentQueue (queueAt p y)), refl))
       (length-queue p x (sentQueue (queueAt p x)), refl)
 

@@ -4,9 +4,8 @@ use mathlib.Core.Path.{_≡_, refl, _∙_, sym, ap, ap₂, subst}
 use mathlib.Core.Bool.{true}
 use mathlib.Core.Logic.{⊎-elim}
 use mathlib.Core.List.{List, [], _∷_}
-use lib.ListN.{length}
 use Rattle.lists.proofs.Order.{eq-or-not}
-use Rattle.record.specs.Layout.{memoryLength}
+use Rattle.record.specs.Queues.{HasMemory}
 use Rattle.fitness.specs.Fit.{recordFits, lentRefusal}
 use Rattle.fitness.proofs.FitLaws.{fit-record, lent-fit}
 use Rattle.steps.specs.Call.{Terms, Call, opening, reserving, arriving, ticking, transmitting, joiningBestEffort, binding, framing}
@@ -50,7 +49,7 @@ gated-fits g p m done fit h =
     (λ (some : g ≡ 0 → ⊥). subst LeavesFit (sym (refuses g p m done some)) fit)
     (eq-or-not g 0)
 
-module _ (p m : List ℕ) (fit : recordFits p m ≡ true) (room : memoryLength ≤ length m) where
+module _ (p m : List ℕ) (fit : recordFits p m ≡ true) (room : HasMemory p m) where
   arrived-fits : (s charge tag : ℕ) → arriveRefusal p s charge ≡ 0 → LeavesFit (arriveStep p m s charge tag)
   arrived-fits s charge tag e = let a = arrive-allowed p s charge e in arrive-fits p m s charge tag room fit (a .stream) (a .reserved) (a .charge-fits)
 

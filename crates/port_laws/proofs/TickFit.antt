@@ -3,16 +3,18 @@ use Prim.Native.Nat.{ℕ}
 use mathlib.Core.Path.{_≡_, refl, ap}
 use mathlib.Core.Bool.{Bool, true, false, cond}
 use mathlib.Core.List.{List}
+use native.Mathlib.Omega.{arith}
 use Rattle.lists.specs.Turns.{allOf}
 use Rattle.lists.proofs.TurnLaws.{iterate-keeps}
-use Rattle.stream.specs.State.{lastPlace}
 use Rattle.stream.specs.Steps.{tickOf}
 use Rattle.stream.proofs.FitLaws.{fit-tick, permitted-tick}
 use Rattle.queue.specs.Ring.{emptyQueue}
 use Rattle.queue.proofs.WaitingLaws.{empty-waits}
 use Rattle.record.specs.Layout.{streamCount}
+use Rattle.record.specs.Queues.{lastPlaceAt, bestEffortAt}
 use Rattle.record.specs.Head.{withPrior, withQueue}
 use Rattle.record.specs.Entry.{streamAt}
+use Rattle.record.proofs.QueueLaws.{queues-queue}
 use Rattle.fitness.specs.Clauses.{frameFits}
 use Rattle.fitness.specs.Fit.{recordFits}
 use Rattle.fitness.proofs.FitLaws.{Fit, fit-record, record-fit}
@@ -30,7 +32,7 @@ ticked-fits m s l fit = told (streamAt l s .reserved) refl
     told : (b : Bool) → streamAt l s .reserved ≡ b → Fit (cond b (moved l s (tickOf (streamAt l s))) l) m
     told true e =
         fits-moved l m fit s (tickOf (streamAt l s))
-        (λ b. fit-tick lastPlace (streamAt l s) (stream-fit (streamAt l s) e (fit .streams s b)))
+        (λ b. fit-tick (lastPlaceAt l) (streamAt l s) (stream-fit (lastPlaceAt l) (streamAt l s) e (fit .streams s b)))
         (permitted-tick (streamAt l s))
     told false e = fit
 
@@ -42,7 +44,7 @@ tick-fits p m h =
     let prior = roleAt p priorRole in
     let current = roleAt p currentRole in
     let purged : Fit (withQueue p prior emptyQueue) m =
-    fits-queue p m fit m prior emptyQueue (refl, ap (allOf (frameFits prior)) (empty-waits m prior)) (λ r y o. refl) (role-below p priorRole) in
+    fits-queue p m fit m prior emptyQueue (refl, ap (allOf (frameFits (bestEffortAt p) prior)) (empty-waits m prior)) (λ r y o. refl) (role-below p priorRole) in
     record-fit _ m
     (iterate-keeps (λ l. Fit l m) tickedAt streamCount (withPrior (withQueue p prior emptyQueue) current) (ticked-fits m)
-    (fits-prior (withQueue p prior emptyQueue) m purged current (role-below p currentRole)))
+    (fits-prior (withQueue p prior emptyQueue) m purged current (omega (arith, role-below p currentRole, queues-queue p prior emptyQueue))))

@@ -4,6 +4,7 @@ use mathlib.Core.List.{List, [], _∷_}
 use lib.ListN.{replicate}
 use Rattle.stream.specs.declared.Reply.{Reply}
 use Rattle.record.specs.Layout.{recordLength, memoryLength}
+use Rattle.record.specs.Queues.{queuesAt}
 use Rattle.steps.specs.Call.{Call}
 use Rattle.steps.specs.Outcome.{Outcome}
 
@@ -17,4 +18,4 @@ abbrev pub freshRecord : List ℕ
 freshRecord = replicate recordLength 0
 
 abbrev pub freshMemory : List ℕ
-freshMemory = replicate memoryLength 0
+freshMemory = replicate (memoryLength (queuesAt freshRecord)) 0

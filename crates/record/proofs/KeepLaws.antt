@@ -1,4 +1,5 @@
--- What every write keeps but those of open, K, L and the bindings: the record's length, whether the port is open, K and L, and the bindings. Assumes nothing.
+-- What every write keeps but those of open, K, L and the bindings: the record's length, whether the port is open, the number of its queues, K and L, and
+-- the bindings. Assumes nothing.
 use Prim.Native.Nat.{ℕ, _+_, _-_, _<_}
 use mathlib.Core.Path.{_≡_, refl, ap, _∙_}
 use mathlib.Core.List.{List, [], _∷_}
@@ -11,12 +12,14 @@ use Rattle.stream.specs.declared.Stream.{Stream}
 use Rattle.queue.specs.declared.Queue.{Queue}
 use Rattle.record.specs.Layout.{openOffset, priorOffset, delayOffset, linkOffset, waitsOffset, queueOffset, queueRoom, entryOffset, entryLength, placeOffset, boundOffset, pairOffset, addressOffset, addressLength}
 use Rattle.record.specs.Head.{octetOf, markOf, openAt, withPrior, delayAt, linkAt, withWaits, queueOctets, withQueue}
+use Rattle.record.specs.Queues.{queuesAt}
 use Rattle.record.specs.Entry.{placeOctets, streamOctets, withStream, withPlace, boundAt, vidAt, addressAt}
 
 -- record k has these as record l has them
 pub record Keeps (l k : List ℕ) : Type 0 where
   pub long : length k ≡ length l
   pub opened : openAt k ≡ openAt l
+  pub queues : queuesAt k ≡ queuesAt l
   pub delay : delayAt k ≡ delayAt l
   pub link : linkAt k ≡ linkAt l
   pub bound : (s : ℕ) → boundAt k s ≡ boundAt l s
@@ -25,7 +28,7 @@ pub record Keeps (l k : List ℕ) : Type 0 where
 
 -- no change at all
 pub keeps-same : (l : List ℕ) → Keeps l l
-keeps-same l = record { long = refl; opened = refl; delay = refl; link = refl; bound = λ s. refl; vid = λ s. refl; address = λ s. refl }
+keeps-same l = record { long = refl; opened = refl; queues = refl; delay = refl; link = refl; bound = λ s. refl; vid = λ s. refl; address = λ s. refl }
 
 -- one change after another
 pub keeps-both : (j k l : List ℕ) → Keeps j k → Keeps k l → Keeps j l
@@ -33,6 +36,7 @@ keeps-both j k l a b =
     record {
       long = b .long ∙ a .long;
       opened = b .opened ∙ a .opened;
+      queues = b .queues ∙ a .queues;
       delay = b .delay ∙ a .delay;
       link = b .link ∙ a .link;
       bound = λ s. b .bound s ∙ a .bound s;
@@ -47,11 +51,12 @@ keeps-put : (l : List ℕ) (i : ℕ) (vs : List ℕ)
     → Apart linkOffset 2 i (length vs)
     → ((s : ℕ) → Apart (entryOffset s + boundOffset) (entryLength - boundOffset) i (length vs))
     → Keeps l (put l i vs)
-unfolding openAt delayAt linkAt boundAt vidAt addressAt
+unfolding openAt queuesAt delayAt linkAt boundAt vidAt addressAt
 keeps-put l i vs opened delay link binding =
     record {
       long = length-put l i vs;
       opened = ap markOf (get-apart l i vs openOffset 1 opened);
+      queues = refl;
       delay = ap octetOf (get-apart l i vs delayOffset 1 delay);
       link = ap twoOf (get-apart l i vs linkOffset 2 link);
       bound = λ s. ap markOf (get-apart l i vs (entryOffset s + boundOffset) 1 (λ k a b c d. binding s k a (omega arith) c d));

@@ -1,4 +1,5 @@
 -- The laws of the record's fields, cited by the crates above.
+pub mod QueueLaws
 pub mod HeadLaws
 pub mod EntryLaws
 pub mod HeadPairs

@@ -3,19 +3,8 @@
 use Prim.Native.Nat.{ℕ, _+_, _*_, _≤_}
 use mathlib.Core.List.{List}
 use lib.ListN.{length}
-use Rattle.stream.specs.State.{lastPlace}
+use Rattle.stream.specs.State.{mostQueues}
 use Rattle.queue.specs.Ring.{partLength}
-
--- the queues for reserved traffic, prior and one for each place; the queue for best effort has the number after theirs
-abbrev pub queueCount : ℕ
-queueCount = lastPlace + 1
-
-abbrev pub bestEffort : ℕ
-bestEffort = queueCount
-
--- the queues of a port: those for reserved traffic and best effort
-abbrev pub allQueues : ℕ
-allQueues = queueCount + 1
 
 -- "Streams 0 to 63"
 abbrev pub streamCount : ℕ
@@ -31,9 +20,9 @@ entryLength = 16
 abbrev pub recordLength : ℕ
 recordLength = headLength + streamCount * entryLength
 
--- the memory: 256 places for each queue, 1,280 in all
-abbrev pub memoryLength : ℕ
-memoryLength = allQueues * partLength
+-- the memory: 256 places for each of so many queues for reserved traffic and for best effort, 1,280 with four
+abbrev pub memoryLength : ℕ → ℕ
+memoryLength queues = (queues + 1) * partLength
 
 -- the record is whole: the slice reaches to its end
 abbrev pub Whole : List ℕ → Type 0
@@ -68,9 +57,9 @@ countOffset = 2
 abbrev pub queueOffset : ℕ → ℕ
 queueOffset q = queuesOffset + q * queueLength
 
--- the queues for which the head has room
+-- the queues for which the head has room: the most for reserved traffic, and best effort
 abbrev pub queueRoom : ℕ
-queueRoom = 9
+queueRoom = mostQueues + 1
 
 -- an entry's fields: reserved (1 octet, 1: reserved), place (1), left (2), P (2), and from octet 7 on bound (1, 1: bound), VID (2), address (6)
 abbrev pub placeOffset : ℕ

@@ -1,8 +1,10 @@
-// The fields of the record's head: open or closed, prior, K, L, W, and the start and count of each queue.
+// The fields of the record's head: open or closed, prior, K, L, W, the number of queues, and the start and count of each.
 use queue::Queue;
 ghost use mathlib.Core.Path.{_≡_};
-ghost use Prim.Native.Nat.{_<_};
-ghost use Rattle.record.specs.Layout.{Whole, queueRoom, queueOffset};
+ghost use Prim.Native.Nat.{_≤_, _<_};
+ghost use Rattle.stream.specs.State.{leastQueues, mostQueues};
+ghost use Rattle.record.specs.Layout.{Whole, memoryLength, queueRoom, queueOffset};
+ghost use Rattle.record.specs.Queues.{queuesAt, lastPlaceAt, bestEffortAt};
 ghost use Rattle.record.specs.Head.{openAt, withOpen, priorAt, withPrior, delayAt, withDelay, linkAt, withLink, waitsAt, withWaits, queueAt, withQueue};
 
 // Where the fields begin.
@@ -103,6 +105,36 @@ pub fn put_waits(port: &mut [u8], octets: u32)
     octets::put_four(port, WAITS, octets);
 }
 
+// The queues for reserved traffic, of a slice of any length.
+pub fn lent_queues(port: &[u8]) -> u8
+    ensures { λ r. ⌜ (r ≡ queuesAt (now (port .entry))) × ((leastQueues ≤ r) × (r ≤ mostQueues)) ⌝ }
+{
+    crate::LEAST_QUEUES
+}
+
+// The queues for reserved traffic, of a whole record.
+pub fn queues(port: &[u8]) -> u8
+    requires { ⌜ Whole (now port) ⌝ }
+    ensures { λ r. ⌜ (r ≡ queuesAt (now (port .entry))) × ((leastQueues ≤ r) × (r ≤ mostQueues)) ⌝ }
+{
+    lent_queues(port)
+}
+
+// The last place.
+pub fn last_place(port: &[u8]) -> u8
+    requires { ⌜ Whole (now port) ⌝ }
+    ensures { λ r. ⌜ r ≡ lastPlaceAt (now (port .entry)) ⌝ }
+{
+    queues(port) - 1
+}
+
+// The octets of the memory that the port asks for, of a slice of any length.
+pub fn memory_length(port: &[u8]) -> usize
+    ensures { λ r. ⌜ r ≡ memoryLength (queuesAt (now (port .entry))) ⌝ }
+{
+    crate::memory_length(lent_queues(port))
+}
+
 // Where the start and count of the queue of this number begin.
 fn queue_start(number: u8) -> usize
     ensures { λ r. ⌜ r ≡ queueOffset number ⌝ }
@@ -120,6 +152,14 @@ pub fn queue_at(port: &[u8], number: u8) -> Queue
         start: octets::two_at(port, at),
         count: octets::two_at(port, at + COUNT),
     }
+}
+
+// The start and count of best effort.
+pub fn best_effort(port: &[u8]) -> Queue
+    requires { ⌜ Whole (now port) ⌝ }
+    ensures { λ r. ⌜ r ≡ queueAt (now (port .entry)) (bestEffortAt (now (port .entry))) ⌝ }
+{
+    queue_at(port, queues(port))
 }
 
 // Writes the start and count of the queue of this number.

@@ -7,22 +7,16 @@ ghost use mathlib.Core.List.{[], _∷_};
 ghost use Prim.Native.Nat.{_<_};
 ghost use lib.ListN.{length};
 ghost use Rattle.lists.specs.Window.{put};
+ghost use Rattle.record.specs.Layout.{memoryLength};
 
-// The queues for reserved traffic, prior and one for each place; the queue for best effort has the number after theirs.
-pub const QUEUES: u8 = stream::LAST + 1;
-
-pub const BEST_EFFORT: u8 = QUEUES;
-
-// The queues of a port: those for reserved traffic and best effort.
-pub const ALL_QUEUES: u8 = QUEUES + 1;
+// The fewest queues for reserved traffic, prior and one for each place.
+pub const LEAST_QUEUES: u8 = 4;
 
 // The streams of a port.
 pub const STREAMS: u8 = 64;
 
-// The octets of a record, and those of the memory.
+// The octets of a record.
 pub const RECORD_LENGTH: usize = entry::START + STREAMS as usize * entry::LENGTH;
-
-pub const MEMORY_LENGTH: usize = ALL_QUEUES as usize * queue::PART_LENGTH;
 
 // The octets of an address.
 pub const ADDRESS_LENGTH: usize = 6;
@@ -31,6 +25,13 @@ pub const ADDRESS_LENGTH: usize = 6;
 const YES: u8 = 1;
 
 const NO: u8 = 0;
+
+// The octets of the memory of a port with so many queues for reserved traffic.
+pub(crate) fn memory_length(queues: u8) -> usize
+    ensures { λ r. ⌜ r ≡ memoryLength queues ⌝ }
+{
+    (queues as usize + 1) * queue::PART_LENGTH
+}
 
 // Writes one octet.
 fn put_octet(port: &mut [u8], at: usize, octet: u8)

@@ -18,26 +18,26 @@ waits q done else h = ap (λ (b : Bool). cond b else done) (ne-eqb (q .count) 0 
 none : (q : Queue) (done else : Outcome) → q .count ≡ 0 → ifWaiting q done else ≡ else
 none q done else h = ap (λ (b : Bool). cond b else done) (eq-eqb (q .count) 0 h)
 
-module _ (p m : List ℕ) (prior current : ℕ) (a b c : Queue) where
-  pub sends-prior : (a .count ≡ 0 → ⊥) → sentFirst p m prior current a b c ≡ sent p m prior a
+module _ (p m : List ℕ) (prior current best : ℕ) (a b c : Queue) where
+  pub sends-prior : (a .count ≡ 0 → ⊥) → sentFirst p m prior current best a b c ≡ sent p m prior a
   sends-prior h = waits a _ _ h
 
-  pub sends-current : a .count ≡ 0 → (b .count ≡ 0 → ⊥) → sentFirst p m prior current a b c ≡ sent p m current b
+  pub sends-current : a .count ≡ 0 → (b .count ≡ 0 → ⊥) → sentFirst p m prior current best a b c ≡ sent p m current b
   sends-current i h = none a _ _ i ∙ waits b _ _ h
 
-  pub sends-best-effort : a .count ≡ 0 → b .count ≡ 0 → (c .count ≡ 0 → ⊥) → sentFirst p m prior current a b c ≡ sentBestEffort p m c
+  pub sends-best-effort : a .count ≡ 0 → b .count ≡ 0 → (c .count ≡ 0 → ⊥) → sentFirst p m prior current best a b c ≡ sentBestEffort p m best c
   sends-best-effort i j h = none a _ _ i ∙ none b _ _ j ∙ waits c _ _ h
 
-  pub sends-nothing : a .count ≡ 0 → b .count ≡ 0 → c .count ≡ 0 → sentFirst p m prior current a b c ≡ outcome (granted nothing 0) p m
+  pub sends-nothing : a .count ≡ 0 → b .count ≡ 0 → c .count ≡ 0 → sentFirst p m prior current best a b c ≡ outcome (granted nothing 0) p m
   sends-nothing i j h = none a _ _ i ∙ none b _ _ j ∙ none c _ _ h
 
   -- what holds of each of the four holds of what is sent
   pub first-cases : (G : Outcome → Type 0)
       → ((a .count ≡ 0 → ⊥) → G (sent p m prior a))
       → (a .count ≡ 0 → (b .count ≡ 0 → ⊥) → G (sent p m current b))
-      → (a .count ≡ 0 → b .count ≡ 0 → (c .count ≡ 0 → ⊥) → G (sentBestEffort p m c))
+      → (a .count ≡ 0 → b .count ≡ 0 → (c .count ≡ 0 → ⊥) → G (sentBestEffort p m best c))
       → (a .count ≡ 0 → b .count ≡ 0 → c .count ≡ 0 → G (outcome (granted nothing 0) p m))
-      → G (sentFirst p m prior current a b c)
+      → G (sentFirst p m prior current best a b c)
   first-cases G in-prior in-current in-best-effort in-none =
       ⊎-elim
       (λ (i : a .count ≡ 0).
@@ -53,8 +53,11 @@ module _ (p m : List ℕ) (prior current : ℕ) (a b c : Queue) where
       (eq-or-not (a .count) 0)
 
 -- the same queues send the same
-pub same-queues : (p m : List ℕ) (prior current prior′ current′ : ℕ) (a b c a′ b′ c′ : Queue)
-    → prior ≡ prior′ → current ≡ current′ → a ≡ a′ → b ≡ b′ → c ≡ c′
-    → sentFirst p m prior current a b c ≡ sentFirst p m prior′ current′ a′ b′ c′
-same-queues p m prior current prior′ current′ a b c a′ b′ c′ r s i j k =
-    ap₂ (λ (x y : ℕ). sentFirst p m x y a b c) r s ∙ ap₂ (λ (x y : Queue). sentFirst p m prior′ current′ x y c) i j ∙ ap (sentFirst p m prior′ current′ a′ b′) k
+pub same-queues : (p m : List ℕ) (prior current best prior′ current′ best′ : ℕ) (a b c a′ b′ c′ : Queue)
+    → prior ≡ prior′ → current ≡ current′ → best ≡ best′ → a ≡ a′ → b ≡ b′ → c ≡ c′
+    → sentFirst p m prior current best a b c ≡ sentFirst p m prior′ current′ best′ a′ b′ c′
+same-queues p m prior current best prior′ current′ best′ a b c a′ b′ c′ r s t i j k =
+    ap₂ (λ (x y : ℕ). sentFirst p m x y best a b c) r s
+    ∙ ap (λ (x : ℕ). sentFirst p m prior′ current′ x a b c) t
+    ∙ ap₂ (λ (x y : Queue). sentFirst p m prior′ current′ best′ x y c) i j
+    ∙ ap (sentFirst p m prior′ current′ best′ a′ b′) k

@@ -7,7 +7,7 @@ use Rattle.stream.specs.Replies.{granted}
 use Rattle.stream.specs.declared.Reply.{Reply}
 use Rattle.queue.specs.declared.Queue.{Queue}
 use Rattle.queue.specs.Ring.{frontOf, sentQueue}
-use Rattle.record.specs.Layout.{bestEffort}
+use Rattle.record.specs.Queues.{bestEffortAt}
 use Rattle.record.specs.Head.{waitsAt, withWaits, queueAt, withQueue}
 use Rattle.steps.specs.Outcome.{Outcome, outcome}
 use Rattle.steps.specs.Roles.{roleAt, priorRole, currentRole}
@@ -21,11 +21,11 @@ abbrev pub sent : List ℕ → List ℕ → ℕ → Queue → Outcome
 sent p m number q = outcome (sentReply m number q) (withQueue p number (sentQueue q)) m
 
 -- a best-effort frame leaves W, "the sum of charges waiting there", too
-abbrev pub sentBestEffort : List ℕ → List ℕ → Queue → Outcome
-sentBestEffort p m q =
+abbrev pub sentBestEffort : List ℕ → List ℕ → ℕ → Queue → Outcome
+sentBestEffort p m number q =
     outcome
-    (sentReply m bestEffort q)
-    (withWaits (withQueue p bestEffort (sentQueue q)) (waitsAt p - frontOf m bestEffort q .charge))
+    (sentReply m number q)
+    (withWaits (withQueue p number (sentQueue q)) (waitsAt p - frontOf m number q .charge))
     m
 
 -- "254 nothing"
@@ -37,12 +37,13 @@ abbrev pub ifWaiting : Queue → Outcome → Outcome → Outcome
 ifWaiting q done else = cond (eqb (q .count) 0) else done
 
 -- "Transmit sends the oldest frame of prior; if none, of current; if none, of best effort; if none, it replies 'nothing'"
-abbrev pub sentFirst : List ℕ → List ℕ → ℕ → ℕ → Queue → Queue → Queue → Outcome
-sentFirst p m prior current inPrior inCurrent inBestEffort =
+abbrev pub sentFirst : List ℕ → List ℕ → ℕ → ℕ → ℕ → Queue → Queue → Queue → Outcome
+sentFirst p m prior current best inPrior inCurrent inBestEffort =
     ifWaiting inPrior (sent p m prior inPrior)
     (ifWaiting inCurrent (sent p m current inCurrent)
-    (ifWaiting inBestEffort (sentBestEffort p m inBestEffort) (outcome (granted nothing 0) p m)))
+    (ifWaiting inBestEffort (sentBestEffort p m best inBestEffort) (outcome (granted nothing 0) p m)))
 
 unfoldable pub transmitStep : List ℕ → List ℕ → Outcome
 transmitStep p m =
-    sentFirst p m (roleAt p priorRole) (roleAt p currentRole) (queueAt p (roleAt p priorRole)) (queueAt p (roleAt p currentRole)) (queueAt p bestEffort)
+    sentFirst p m (roleAt p priorRole) (roleAt p currentRole) (bestEffortAt p)
+    (queueAt p (roleAt p priorRole)) (queueAt p (roleAt p currentRole)) (queueAt p (bestEffortAt p))

@@ -4,10 +4,12 @@
 use stream::Reply;
 use stream::Stream;
 ghost use mathlib.Core.Path.{_≡_};
-ghost use Prim.Native.Nat.{_<_};
+ghost use Prim.Native.Nat.{_+_, _%_, _≤_, _<_};
 ghost use Rattle.stream.specs.Replies.{granted, refusedBy};
-ghost use Rattle.record.specs.Layout.{Whole, streamCount, queueCount};
-ghost use Rattle.steps.specs.Roles.{roleAt};
+ghost use Rattle.stream.specs.State.{leastQueues, mostQueues};
+ghost use Rattle.record.specs.Layout.{Whole, streamCount};
+ghost use Rattle.record.specs.Queues.{queuesAt};
+ghost use Rattle.record.specs.Head.{priorAt};
 ghost use Rattle.steps.specs.Moves.{moved};
 
 // The roles prior and current; the roles from current on have the numbers of the places.
@@ -37,12 +39,29 @@ pub fn refused(number: u8) -> Reply
     }
 }
 
-// The number of the queue in a role, one of the four.
-pub fn in_role(port: &[u8], role: u8) -> u8
+// What the roles of the queues go by, read once for a step: how many queues there are for reserved traffic, and which of them is prior.
+pub struct Roles {
+    pub queues: u8,
+    pub prior: u8,
+}
+
+// The roles of a port.
+pub fn roles_of(port: &[u8]) -> Roles
     requires { ⌜ Whole (now port) ⌝ }
-    ensures { λ r. ⌜ (r ≡ roleAt (now (port .entry)) role) × (r < queueCount) ⌝ }
+    ensures { λ r. ⌜ ((r .queues ≡ queuesAt (now (port .entry))) × (r .prior ≡ priorAt (now (port .entry)))) × ((leastQueues ≤ r .queues) × (r .queues ≤ mostQueues)) ⌝ }
 {
-    ((record::head::prior(port) as u16 + role as u16) % record::QUEUES as u16) as u8
+    Roles {
+        queues: record::head::queues(port),
+        prior: record::head::prior(port),
+    }
+}
+
+// The number of the queue in a role.
+pub fn in_role(roles: Roles, role: u8) -> u8
+    requires { ⌜ 0 < roles .queues ⌝ }
+    ensures { λ r. ⌜ (r ≡ (roles .prior + role) % roles .queues) × (r < roles .queues) ⌝ }
+{
+    ((roles.prior as u16 + role as u16) % roles.queues as u16) as u8
 }
 
 // Puts the stream where its rule has moved it.

@@ -1,7 +1,8 @@
 -- Document 01's cases of one stream, P = 200: C5 to C10, each as its events and their replies.
+use Prim.Native.Nat.{_-_}
 use mathlib.Core.List.{List, [], _∷_, _++_}
 use Rattle.stream.specs.declared.Reply.{Reply}
-use Rattle.stream.specs.State.{lastPlace, reserveOf}
+use Rattle.stream.specs.State.{leastQueues, reserveOf}
 use Rattle.stream.specs.Replies.{granted, refusedBy}
 use Rattle.stream.specs.Alone.{StreamEvent, arrival, tick, replies}
 
@@ -39,6 +40,6 @@ c10 = record { events = arrival 201 ∷ arrival 84 ∷ []; expected = refusedBy 
 abbrev pub cases : List StreamCase
 cases = c5 ∷ c6 ∷ c7 ∷ c8 ∷ c9 ∷ c10 ∷ []
 
--- what the rule replies to a case's events on a stream just reserved with P = 200
+-- what the rule replies to a case's events on a stream just reserved with P = 200, on a port with the fewest queues
 abbrev pub repliesTo : StreamCase → List Reply
-repliesTo c = replies lastPlace (reserveOf 200) (c .events)
+repliesTo c = replies (leastQueues - 1) (reserveOf 200) (c .events)

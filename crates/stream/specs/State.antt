@@ -7,9 +7,13 @@ use Rattle.stream.specs.declared.Stream.{Stream}
 abbrev pub currentPlace : ℕ
 currentPlace = 1
 
--- the last place of a port with four queues; the rules and their laws take the last place as a parameter
-abbrev pub lastPlace : ℕ
-lastPlace = 3
+-- the queues for reserved traffic of a port, prior and one for each place, are at least so many and at most so many; the rules of a stream and their
+-- laws take the last place as a parameter
+abbrev pub leastQueues : ℕ
+leastQueues = 4
+
+abbrev pub mostQueues : ℕ
+mostQueues = 8
 
 -- the stream at a place with so much left (octets still free there); P (permitted octets per epoch) and whether it is reserved stay
 abbrev pub atPlace : Stream → ℕ → ℕ → Stream

@@ -2,21 +2,18 @@
 // back, with the answer. The definitions are in specs/, in document 01's order.
 ghost use mathlib.Core.Path.{_≡_};
 ghost use Prim.Native.Nat.{_≤_, _<_};
-ghost use Rattle.stream.specs.State.{lastPlace, atPlace, fullAt, reserveOf};
+ghost use Rattle.stream.specs.State.{atPlace, fullAt, reserveOf};
 ghost use Rattle.stream.specs.Steps.{advanced, advancedIfSpent, joined, discarded, arriveOf, tickOf};
 ghost use Rattle.stream.specs.Replies.{replyOf, streamOf};
 
 // The first place, current.
 pub const CURRENT: u8 = 1;
 
-// The last place of a port with four queues.
-pub const LAST: u8 = 3;
-
 // The refusal of a discarded frame.
 const DISCARD: u8 = 14;
 
 // One stream: whether it is reserved, its permitted octets per epoch (P), its place, and the octets still free there (left). The methods
-// below neither read nor change whether it is reserved: that is for the port to ask.
+// below neither read nor change whether it is reserved: that is for the port to ask. Those of an arrival take the port's last place.
 #[repr(C)]
 pub struct Stream {
     pub reserved: bool,
@@ -72,72 +69,72 @@ impl Stream {
 
     // One place further.
     fn advanced(self) -> Stream
-        requires { ⌜ self .place < lastPlace ⌝ }
+        requires { ⌜ self .place < 255 ⌝ }
         ensures { λ r. ⌜ r ≡ advanced self ⌝ }
     {
         self.full_at(self.place + 1)
     }
 
     // One place further if nothing is left, unless the place is the last.
-    fn advanced_if_spent(self) -> Stream
-        ensures { λ r. ⌜ r ≡ advancedIfSpent lastPlace self ⌝ }
+    fn advanced_if_spent(self, last: u8) -> Stream
+        ensures { λ r. ⌜ r ≡ advancedIfSpent last self ⌝ }
     {
         if self.left != 0 {
             return self;
         }
-        if LAST <= self.place {
+        if last <= self.place {
             return self;
         }
         self.advanced()
     }
 
     // A frame that fits joins the queue at the place.
-    fn joined(self, charge: u16) -> Arrival
+    fn joined(self, last: u8, charge: u16) -> Arrival
         requires { ⌜ charge ≤ self .left ⌝ }
-        ensures { λ r. ⌜ r ≡ joined lastPlace self charge ⌝ }
+        ensures { λ r. ⌜ r ≡ joined last self charge ⌝ }
     {
         let place = self.place;
         let spent = self.at(place, self.left - charge);
-        Arrival::Joined(place, spent.advanced_if_spent())
+        Arrival::Joined(place, spent.advanced_if_spent(last))
     }
 
     // A frame that does not fit at the place joins the queue at the one after it.
-    fn joined_next(self, charge: u16) -> Arrival
-        requires { ⌜ (self .place < lastPlace) × (charge ≤ self .permitted) ⌝ }
-        ensures { λ r. ⌜ r ≡ joined lastPlace (advanced self) charge ⌝ }
+    fn joined_next(self, last: u8, charge: u16) -> Arrival
+        requires { ⌜ (self .place < last) × (charge ≤ self .permitted) ⌝ }
+        ensures { λ r. ⌜ r ≡ joined last (advanced self) charge ⌝ }
     {
-        self.advanced().joined(charge)
+        self.advanced().joined(last, charge)
     }
 
     // A frame that fits nowhere is discarded, and the stream is spent.
-    fn discarded(self) -> Arrival
-        ensures { λ r. ⌜ r ≡ discarded lastPlace self ⌝ }
+    fn discarded(self, last: u8) -> Arrival
+        ensures { λ r. ⌜ r ≡ discarded last self ⌝ }
     {
-        Arrival::Discarded(self.at(LAST, 0))
+        Arrival::Discarded(self.at(last, 0))
     }
 
     // The frame joins at the place, or at the one after it, or is discarded. After one advance left is P, so a frame that fits neither
     // at the place nor in P fits nowhere, and no further place has to be tried.
-    pub fn arrive(self, charge: u16) -> Arrival
-        ensures { λ r. ⌜ r ≡ arriveOf lastPlace self charge ⌝ }
+    pub fn arrive(self, last: u8, charge: u16) -> Arrival
+        ensures { λ r. ⌜ r ≡ arriveOf last self charge ⌝ }
     {
         if charge <= self.left {
-            return self.joined(charge);
+            return self.joined(last, charge);
         }
         if self.permitted < charge {
-            return self.discarded();
+            return self.discarded(last);
         }
-        if self.place < LAST {
-            return self.joined_next(charge);
+        if self.place < last {
+            return self.joined_next(last, charge);
         }
-        self.discarded()
+        self.discarded(last)
     }
 
     // An arrival on a stream that the caller keeps: the record that the rule hands back is stored.
-    pub fn receive(&mut self, charge: u16) -> Arrival
-        ensures { λ r. ⌜ (r ≡ arriveOf lastPlace (now (self .entry)) charge) × (now (self .exit) ≡ streamOf (arriveOf lastPlace (now (self .entry)) charge)) ⌝ }
+    pub fn receive(&mut self, last: u8, charge: u16) -> Arrival
+        ensures { λ r. ⌜ (r ≡ arriveOf last (now (self .entry)) charge) × (now (self .exit) ≡ streamOf (arriveOf last (now (self .entry)) charge)) ⌝ }
     {
-        let arrival = (*self).arrive(charge);
+        let arrival = (*self).arrive(last, charge);
         *self = arrival.stream();
         arrival
     }

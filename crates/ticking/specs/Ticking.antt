@@ -23,8 +23,11 @@ streamsTicked = iterate tickedAt streamCount
 
 -- "Tick purges prior [..]. Then current becomes prior, next becomes current, last becomes next, and an empty queue becomes last": the purged
 -- queue is the one that becomes last
+abbrev pub tickedFrom : List ℕ → ℕ → ℕ → List ℕ
+tickedFrom p prior current = streamsTicked (withPrior (withQueue p prior emptyQueue) current)
+
 unfoldable pub tickedRecord : List ℕ → List ℕ
-tickedRecord p = streamsTicked (withPrior (withQueue p (roleAt p priorRole) emptyQueue) (roleAt p currentRole))
+tickedRecord p = tickedFrom p (roleAt p priorRole) (roleAt p currentRole)
 
 -- "and replies with the frames and octets purged"
 unfoldable pub tickStep : List ℕ → List ℕ → Outcome

@@ -2,11 +2,11 @@
 use queue::Queue;
 use stream::Reply;
 ghost use mathlib.Core.Path.{_≡_};
-ghost use Prim.Native.Nat.{_≤_, _<_};
-ghost use lib.ListN.{length};
-ghost use Rattle.record.specs.Layout.{Whole, streamCount, memoryLength};
+ghost use Prim.Native.Nat.{_<_};
+ghost use Rattle.record.specs.Layout.{Whole, streamCount, queueRoom};
+ghost use Rattle.record.specs.Queues.{HasMemory};
 ghost use Rattle.steps.specs.Outcome.{outcome};
-ghost use Rattle.ticking.specs.Ticking.{tickedAt, streamsTicked, tickedRecord, tickStep};
+ghost use Rattle.ticking.specs.Ticking.{tickedAt, streamsTicked, tickedFrom, tickStep};
 
 // The tick of one stream.
 fn tick_stream(port: &mut [u8], stream: u8)
@@ -32,13 +32,11 @@ fn tick_streams(port: &mut [u8])
     }
 }
 
-// The record of the tick: prior is emptied, current becomes prior, and the streams come nearer.
-fn tick_record(port: &mut [u8])
-    requires { ⌜ Whole (now port) ⌝ }
-    ensures { λ _. ⌜ now (port .exit) ≡ tickedRecord (now (port .entry)) ⌝ }
+// The record of the tick, with the numbers of prior and current: prior is emptied, current becomes prior, and the streams come nearer.
+fn tick_record(port: &mut [u8], prior: u8, current: u8)
+    requires { ⌜ Whole (now port) × (prior < queueRoom) ⌝ }
+    ensures { λ _. ⌜ now (port .exit) ≡ tickedFrom (now (port .entry)) prior current ⌝ }
 {
-    let prior = steps::in_role(port, steps::PRIOR);
-    let current = steps::in_role(port, steps::CURRENT);
     record::head::put_queue(port, prior, Queue::empty());
     record::head::put_prior(port, current);
     tick_streams(port);
@@ -46,11 +44,13 @@ fn tick_record(port: &mut [u8])
 
 // Tick.
 pub fn tick(port: &mut [u8], memory: &[u8]) -> Reply
-    requires { ⌜ Whole (now port) × (memoryLength ≤ length (now memory)) ⌝ }
+    requires { ⌜ Whole (now port) × HasMemory (now port) (now memory) ⌝ }
     ensures { λ r. ⌜ outcome r (now (port .exit)) (now (memory .entry)) ≡ tickStep (now (port .entry)) (now (memory .entry)) ⌝ }
 {
-    let prior = steps::in_role(port, steps::PRIOR);
+    let roles = steps::roles_of(port);
+    let prior = steps::in_role(roles, steps::PRIOR);
+    let current = steps::in_role(roles, steps::CURRENT);
     let queue = record::head::queue_at(port, prior);
-    tick_record(port);
+    tick_record(port, prior, current);
     steps::granted(queue.count as u32, queue::charges(memory, prior, queue))
 }

@@ -5,13 +5,15 @@ use native.Mathlib.Omega.{arith}
 use borrow.Author.Needs.{needs}
 use Rattle.queue.specs.Ring.{joinedMemory, joinedQueue}
 use Rattle.queue.specs.declared.Queue.{Queue}
-use Rattle.record.specs.Head.{withWaits, withQueue}
-use Rattle.record.specs.Layout.{bestEffort}
+use Rattle.record.specs.Head.{withWaits, queueAt, withQueue}
 use Rattle.stream.specs.Replies.{granted}
 use Rattle.steps.proofs.OutcomeLaws.{same-outcome}
-use Rattle.best_effort.specs.BestEffort.{bestEffortFrame, bestEffortStep}
+use Rattle.best_effort.specs.BestEffort.{bestEffortFrame, bestEffortInto, bestEffortStep}
 use Rattle.best_effort.proofs.join.Statement.{statement}
 use Rattle.best_effort.proofs.join.Tie as tie
+
+queues-requires : tie.Need-queues-requires
+queues-requires c κs = search needs
 
 queue-at-requires : tie.Need-queue-at-requires
 queue-at-requires c κs = search needs
@@ -23,7 +25,12 @@ add-waits : tie.Need-add-waits
 add-waits c = search needs
 
 joined-requires : tie.Need-joined-requires
-joined-requires c κs = omega (arith, ap (λ (q : Queue). q .count) (c .before .before .before .queue-at .ensures))
+joined-requires c κs =
+    omega (
+      arith,
+      ap (λ (q : Queue). q .count) (c .before .before .before .queue-at .ensures),
+      ap (λ (n : ℕ). queueAt (c .before .before .before .before .before .before .before .before .before .args .port .now) n .count) (c .before .before .before .before .before .queues .ensures .0),
+    )
 
 put-queue-requires : tie.Need-put-queue-requires
 put-queue-requires c κs = search needs
@@ -46,18 +53,21 @@ same-length-2 c = search needs
 returns : tie.Need-returns
 unfolding bestEffortStep
 returns c =
-    let a = c .before .before .before .before .before .before .before .before .before .before .before .before .before .before .before .before .before .before .before .before .args in
+    let a = c .before .before .before .before .before .before .before .before .before .before .before .before .before .before .before .before .before .before .before .before .before .before .args in
     let q = c .before .before .before .before .before .before .before .before .before .before .before .before .before .before .before .before .queue-at .ensures in
+    let number = c .before .before .before .before .before .before .before .before .before .before .before .before .before .before .before .before .before .before .queues .result in
     let w = ap (λ (n : ℕ). n + a .charge) (c .before .before .before .before .before .before .before .before .before .before .before .before .before .before .waits .ensures) in
     same-outcome _ _ _ _ _ _
     (c .granted .ensures ∙ ap (λ (n : ℕ). granted n 0) w)
-    (c .before .before .before .before .before .before .before .put-waits .ensures ∙ ap₂ withWaits (c .before .before .before .before .before .before .before .before .before .before .before .put-queue .ensures ∙ ap (withQueue (a .port .now) bestEffort) (c .before .before .before .before .before .before .before .before .before .before .before .before .joined .ensures ∙ ap joinedQueue q)) w)
-    (c .before .before .before .join-at .ensures ∙ ap (λ (x : Queue). joinedMemory (a .memory .now) bestEffort x (bestEffortFrame (a .charge) (a .tag))) q)
+    (c .before .before .before .before .before .before .before .put-waits .ensures ∙ ap₂ withWaits (c .before .before .before .before .before .before .before .before .before .before .before .put-queue .ensures ∙ ap (withQueue (a .port .now) number) (c .before .before .before .before .before .before .before .before .before .before .before .before .joined .ensures ∙ ap joinedQueue q)) w)
+    (c .before .before .before .join-at .ensures ∙ ap (λ (x : Queue). joinedMemory (a .memory .now) number x (bestEffortFrame (a .charge) (a .tag))) q)
+    ∙ ap (λ (n : ℕ). bestEffortInto (a .port .now) (a .memory .now) n (a .charge) (a .tag)) (c .before .before .before .before .before .before .before .before .before .before .before .before .before .before .before .before .before .before .queues .ensures .0)
 
 pub join-spec : {M : Type 1} → statement M
 join-spec =
     tie.close
     (tie.spec
+    queues-requires
     queue-at-requires
     waits-requires
     add-waits

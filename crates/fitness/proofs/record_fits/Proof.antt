@@ -4,8 +4,8 @@ use mathlib.Core.Path.{_≡_, _∙_, sym}
 use lib.Dec.{leb}
 use lib.ListN.{length}
 use borrow.Author.Needs.{needs}
-use borrow.Author.Tests.{not-true, not-false, le-leb, lt-leb, lt-ltb, le-ltb}
-use Rattle.record.specs.Layout.{queueCount, recordLength}
+use borrow.Author.Tests.{not-true, not-false, le-leb, lt-leb}
+use Rattle.record.specs.Layout.{recordLength}
 use Rattle.fitness.specs.Clauses.{priorFits, queuesFit, streamsFit, bindingsFit, framesFit, waitsFit}
 use Rattle.fitness.specs.Fit.{recordFits}
 use Rattle.fitness.proofs.record_fits.Statement.{statement}
@@ -18,15 +18,15 @@ returns c =
     let long : leb recordLength (length p) ≡ false = lt-leb recordLength _ (c .if1 .taken) in
     simp long
 
-prior-requires : tie.Need-prior-requires
-prior-requires c κs = search needs
+prior-fits-requires : tie.Need-prior-fits-requires
+prior-fits-requires c κs = search needs
 
 returns-2 : tie.Need-returns-2
 unfolding recordFits
 returns-2 c =
     let p = c .before .before .before .before .before .args .port .now in
     let long : leb recordLength (length p) ≡ true = le-leb recordLength _ (c .before .before .if1 .left) in
-    let prior : priorFits p ≡ false = le-ltb _ queueCount (rw (c .before .prior .ensures) at (c .if2 .taken)) in
+    let prior : priorFits p ≡ false = sym (c .before .prior-fits .ensures) ∙ not-true _ (c .if2 .taken) in
     simp (long, prior)
 
 fit-requires : tie.Need-fit-requires
@@ -37,7 +37,7 @@ unfolding recordFits
 returns-3 c =
     let p = c .before .before .before .before .before .before .before .args .port .now in
     let long : leb recordLength (length p) ≡ true = le-leb recordLength _ (c .before .before .before .before .if1 .left) in
-    let prior : priorFits p ≡ true = lt-ltb _ queueCount (rw (c .before .before .before .prior .ensures) at (c .before .before .if2 .left)) in
+    let prior : priorFits p ≡ true = sym (c .before .before .before .prior-fits .ensures) ∙ not-false _ (c .before .before .if2 .left) in
     let queues : queuesFit p ≡ false = sym (c .before .fit .ensures) ∙ not-true _ (c .if3 .taken) in
     simp (long, prior, queues)
 
@@ -49,7 +49,7 @@ unfolding recordFits
 returns-4 c =
     let p = c .before .before .before .before .before .before .before .before .before .args .port .now in
     let long : leb recordLength (length p) ≡ true = le-leb recordLength _ (c .before .before .before .before .before .before .if1 .left) in
-    let prior : priorFits p ≡ true = lt-ltb _ queueCount (rw (c .before .before .before .before .before .prior .ensures) at (c .before .before .before .before .if2 .left)) in
+    let prior : priorFits p ≡ true = sym (c .before .before .before .before .before .prior-fits .ensures) ∙ not-false _ (c .before .before .before .before .if2 .left) in
     let queues : queuesFit p ≡ true = sym (c .before .before .before .fit .ensures) ∙ not-false _ (c .before .before .if3 .left) in
     let streams : streamsFit p ≡ false = sym (c .before .fit2 .ensures) ∙ not-true _ (c .if4 .taken) in
     simp (long, prior, queues, streams)
@@ -62,7 +62,7 @@ unfolding recordFits
 returns-5 c =
     let p = c .before .before .before .before .before .before .before .before .before .before .before .args .port .now in
     let long : leb recordLength (length p) ≡ true = le-leb recordLength _ (c .before .before .before .before .before .before .before .before .if1 .left) in
-    let prior : priorFits p ≡ true = lt-ltb _ queueCount (rw (c .before .before .before .before .before .before .before .prior .ensures) at (c .before .before .before .before .before .before .if2 .left)) in
+    let prior : priorFits p ≡ true = sym (c .before .before .before .before .before .before .before .prior-fits .ensures) ∙ not-false _ (c .before .before .before .before .before .before .if2 .left) in
     let queues : queuesFit p ≡ true = sym (c .before .before .before .before .before .fit .ensures) ∙ not-false _ (c .before .before .before .before .if3 .left) in
     let streams : streamsFit p ≡ true = sym (c .before .before .before .fit2 .ensures) ∙ not-false _ (c .before .before .if4 .left) in
     let bindings : bindingsFit p ≡ false = sym (c .before .fit3 .ensures) ∙ not-true _ (c .if5 .taken) in
@@ -77,7 +77,7 @@ returns-6 c =
     let p = c .before .before .before .before .before .before .before .before .before .before .before .before .before .args .port .now in
     let m = c .before .before .before .before .before .before .before .before .before .before .before .before .before .args .memory .now in
     let long : leb recordLength (length p) ≡ true = le-leb recordLength _ (c .before .before .before .before .before .before .before .before .before .before .if1 .left) in
-    let prior : priorFits p ≡ true = lt-ltb _ queueCount (rw (c .before .before .before .before .before .before .before .before .before .prior .ensures) at (c .before .before .before .before .before .before .before .before .if2 .left)) in
+    let prior : priorFits p ≡ true = sym (c .before .before .before .before .before .before .before .before .before .prior-fits .ensures) ∙ not-false _ (c .before .before .before .before .before .before .before .before .if2 .left) in
     let queues : queuesFit p ≡ true = sym (c .before .before .before .before .before .before .before .fit .ensures) ∙ not-false _ (c .before .before .before .before .before .before .if3 .left) in
     let streams : streamsFit p ≡ true = sym (c .before .before .before .before .before .fit2 .ensures) ∙ not-false _ (c .before .before .before .before .if4 .left) in
     let bindings : bindingsFit p ≡ true = sym (c .before .before .before .fit3 .ensures) ∙ not-false _ (c .before .before .if5 .left) in
@@ -93,7 +93,7 @@ returns-7 c =
     let p = c .before .before .before .before .before .before .before .before .before .before .before .before .before .before .before .args .port .now in
     let m = c .before .before .before .before .before .before .before .before .before .before .before .before .before .before .before .args .memory .now in
     let long : leb recordLength (length p) ≡ true = le-leb recordLength _ (c .before .before .before .before .before .before .before .before .before .before .before .before .if1 .left) in
-    let prior : priorFits p ≡ true = lt-ltb _ queueCount (rw (c .before .before .before .before .before .before .before .before .before .before .before .prior .ensures) at (c .before .before .before .before .before .before .before .before .before .before .if2 .left)) in
+    let prior : priorFits p ≡ true = sym (c .before .before .before .before .before .before .before .before .before .before .before .prior-fits .ensures) ∙ not-false _ (c .before .before .before .before .before .before .before .before .before .before .if2 .left) in
     let queues : queuesFit p ≡ true = sym (c .before .before .before .before .before .before .before .before .before .fit .ensures) ∙ not-false _ (c .before .before .before .before .before .before .before .before .if3 .left) in
     let streams : streamsFit p ≡ true = sym (c .before .before .before .before .before .before .before .fit2 .ensures) ∙ not-false _ (c .before .before .before .before .before .before .if4 .left) in
     let bindings : bindingsFit p ≡ true = sym (c .before .before .before .before .before .fit3 .ensures) ∙ not-false _ (c .before .before .before .before .if5 .left) in
@@ -110,7 +110,7 @@ returns-8 c =
     let p = c .before .before .before .before .before .before .before .before .before .before .before .before .before .before .before .before .args .port .now in
     let m = c .before .before .before .before .before .before .before .before .before .before .before .before .before .before .before .before .args .memory .now in
     let long : leb recordLength (length p) ≡ true = le-leb recordLength _ (c .before .before .before .before .before .before .before .before .before .before .before .before .before .if1 .left) in
-    let prior : priorFits p ≡ true = lt-ltb _ queueCount (rw (c .before .before .before .before .before .before .before .before .before .before .before .before .prior .ensures) at (c .before .before .before .before .before .before .before .before .before .before .before .if2 .left)) in
+    let prior : priorFits p ≡ true = sym (c .before .before .before .before .before .before .before .before .before .before .before .before .prior-fits .ensures) ∙ not-false _ (c .before .before .before .before .before .before .before .before .before .before .before .if2 .left) in
     let queues : queuesFit p ≡ true = sym (c .before .before .before .before .before .before .before .before .before .before .fit .ensures) ∙ not-false _ (c .before .before .before .before .before .before .before .before .before .if3 .left) in
     let streams : streamsFit p ≡ true = sym (c .before .before .before .before .before .before .before .before .fit2 .ensures) ∙ not-false _ (c .before .before .before .before .before .before .before .if4 .left) in
     let bindings : bindingsFit p ≡ true = sym (c .before .before .before .before .before .before .fit3 .ensures) ∙ not-false _ (c .before .before .before .before .before .if5 .left) in
@@ -123,7 +123,7 @@ record-fits-spec =
     tie.close
     (tie.spec
     returns
-    prior-requires
+    prior-fits-requires
     returns-2
     fit-requires
     returns-3

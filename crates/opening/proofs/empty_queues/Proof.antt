@@ -1,5 +1,5 @@
 -- `opening::empty_queues` meets its contract. The loop's invariant: the record is what the turns done so far make of it. Assumes nothing.
-use Prim.Native.Nat.{_≤_, _-_, ℕ}
+use Prim.Native.Nat.{ℕ, _+_, _-_, _≤_}
 use mathlib.Core.List.{List}
 use mathlib.Core.Path.{_≡_, _∙_, ap₂}
 use native.Mathlib.Numerals.{add-one}
@@ -10,15 +10,17 @@ use Rattle.lists.specs.Turns.{iterate}
 use Rattle.queue.specs.Ring.{emptyQueue}
 use Rattle.queue.specs.declared.Queue.{Queue}
 use Rattle.record.specs.Head.{withQueue}
-use Rattle.record.specs.Layout.{allQueues}
 use Rattle.opening.proofs.empty_queues.Statement.{statement}
 use Rattle.opening.proofs.empty_queues.Tie as tie
 
 abbrev Inv-loop : tie.InvT-loop
-Inv-loop port₀ q₀ port q = (q ≤ allQueues) × ((length port ≡ length port₀) × (port ≡ iterate (λ q l. withQueue l q emptyQueue) q port₀))
+Inv-loop port₀ best q₀ port q = (q ≤ best + 1) × ((length port ≡ length port₀) × (port ≡ iterate (λ q l. withQueue l q emptyQueue) q port₀))
 
 abbrev μ-loop : tie.MeasureT-loop
-μ-loop port₀ q₀ port q = allQueues - q
+μ-loop port₀ best q₀ port q = best + 1 - q
+
+queues-requires : tie.Need-queues-requires Inv-loop μ-loop
+queues-requires c κs = search needs
 
 loop-holds : tie.Need-loop-holds Inv-loop μ-loop
 unfolding iterate
@@ -48,8 +50,9 @@ same-length c = search needs
 returns : tie.Need-returns Inv-loop μ-loop
 returns c =
     let l = c .before .loop in
-    let all : l .q ≡ allQueues = omega arith in
-    rw all at (l .inv .1 .1)
+    let best = c .before .before .queues in
+    let all : l .q ≡ best .result + 1 = omega arith in
+    rw (best .ensures .0) at (rw all at (l .inv .1 .1))
 
 pub empty-queues-spec : {M : Type 1} → statement M
 empty-queues-spec =
@@ -57,6 +60,7 @@ empty-queues-spec =
     (tie.spec
     Inv-loop
     μ-loop
+    queues-requires
     loop-holds
     empty-requires
     put-queue-requires

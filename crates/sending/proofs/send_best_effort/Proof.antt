@@ -4,7 +4,6 @@ use mathlib.Core.Path.{refl, _∙_, ap, ap₂}
 use borrow.Author.Needs.{needs}
 use Rattle.queue.specs.declared.Frame.{Frame}
 use Rattle.record.specs.Head.{withWaits, withQueue}
-use Rattle.record.specs.Layout.{bestEffort}
 use Rattle.stream.specs.Replies.{granted}
 use Rattle.steps.proofs.OutcomeLaws.{same-outcome}
 use Rattle.sending.proofs.send_best_effort.Statement.{statement}
@@ -44,7 +43,7 @@ returns c =
     same-outcome _ _ _ _ _ _
     (c .granted .ensures ∙ ap (λ (x : Frame). granted (x .stream) (x .tag)) f)
     (c .before .before .before .before .put-waits .ensures
-    ∙ ap₂ withWaits (c .before .before .before .before .before .before .before .before .put-queue .ensures ∙ ap (withQueue (a .port .now) bestEffort) (c .before .before .before .before .before .before .before .before .before .sent .ensures)) (c .before .before .before .before .before .before .before .before .before .before .before .less .ensures ∙ ap₂ _-_ (c .before .before .before .before .before .before .before .before .before .before .before .before .waits .ensures) (ap (λ (x : Frame). x .charge) f)))
+    ∙ ap₂ withWaits (c .before .before .before .before .before .before .before .before .put-queue .ensures ∙ ap (withQueue (a .port .now) (a .number)) (c .before .before .before .before .before .before .before .before .before .sent .ensures)) (c .before .before .before .before .before .before .before .before .before .before .before .less .ensures ∙ ap₂ _-_ (c .before .before .before .before .before .before .before .before .before .before .before .before .waits .ensures) (ap (λ (x : Frame). x .charge) f)))
     refl
 
 pub send-best-effort-spec : {M : Type 1} → statement M

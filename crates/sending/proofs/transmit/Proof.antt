@@ -2,13 +2,17 @@
 use mathlib.Core.Path.{refl, _∙_, ap, sym}
 use borrow.Author.Needs.{needs}
 use Rattle.record.specs.Head.{queueAt}
-use Rattle.record.specs.Layout.{bestEffort}
-use Rattle.steps.specs.Roles.{roleAt, currentRole}
+use Rattle.record.specs.Queues.{bestEffortAt}
+use Rattle.steps.specs.Roles.{roleAt, priorRole, currentRole}
 use Rattle.sending.specs.Sending.{transmitStep}
 use Rattle.steps.proofs.OutcomeLaws.{same-outcome}
+use Rattle.steps.proofs.RoleLaws.{role-read}
 use Rattle.sending.proofs.SendLaws.{sends-prior, sends-current, sends-best-effort, sends-nothing, same-queues}
 use Rattle.sending.proofs.transmit.Statement.{statement}
 use Rattle.sending.proofs.transmit.Tie as tie
+
+roles-of-requires : tie.Need-roles-of-requires
+roles-of-requires c κs = search needs
 
 in-role-requires : tie.Need-in-role-requires
 in-role-requires c κs = search needs
@@ -25,14 +29,16 @@ same-length c = search needs
 returns : tie.Need-returns
 unfolding transmitStep
 returns c =
-    let a = c .before .before .before .before .before .before .before .before .before .before .before .before .args in
+    let a = c .before .before .before .before .before .before .before .before .before .before .before .before .before .args in
     let p = a .port .now in
     let m = a .memory .now in
+    let roles = c .before .before .before .before .before .before .before .before .before .roles-of in
     let prior = c .before .before .before .before .before .before .before .before .in-role in
+    let is-prior = role-read p (roles .result) priorRole _ (prior .ensures .0) (roles .ensures .0) in
     let in-prior = c .before .before .before .before .before .before .queue-at in
     c .before .before .send .ensures
-    ∙ sym (sends-prior p m (prior .result) (roleAt p currentRole) (in-prior .result) (queueAt p (roleAt p currentRole)) (queueAt p bestEffort) (c .before .before .before .before .if1 .taken))
-    ∙ same-queues p m (prior .result) (roleAt p currentRole) _ _ (in-prior .result) (queueAt p (roleAt p currentRole)) (queueAt p bestEffort) _ _ _ (prior .ensures .0) refl (in-prior .ensures ∙ ap (queueAt p) (prior .ensures .0)) refl refl
+    ∙ sym (sends-prior p m (prior .result) (roleAt p currentRole) (bestEffortAt p) (in-prior .result) (queueAt p (roleAt p currentRole)) (queueAt p (bestEffortAt p)) (c .before .before .before .before .if1 .taken))
+    ∙ same-queues p m (prior .result) (roleAt p currentRole) (bestEffortAt p) _ _ _ (in-prior .result) (queueAt p (roleAt p currentRole)) (queueAt p (bestEffortAt p)) _ _ _ is-prior refl refl (in-prior .ensures ∙ ap (queueAt p) is-prior) refl refl
 
 in-role-requires-2 : tie.Need-in-role-requires-2
 in-role-requires-2 c κs = search needs
@@ -52,13 +58,16 @@ returns-2 c =
     let a = c .before .before .before .before .before .before .before .before .before .before .before .before .before .before .before .before .before .before .args in
     let p = a .port .now in
     let m = a .memory .now in
-    let prior = c .before .before .before .before .before .before .before .before .before .before .before .before .before .before .in-role in
-    let in-prior = c .before .before .before .before .before .before .before .before .before .before .before .before .queue-at in
+    let roles = c .before .before .before .before .before .before .before .before .before .before .before .before .before .before .roles-of in
+    let prior = c .before .before .before .before .before .before .before .before .before .before .before .before .before .in-role in
+    let is-prior = role-read p (roles .result) priorRole _ (prior .ensures .0) (roles .ensures .0) in
+    let in-prior = c .before .before .before .before .before .before .before .before .before .before .before .queue-at in
     let current = c .before .before .before .before .before .before .before .before .in-role2 in
+    let is-current = role-read p (roles .result) currentRole _ (current .ensures .0) (roles .ensures .0) in
     let in-current = c .before .before .before .before .before .before .queue-at2 in
     c .before .before .send2 .ensures
-    ∙ sym (sends-current p m (prior .result) (current .result) (in-prior .result) (in-current .result) (queueAt p bestEffort) (c .before .before .before .before .before .before .before .before .before .before .if1 .left) (c .before .before .before .before .if2 .taken))
-    ∙ same-queues p m (prior .result) (current .result) _ _ (in-prior .result) (in-current .result) (queueAt p bestEffort) _ _ _ (prior .ensures .0) (current .ensures .0) (in-prior .ensures ∙ ap (queueAt p) (prior .ensures .0)) (in-current .ensures ∙ ap (queueAt p) (current .ensures .0)) refl
+    ∙ sym (sends-current p m (prior .result) (current .result) (roles .result .queues) (in-prior .result) (in-current .result) (queueAt p (bestEffortAt p)) (c .before .before .before .before .before .before .before .before .before .if1 .left) (c .before .before .before .before .if2 .taken))
+    ∙ same-queues p m (prior .result) (current .result) (roles .result .queues) _ _ _ (in-prior .result) (in-current .result) (queueAt p (bestEffortAt p)) _ _ _ is-prior is-current (roles .ensures .0 .0) (in-prior .ensures ∙ ap (queueAt p) is-prior) (in-current .ensures ∙ ap (queueAt p) is-current) refl
 
 queue-at-requires-3 : tie.Need-queue-at-requires-3
 queue-at-requires-3 c κs = search needs
@@ -75,14 +84,17 @@ returns-3 c =
     let a = c .before .before .before .before .before .before .before .before .before .before .before .before .before .before .before .before .before .before .before .before .before .before .args in
     let p = a .port .now in
     let m = a .memory .now in
-    let prior = c .before .before .before .before .before .before .before .before .before .before .before .before .before .before .before .before .before .before .in-role in
-    let in-prior = c .before .before .before .before .before .before .before .before .before .before .before .before .before .before .before .before .queue-at in
+    let roles = c .before .before .before .before .before .before .before .before .before .before .before .before .before .before .before .before .before .before .roles-of in
+    let prior = c .before .before .before .before .before .before .before .before .before .before .before .before .before .before .before .before .before .in-role in
+    let is-prior = role-read p (roles .result) priorRole _ (prior .ensures .0) (roles .ensures .0) in
+    let in-prior = c .before .before .before .before .before .before .before .before .before .before .before .before .before .before .before .queue-at in
     let current = c .before .before .before .before .before .before .before .before .before .before .before .before .in-role2 in
+    let is-current = role-read p (roles .result) currentRole _ (current .ensures .0) (roles .ensures .0) in
     let in-current = c .before .before .before .before .before .before .before .before .before .before .queue-at2 in
     let in-best-effort = c .before .before .before .before .before .before .queue-at3 in
     c .before .before .send-best-effort .ensures
-    ∙ sym (sends-best-effort p m (prior .result) (current .result) (in-prior .result) (in-current .result) (in-best-effort .result) (c .before .before .before .before .before .before .before .before .before .before .before .before .before .before .if1 .left) (c .before .before .before .before .before .before .before .before .if2 .left) (c .before .before .before .before .if3 .taken))
-    ∙ same-queues p m (prior .result) (current .result) _ _ (in-prior .result) (in-current .result) (in-best-effort .result) _ _ _ (prior .ensures .0) (current .ensures .0) (in-prior .ensures ∙ ap (queueAt p) (prior .ensures .0)) (in-current .ensures ∙ ap (queueAt p) (current .ensures .0)) (in-best-effort .ensures)
+    ∙ sym (sends-best-effort p m (prior .result) (current .result) (roles .result .queues) (in-prior .result) (in-current .result) (in-best-effort .result) (c .before .before .before .before .before .before .before .before .before .before .before .before .before .if1 .left) (c .before .before .before .before .before .before .before .before .if2 .left) (c .before .before .before .before .if3 .taken))
+    ∙ same-queues p m (prior .result) (current .result) (roles .result .queues) _ _ _ (in-prior .result) (in-current .result) (in-best-effort .result) _ _ _ is-prior is-current (roles .ensures .0 .0) (in-prior .ensures ∙ ap (queueAt p) is-prior) (in-current .ensures ∙ ap (queueAt p) is-current) (in-best-effort .ensures ∙ ap (queueAt p) (roles .ensures .0 .0))
 
 granted-requires : tie.Need-granted-requires
 granted-requires c κs = search needs
@@ -96,19 +108,23 @@ returns-4 c =
     let a = c .before .before .before .before .before .before .before .before .before .before .before .before .before .before .before .before .before .before .before .args in
     let p = a .port .now in
     let m = a .memory .now in
-    let prior = c .before .before .before .before .before .before .before .before .before .before .before .before .before .before .before .in-role in
-    let in-prior = c .before .before .before .before .before .before .before .before .before .before .before .before .before .queue-at in
+    let roles = c .before .before .before .before .before .before .before .before .before .before .before .before .before .before .before .roles-of in
+    let prior = c .before .before .before .before .before .before .before .before .before .before .before .before .before .before .in-role in
+    let is-prior = role-read p (roles .result) priorRole _ (prior .ensures .0) (roles .ensures .0) in
+    let in-prior = c .before .before .before .before .before .before .before .before .before .before .before .before .queue-at in
     let current = c .before .before .before .before .before .before .before .before .before .in-role2 in
+    let is-current = role-read p (roles .result) currentRole _ (current .ensures .0) (roles .ensures .0) in
     let in-current = c .before .before .before .before .before .before .before .queue-at2 in
     let in-best-effort = c .before .before .before .queue-at3 in
     same-outcome _ _ _ _ _ _ (c .granted .ensures) refl refl
-    ∙ sym (sends-nothing p m (prior .result) (current .result) (in-prior .result) (in-current .result) (in-best-effort .result) (c .before .before .before .before .before .before .before .before .before .before .before .if1 .left) (c .before .before .before .before .before .if2 .left) (c .before .if3 .left))
-    ∙ same-queues p m (prior .result) (current .result) _ _ (in-prior .result) (in-current .result) (in-best-effort .result) _ _ _ (prior .ensures .0) (current .ensures .0) (in-prior .ensures ∙ ap (queueAt p) (prior .ensures .0)) (in-current .ensures ∙ ap (queueAt p) (current .ensures .0)) (in-best-effort .ensures)
+    ∙ sym (sends-nothing p m (prior .result) (current .result) (roles .result .queues) (in-prior .result) (in-current .result) (in-best-effort .result) (c .before .before .before .before .before .before .before .before .before .before .if1 .left) (c .before .before .before .before .before .if2 .left) (c .before .if3 .left))
+    ∙ same-queues p m (prior .result) (current .result) (roles .result .queues) _ _ _ (in-prior .result) (in-current .result) (in-best-effort .result) _ _ _ is-prior is-current (roles .ensures .0 .0) (in-prior .ensures ∙ ap (queueAt p) is-prior) (in-current .ensures ∙ ap (queueAt p) is-current) (in-best-effort .ensures ∙ ap (queueAt p) (roles .ensures .0 .0))
 
 pub transmit-spec : {M : Type 1} → statement M
 transmit-spec =
     tie.close
     (tie.spec
+    roles-of-requires
     in-role-requires
     queue-at-requires
     send-requires

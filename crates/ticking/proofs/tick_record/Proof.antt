@@ -1,18 +1,12 @@
 -- `ticking::tick_record` meets its contract. Write after write. Assumes nothing.
 use Prim.Native.Nat.{ℕ}
-use mathlib.Core.Path.{_∙_, ap, ap₂}
+use mathlib.Core.List.{List}
+use mathlib.Core.Path.{_∙_, ap}
 use borrow.Author.Needs.{needs}
-use Rattle.queue.specs.declared.Queue.{Queue}
 use Rattle.record.specs.Head.{withPrior, withQueue}
-use Rattle.ticking.specs.Ticking.{streamsTicked, tickedRecord}
+use Rattle.ticking.specs.Ticking.{streamsTicked}
 use Rattle.ticking.proofs.tick_record.Statement.{statement}
 use Rattle.ticking.proofs.tick_record.Tie as tie
-
-in-role-requires : tie.Need-in-role-requires
-in-role-requires c κs = search needs
-
-in-role-requires-2 : tie.Need-in-role-requires-2
-in-role-requires-2 c κs = search needs
 
 empty-requires : tie.Need-empty-requires
 empty-requires c κs = search needs
@@ -30,22 +24,17 @@ same-length : tie.Need-same-length
 same-length c = search needs
 
 returns : tie.Need-returns
-unfolding tickedRecord
 returns c =
-    let p = c .before .before .before .before .before .before .before .before .before .before .before .before .before .before .before .before .before .before .args .port .now in
+    let a = c .before .before .before .before .before .before .before .before .before .before .before .before .before .before .args in
     c .before .before .tick-streams .ensures
     ∙ ap streamsTicked
     (c .before .before .before .before .before .before .put-prior .ensures
-    ∙ ap₂ withPrior
-    (c .before .before .before .before .before .before .before .before .before .before .put-queue .ensures ∙ ap₂ (λ (q : ℕ) (x : Queue). withQueue p q x) (c .before .before .before .before .before .before .before .before .before .before .before .before .before .before .before .in-role .ensures .0) (c .before .before .before .before .before .before .before .before .before .before .before .empty .ensures))
-    (c .before .before .before .before .before .before .before .before .before .before .before .before .before .in-role2 .ensures .0))
+    ∙ ap (λ (l : List ℕ). withPrior l (a .current)) (c .before .before .before .before .before .before .before .before .before .before .put-queue .ensures ∙ ap (withQueue (a .port .now) (a .prior)) (c .before .before .before .before .before .before .before .before .before .before .before .empty .ensures)))
 
 pub tick-record-spec : {M : Type 1} → statement M
 tick-record-spec =
     tie.close
     (tie.spec
-    in-role-requires
-    in-role-requires-2
     empty-requires
     put-queue-requires
     put-prior-requires

@@ -1,5 +1,5 @@
 -- `fitness::frames::fit` meets its contract. The loop's invariant: what the turns done so far answer. Assumes nothing.
-use Prim.Native.Nat.{_≤_, _-_}
+use Prim.Native.Nat.{ℕ, _+_, _-_, _≤_}
 use mathlib.Core.Bool.{_&&_}
 use mathlib.Core.Path.{_≡_, _∙_, ap, ap₂}
 use native.Mathlib.Numerals.{add-one}
@@ -9,16 +9,18 @@ use Rattle.lists.specs.Turns.{allTo, allOf}
 use Rattle.queue.specs.Waiting.{waiting}
 use Rattle.queue.specs.declared.Queue.{Queue}
 use Rattle.record.specs.Head.{queueAt}
-use Rattle.record.specs.Layout.{allQueues}
 use Rattle.fitness.specs.Clauses.{frameFits}
 use Rattle.fitness.proofs.frames.fit.Statement.{statement}
 use Rattle.fitness.proofs.frames.fit.Tie as tie
 
 abbrev Inv-loop : tie.InvT-loop
-Inv-loop port memory ok₀ q₀ ok q = (q ≤ allQueues) × (ok ≡ allTo (λ k. allOf (frameFits k) (waiting memory k (queueAt port k))) q)
+Inv-loop port memory best ok₀ q₀ ok q = (q ≤ best + 1) × (ok ≡ allTo (λ k. allOf (frameFits best k) (waiting memory k (queueAt port k))) q)
 
 abbrev μ-loop : tie.MeasureT-loop
-μ-loop port memory ok₀ q₀ ok q = allQueues - q
+μ-loop port memory best ok₀ q₀ ok q = best + 1 - q
+
+queues-requires : tie.Need-queues-requires Inv-loop μ-loop
+queues-requires c κs = search needs
 
 loop-holds : tie.Need-loop-holds Inv-loop μ-loop
 unfolding allTo
@@ -43,14 +45,15 @@ loop-again : tie.Need-loop-again Inv-loop μ-loop
 unfolding allTo
 loop-again c =
     let l = c .before .before .before .before .loop in
-    let m = c .before .before .before .before .before .before .before .args .memory .now in
-    (omega arith, rw (add-one (l .q)) (c .both .ensures ∙ ap₂ _&&_ (c .before .queue-fits .ensures ∙ ap (λ (x : Queue). allOf (frameFits (l .q)) (waiting m (l .q) x)) (c .before .before .queue-at .ensures)) (l .inv .1)))
+    let m = c .before .before .before .before .before .before .before .before .args .memory .now in
+    (omega arith, rw (add-one (l .q)) (c .both .ensures ∙ ap₂ _&&_ (c .before .queue-fits .ensures ∙ ap (λ (x : Queue). allOf (frameFits (c .before .before .before .before .before .queues .result) (l .q)) (waiting m (l .q) x)) (c .before .before .queue-at .ensures)) (l .inv .1)))
 
 returns : tie.Need-returns Inv-loop μ-loop
 returns c =
     let l = c .before .loop in
-    let all : l .q ≡ allQueues = omega arith in
-    rw all at (l .inv .1)
+    let best = c .before .before .queues in
+    let all : l .q ≡ best .result + 1 = omega arith in
+    rw (best .ensures .0) at (rw all at (l .inv .1))
 
 pub fit-spec : {M : Type 1} → statement M
 fit-spec =
@@ -58,6 +61,7 @@ fit-spec =
     (tie.spec
     Inv-loop
     μ-loop
+    queues-requires
     loop-holds
     queue-at-requires
     queue-fits-requires

@@ -17,10 +17,10 @@ use Rattle.fitness.proofs.frames.queue_fits.Tie as tie
 -- `fitness::frames::queue_fits` meets its contract. The loop's invariant: what the turns done so far answer; a test by turns is the test of the list. Assumes nothing.
 
 abbrev Inv-loop : tie.InvT-loop
-Inv-loop memory number queue count ok₀ i₀ ok i = (i ≤ count) × (ok ≡ allTo (λ k. frameFits number (frameAt memory (memoryOffset number queue k))) i)
+Inv-loop memory best number queue count ok₀ i₀ ok i = (i ≤ count) × (ok ≡ allTo (λ k. frameFits best number (frameAt memory (memoryOffset number queue k))) i)
 
 abbrev μ-loop : tie.MeasureT-loop
-μ-loop memory number queue count ok₀ i₀ ok i = count - i
+μ-loop memory best number queue count ok₀ i₀ ok i = count - i
 
 loop-holds : tie.Need-loop-holds Inv-loop μ-loop
 unfolding allTo
@@ -45,7 +45,7 @@ loop-again : tie.Need-loop-again Inv-loop μ-loop
 unfolding allTo
 loop-again c =
     let l = c .before .before .before .before .loop in
-    (omega arith, rw (add-one (l .i)) (c .both .ensures ∙ ap₂ _&&_ (c .before .frame-fits .ensures ∙ ap (frameFits (c .before .before .before .before .before .before .args .number)) (c .before .before .frame-at .ensures)) (l .inv .1)))
+    (omega arith, rw (add-one (l .i)) (c .both .ensures ∙ ap₂ _&&_ (c .before .frame-fits .ensures ∙ ap (frameFits (c .before .before .before .before .before .before .args .best) (c .before .before .before .before .before .before .args .number)) (c .before .before .frame-at .ensures)) (l .inv .1)))
 
 returns : tie.Need-returns Inv-loop μ-loop
 unfolding waiting
@@ -53,7 +53,7 @@ returns c =
     let a = c .before .before .before .args in
     let l = c .before .loop in
     let all : l .i ≡ a .queue .count = omega arith in
-    rw all at (l .inv .1) ∙ allTo-list (frameFits (a .number)) (λ k. frameAt (a .memory .now) (memoryOffset (a .number) (a .queue) k)) (a .queue .count)
+    rw all at (l .inv .1) ∙ allTo-list (frameFits (a .best) (a .number)) (λ k. frameAt (a .memory .now) (memoryOffset (a .number) (a .queue) k)) (a .queue .count)
 
 pub queue-fits-spec : {M : Type 1} → statement M
 queue-fits-spec =

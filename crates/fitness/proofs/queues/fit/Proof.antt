@@ -1,5 +1,5 @@
 -- `fitness::queues::fit` meets its contract. The loop's invariant: what the turns done so far answer. Assumes nothing.
-use Prim.Native.Nat.{_≤_, _-_}
+use Prim.Native.Nat.{ℕ, _+_, _-_, _≤_}
 use mathlib.Core.Bool.{_&&_}
 use mathlib.Core.Path.{_≡_, _∙_, ap, ap₂}
 use native.Mathlib.Numerals.{add-one}
@@ -7,7 +7,6 @@ use native.Mathlib.Omega.{arith}
 use borrow.Author.Needs.{needs}
 use Rattle.lists.specs.Turns.{allTo}
 use Rattle.record.specs.Head.{queueAt}
-use Rattle.record.specs.Layout.{allQueues}
 use Rattle.fitness.specs.Clauses.{queueFits}
 use Rattle.fitness.proofs.queues.fit.Statement.{statement}
 use Rattle.fitness.proofs.queues.fit.Tie as tie
@@ -15,10 +14,13 @@ use Rattle.fitness.proofs.queues.fit.Tie as tie
 -- `fitness::queues::fit` meets its contract. The loop's invariant: what the turns done so far answer. Assumes nothing.
 
 abbrev Inv-loop : tie.InvT-loop
-Inv-loop port ok₀ q₀ ok q = (q ≤ allQueues) × (ok ≡ allTo (λ k. queueFits (queueAt port k)) q)
+Inv-loop port best ok₀ q₀ ok q = (q ≤ best + 1) × (ok ≡ allTo (λ k. queueFits (queueAt port k)) q)
 
 abbrev μ-loop : tie.MeasureT-loop
-μ-loop port ok₀ q₀ ok q = allQueues - q
+μ-loop port best ok₀ q₀ ok q = best + 1 - q
+
+queues-requires : tie.Need-queues-requires Inv-loop μ-loop
+queues-requires c κs = search needs
 
 loop-holds : tie.Need-loop-holds Inv-loop μ-loop
 unfolding allTo
@@ -48,8 +50,9 @@ loop-again c =
 returns : tie.Need-returns Inv-loop μ-loop
 returns c =
     let l = c .before .loop in
-    let all : l .q ≡ allQueues = omega arith in
-    rw all at (l .inv .1)
+    let best = c .before .before .queues in
+    let all : l .q ≡ best .result + 1 = omega arith in
+    rw (best .ensures .0) at (rw all at (l .inv .1))
 
 pub fit-spec : {M : Type 1} → statement M
 fit-spec =
@@ -57,6 +60,7 @@ fit-spec =
     (tie.spec
     Inv-loop
     μ-loop
+    queues-requires
     loop-holds
     queue-at-requires
     queue-fits-requires

@@ -15,10 +15,13 @@ use Rattle.fitness.proofs.streams.fit.Tie as tie
 -- `fitness::streams::fit` meets its contract. The loop's invariant: what the turns done so far answer. Assumes nothing.
 
 abbrev Inv-loop : tie.InvT-loop
-Inv-loop port ok₀ s₀ ok s = (s ≤ streamCount) × (ok ≡ allTo (λ k. streamFits (streamAt port k)) s)
+Inv-loop port last ok₀ s₀ ok s = (s ≤ streamCount) × (ok ≡ allTo (λ k. streamFits last (streamAt port k)) s)
 
 abbrev μ-loop : tie.MeasureT-loop
-μ-loop port ok₀ s₀ ok s = streamCount - s
+μ-loop port last ok₀ s₀ ok s = streamCount - s
+
+last-place-requires : tie.Need-last-place-requires Inv-loop μ-loop
+last-place-requires c κs = search needs
 
 loop-holds : tie.Need-loop-holds Inv-loop μ-loop
 unfolding allTo
@@ -43,13 +46,13 @@ loop-again : tie.Need-loop-again Inv-loop μ-loop
 unfolding allTo
 loop-again c =
     let l = c .before .before .before .before .loop in
-    (omega arith, rw (add-one (l .s)) (c .both .ensures ∙ ap₂ _&&_ (c .before .stream-fits .ensures ∙ ap streamFits (c .before .before .stream-at .ensures)) (l .inv .1)))
+    (omega arith, rw (add-one (l .s)) (c .both .ensures ∙ ap₂ _&&_ (c .before .stream-fits .ensures ∙ ap (streamFits (c .before .before .before .before .before .last-place .result)) (c .before .before .stream-at .ensures)) (l .inv .1)))
 
 returns : tie.Need-returns Inv-loop μ-loop
 returns c =
     let l = c .before .loop in
     let all : l .s ≡ streamCount = omega arith in
-    rw all at (l .inv .1)
+    rw (c .before .before .last-place .ensures) at (rw all at (l .inv .1))
 
 pub fit-spec : {M : Type 1} → statement M
 fit-spec =
@@ -57,6 +60,7 @@ fit-spec =
     (tie.spec
     Inv-loop
     μ-loop
+    last-place-requires
     loop-holds
     stream-at-requires
     stream-fits-requires

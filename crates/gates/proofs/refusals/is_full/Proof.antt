@@ -8,4 +8,4 @@ use Rattle.gates.proofs.refusals.is_full.Statement.{statement}
 use Rattle.gates.proofs.refusals.is_full.Tie as tie
 
 pub is-full-spec : {M : Type 1} → statement M
-is-full-spec = tie.close (tie.spec (λ c κs. search needs) (λ c. ap (λ (q : Queue). leb placeCount (q .count)) (c .before .queue-at .ensures)))
+is-full-spec = tie.close (tie.spec (λ c κs. search needs) (λ c. ap (λ (q : Queue). leb placeCount (q .count)) (c .before .best-effort .ensures)))

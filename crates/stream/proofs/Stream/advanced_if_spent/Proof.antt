@@ -2,7 +2,6 @@
 use native.Mathlib.Omega.{arith}
 use borrow.Author.Needs.{needs}
 use borrow.Author.Tests.{lt-ltb, le-ltb, eq-eqb, ne-eqb}
-use Rattle.stream.specs.State.{lastPlace}
 use Rattle.stream.proofs.Stream.advanced_if_spent.Statement.{statement}
 use Rattle.stream.proofs.Stream.advanced_if_spent.Tie as tie
 
@@ -11,8 +10,8 @@ returns c = simp (ne-eqb _ _ (c .if1 .taken))
 
 returns-2 : tie.Need-returns-2
 returns-2 c =
-    let s = c .before .before .before .before .args .self in
-    simp (eq-eqb _ _ (c .before .before .if1 .left), le-ltb (s .place) lastPlace (omega arith))
+    let a = c .before .before .before .before .args in
+    simp (eq-eqb _ _ (c .before .before .if1 .left), le-ltb (a .self .place) (a .last) (omega arith))
 
 advanced-requires : tie.Need-advanced-requires
 advanced-requires c κs = search needs

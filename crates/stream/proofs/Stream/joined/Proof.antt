@@ -1,7 +1,6 @@
 -- `stream::Stream::joined` meets its contract. The callees' results, put one into the other. Assumes nothing.
 use mathlib.Core.Path.{_∙_, ap}
 use borrow.Author.Needs.{needs}
-use Rattle.stream.specs.State.{lastPlace}
 use Rattle.stream.specs.Steps.{advancedIfSpent}
 use Rattle.stream.specs.declared.Arrival.the-variants.{Joined}
 use Rattle.stream.proofs.Stream.joined.Statement.{statement}
@@ -17,7 +16,7 @@ advanced-if-spent-requires : tie.Need-advanced-if-spent-requires
 advanced-if-spent-requires c κs = search needs
 
 returns : tie.Need-returns
-returns c = ap (Joined (c .before .before .before .args .self .place)) (c .advanced-if-spent .ensures ∙ ap (advancedIfSpent lastPlace) (c .before .at .ensures))
+returns c = ap (Joined (c .before .before .before .args .self .place)) (c .advanced-if-spent .ensures ∙ ap (advancedIfSpent (c .before .before .before .args .last)) (c .before .at .ensures))
 
 pub joined-spec : {M : Type 1} → statement M
 joined-spec = tie.close (tie.spec sub-at at-requires advanced-if-spent-requires returns)
