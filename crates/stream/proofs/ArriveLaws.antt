@@ -61,22 +61,23 @@ module _ (last : ℕ) (s : Stream) (a : ℕ) where
   exact-at-last h p = rw (eq-eqb (s .left - a) 0 (omega arith), le-ltb (s .place) last p) (ap (λ (n : ℕ). Joined (s .place) (atPlace s (s .place) n)) (omega arith))
 
 -- Whatever holds of each way in which an arrival can end holds of the arrival: it joins at the place, joins at the one after it, or is
--- discarded.
+-- discarded, since the place is last or since it is of more than P.
 pub arrive-cases : (last : ℕ) (s : Stream) (a : ℕ) (G : Arrival → Type 0)
     → (a ≤ s .left → G (joined last s a))
     → (s .left < a → s .place < last → a ≤ s .permitted → G (joined last (advanced s) a))
-    → (s .left < a → G (discarded last s))
+    → (s .left < a → last ≤ s .place → G (discarded last s))
+    → (s .left < a → s .permitted < a → G (discarded last s))
     → G (arriveOf last s a)
-arrive-cases last s a G here next nowhere =
+arrive-cases last s a G here next at-last too-large =
     ⊎-elim
     (λ (h : a ≤ s .left). subst G (sym (joins-here last s a h)) (here h))
     (λ (h : s .left < a).
     ⊎-elim
-    (λ (p : last ≤ s .place). subst G (sym (discards-at-last last s a h p)) (nowhere h))
+    (λ (p : last ≤ s .place). subst G (sym (discards-at-last last s a h p)) (at-last h p))
     (λ (p : s .place < last).
     ⊎-elim
     (λ (q : a ≤ s .permitted). subst G (sym (joins-next last s a h p q)) (next h p q))
-    (λ (q : s .permitted < a). subst G (sym (discards-over last s a h q)) (nowhere h))
+    (λ (q : s .permitted < a). subst G (sym (discards-over last s a h q)) (too-large h q))
     (le-or-lt a (s .permitted)))
     (le-or-lt last (s .place)))
     (le-or-lt a (s .left))

@@ -28,7 +28,8 @@ fit-arrive last s a f =
     arrive-cases last s a (λ r. StreamFit last (streamOf r))
     (λ h. fit-joined last s a f h)
     (λ h p q. fit-joined last (advanced s) a (omega arith) q)
-    (λ h. omega arith)
+    (λ h p. omega arith)
+    (λ h q. omega arith)
 
 -- and so does a tick
 pub fit-tick : (last : ℕ) (s : Stream) → StreamFit last s → StreamFit last (tickOf s)
@@ -46,7 +47,8 @@ permitted-arrive last s a =
     arrive-cases last s a (λ r. streamOf r .permitted ≡ s .permitted)
     (permitted-joined last s a)
     (λ _ _ q. permitted-joined last (advanced s) a q)
-    (λ _. refl)
+    (λ _ _. refl)
+    (λ _ _. refl)
 
 pub permitted-tick : (s : Stream) → tickOf s .permitted ≡ s .permitted
 permitted-tick s = tick-cases s (λ t. t .permitted ≡ s .permitted) (λ _. refl) (λ _. refl)
@@ -60,7 +62,8 @@ place-arrive last s a f =
     arrive-cases last s a (λ r. s .place ≤ streamOf r .place)
     (λ h. place-joined last s a h)
     (λ h p q. omega (arith, place-joined last (advanced s) a q))
-    (λ h. f)
+    (λ h p. f)
+    (λ h q. f)
 
 -- and a frame that joins does so at the place or after it, never at one that the stream has left behind
 abbrev JoinsFrom : ℕ → Arrival → Type 0
@@ -68,7 +71,7 @@ JoinsFrom from (Joined place t) = from ≤ place
 JoinsFrom from (Discarded t) = Unit {0}
 
 joins-from : (last : ℕ) (s : Stream) (a : ℕ) → JoinsFrom (s .place) (arriveOf last s a)
-joins-from last s a = arrive-cases last s a (JoinsFrom (s .place)) (λ h. omega arith) (λ h p q. omega arith) (λ h. tt)
+joins-from last s a = arrive-cases last s a (JoinsFrom (s .place)) (λ h. omega arith) (λ h p q. omega arith) (λ h p. tt) (λ h q. tt)
 
 pub joins-onward : (last : ℕ) (s : Stream) (a place : ℕ) (t : Stream) → arriveOf last s a ≡ Joined place t → s .place ≤ place
 joins-onward last s a place t e = subst (JoinsFrom (s .place)) e (joins-from last s a)
@@ -80,7 +83,7 @@ JoinsWithin last (Discarded t) = Unit {0}
 
 pub joins-within : (last : ℕ) (s : Stream) (a place : ℕ) (t : Stream) → StreamFit last s → arriveOf last s a ≡ Joined place t → place ≤ last
 joins-within last s a place t fit e =
-    subst (JoinsWithin last) e (arrive-cases last s a (JoinsWithin last) (λ h. fit .last-place) (λ h p q. omega arith) (λ h. tt))
+    subst (JoinsWithin last) e (arrive-cases last s a (JoinsWithin last) (λ h. fit .last-place) (λ h p q. omega arith) (λ h p. tt) (λ h q. tt))
 
 -- a step changes nothing of a stream but its place and left
 abbrev pub OnlyMoves : Stream → Stream → Type 0
@@ -91,7 +94,8 @@ arrive-moves last s a =
     arrive-cases last s a (λ r. OnlyMoves s (streamOf r))
     (λ h. joined-cases last s a (λ r. OnlyMoves s (streamOf r)) h (λ _. refl) (λ _ _. refl) (λ _ _. refl))
     (λ h p q. joined-cases last (advanced s) a (λ r. OnlyMoves s (streamOf r)) q (λ _. refl) (λ _ _. refl) (λ _ _. refl))
-    (λ h. refl)
+    (λ h p. refl)
+    (λ h q. refl)
 
 pub tick-moves : (s : Stream) → OnlyMoves s (tickOf s)
 tick-moves s = tick-cases s (OnlyMoves s) (λ h. refl) (λ h. refl)

@@ -88,7 +88,8 @@ used-arrive last k s a f =
       used-grows k s (advanced s) refl (f .left-within) (omega arith) (λ e. absurd (omega arith)),
       used-joined last k (advanced s) a (omega arith) q,
     ))
-    (λ h. omega (arith, used-grows k s (atPlace s last 0) refl (f .left-within) (f .last-place) (λ _. omega arith)))
+    (λ h p. omega (arith, used-grows k s (atPlace s last 0) refl (f .left-within) (f .last-place) (λ _. omega arith)))
+    (λ h q. omega (arith, used-grows k s (atPlace s last 0) refl (f .left-within) (f .last-place) (λ _. omega arith)))
 
 -- a tick brings the queue and the stream one place nearer, and the stream has used no less of the queue
 pub used-tick : (last k : ℕ) (s : Stream) → StreamFit last s → used k s ≤ used (k - 1) (tickOf s)
