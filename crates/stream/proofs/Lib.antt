@@ -2,6 +2,8 @@
 pub mod ArriveLaws
 pub mod TickLaws
 pub mod FitLaws
+pub mod Room
 pub mod Used
 pub mod AloneLaws
 pub mod CasesHold
+pub mod RoomExamples
