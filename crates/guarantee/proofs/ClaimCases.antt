@@ -5,19 +5,23 @@ use mathlib.Core.Path.{_≡_, refl, sym, ap}
 use mathlib.Core.Logic.{inl, inr}
 use mathlib.Core.List.{List, [], _∷_, map}
 use native.Mathlib.Omega.{arith}
-use lib.ListN.{length, getD, replicate}
+use lib.ListN.{length, getD, replicate, length-append}
 use Rattle.lists.specs.Turns.{allTo}
 use Rattle.lists.specs.Equal.{octetsEqual}
 use Rattle.lists.proofs.EachLaws.{differ}
 use Rattle.stream.specs.declared.Reply.{Reply}
+use Rattle.stream.specs.State.{lastPlace}
 use Rattle.stream.specs.Replies.{refusedBy}
+use Rattle.stream.specs.Alone.{StreamEvent, arrival, tick}
 use Rattle.header.specs.Header.{chargeOf, lengthFits, taggedFrame}
 use Rattle.binding.specs.Finding.{frameLookup}
 use Rattle.steps.specs.Call.{Call, reserving, arriving, ticking, transmitting, joiningBestEffort, framing}
 use Rattle.port_laws.specs.Counting.{Action, toTick, toTransmit, toReserve, toArrive, toBestEffort, toFrame, neither, actionOf}
 use Rattle.guarantee.specs.Events.{Sent, reservedSent, bestEffortSent, none, marked, Made, broughtBy, isTransmit, sentBy, Event, eventsAfter, bothRuns}
 use Rattle.guarantee.specs.Claims.{isTick, tickCount, reservedCharge, reservedOctets, Idle, Linked, PurgesNothing, replyOfSent, SaysWhatItSends, AlikeMarked, SameRecord, Sends, offer, offers, Offered, isReserveOf, isArriveOf, remaining, grants, answers, Alike, NotByHost}
-use Rattle.guarantee.specs.Instances.{replied, markedFrame, quietTick, purgingTick, joinsCurrent, currentFrame, sendsReserved, joinsNext, discardedArrival, epoch, offered, joinsTwice, sendsTwice, grantOf5, allowed, denied, refusalOf6, joinsOther, joinsBestEffort, mixed, tagOf, stacking}
+use Rattle.guarantee.specs.Own.{isOfferOf, own, ownReplies}
+use Rattle.guarantee.specs.Beyond.{RepliedAlone}
+use Rattle.guarantee.specs.Instances.{replied, markedFrame, quietTick, purgingTick, joinsCurrent, currentFrame, sendsReserved, joinsNext, discardedArrival, tooSmall, epoch, offered, joinsTwice, sendsTwice, grantOf5, allowed, denied, refusalOf6, joinsOther, joinsBestEffort, mixed, tagOf, stacking}
 
 -- the charge and the number of a sent frame
 abbrev chargeSent : Sent → ℕ
@@ -239,6 +243,35 @@ refused-so = refl
 answers-so : map (λ (r : Reply). r .refusal) (answers 5 (grantOf5 ∷ joinsCurrent ∷ discardedArrival ∷ [])) ≡ 0 ∷ 14 ∷ []
 answers-so = refl
 
+-- `isOfferOf`, `own`, `ownReplies`: the offers of this stream alone, of charges in their range alone, and the ticks
+abbrev chargeIn : StreamEvent → ℕ
+chargeIn (arrival charge) = charge
+chargeIn tick = 0
+
+another-no-offer : isOfferOf 5 (toArrive 6 120 7) ≡ false
+another-no-offer = refl
+
+too-small-no-offer : isOfferOf 5 (toArrive 5 83 7) ≡ false
+too-small-no-offer = refl
+
+reserve-no-offer : isOfferOf 5 (toReserve 5 200) ≡ false
+reserve-no-offer = refl
+
+own-ticks : length (own 5 (quietTick ∷ quietTick ∷ [])) ≡ 2
+own-ticks = refl
+
+own-charges : map chargeIn (own 5 (joinsCurrent ∷ joinsOther ∷ joinsNext ∷ [])) ≡ 120 ∷ 100 ∷ []
+own-charges = refl
+
+others-left-out : length (own 5 (refusalOf6 ∷ joinsOther ∷ joinsBestEffort ∷ sendsReserved ∷ [])) ≡ 0
+others-left-out = refl
+
+own-answers : map (λ (r : Reply). r .refusal) (ownReplies 5 (grantOf5 ∷ joinsCurrent ∷ tooSmall ∷ joinsOther ∷ discardedArrival ∷ [])) ≡ 0 ∷ 14 ∷ []
+own-answers = refl
+
+mixed-own : map chargeIn (own 5 mixed) ≡ 120 ∷ 100 ∷ 0 ∷ 200 ∷ []
+mixed-own = refl
+
 -- all of it in one list
 mixed-counted : (tickCount mixed ≡ 1) × ((reservedOctets mixed ≡ 120) × ((offers 5 mixed ≡ 420) × (length (remaining 5 mixed) ≡ 5)))
 mixed-counted = (refl, (refl, (refl, refl)))
@@ -284,6 +317,14 @@ grants-differ calls grant = differ (ap (λ (b : List Bool). getD b 0 true) grant
 -- nor where the calls differ
 calls-differ : Alike 5 allowed (grantOf5 ∷ joinsNext ∷ [])
 calls-differ calls grant = absurd (omega (arith, ap (λ (cs : List Call). tagOf (actionOf (getD cs 1 ticking))) calls))
+
+-- where no reservation is granted nothing is said of the stream by itself
+none-granted : RepliedAlone lastPlace denied
+none-granted s permitted [] after g split call is = absurd (omega (arith, ap (λ (es : List Event). getD es 0 quietTick .reply .refusal) split))
+none-granted s permitted (b ∷ []) after g split call is =
+    absurd (omega (arith, ap (λ (es : List Event). tagOf (actionOf (getD es 1 quietTick .call))) split, ap (λ (c : Call). tagOf (actionOf c)) call))
+none-granted s permitted (b ∷ c ∷ before) after g split call is =
+    absurd (omega (arith, ap (λ (es : List Event). length es) split, length-append before (g ∷ after)))
 
 -- a discard is not the host's fault, nor is a Frame that is too short
 discard-allowed : NotByHost discardedArrival

@@ -80,8 +80,16 @@ quiet-offers s (toFrame octets tag) q = refl
 quiet-offers s neither q = refl
 
 -- no arrival of a fit charge on a reserved stream is refused before its rule
-allowed : (s : ℕ) (x : Stream) (a : ℕ) → s < streamCount → x .reserved ≡ true → chargeFits a ≡ true → ownRefusal s x a ≡ 0
+pub allowed : (s : ℕ) (x : Stream) (a : ℕ) → s < streamCount → x .reserved ≡ true → chargeFits a ≡ true → ownRefusal s x a ≡ 0
 allowed s x a below is fits = rw (lt-leb streamCount s below, is, fits)
+
+-- no second grant: a Reserve that is granted is of another stream
+pub others-grant : (share : ℕ) (v w : View) (r : Reply) (s i p : ℕ) → v .stream s .reserved ≡ true → Reserves share v w r i p → w .stream s ≡ v .stream s
+others-grant share v w r s i p is d =
+    ⊎-elim
+    (λ (e : s ≡ i). differ (sym is ∙ ap (λ (j : ℕ). v .stream j .reserved) e ∙ ap (λ (x : Stream). x .reserved) (d .was-free)))
+    (λ (o : s ≡ i → ⊥). d .streams .1 s o)
+    (eq-or-not s i)
 
 -- a stream as it was
 conforms-kept : (permitted offered more : ℕ) (x y : Stream) → y ≡ x → more ≡ 0 → Conforms permitted x offered → Conforms permitted y (offered + more)
@@ -136,14 +144,6 @@ module _ (last share n : ℕ) (v w : View) (r : Reply) (t : Sent) (s permitted o
       (λ (o : i ≡ s → ⊥). conforms-kept permitted offered _ (v .stream s) (w .stream s) (d .streams .1 s (λ e. o (sym e))) (offer-else s i a tag o) h)
       (eq-or-not i s)
 
-  -- no second grant
-  reserved-conforms : (i p : ℕ) → Reserves share v w r i p → Conforms permitted (w .stream s) (offered + 0)
-  reserved-conforms i p d =
-      ⊎-elim
-      (λ (e : s ≡ i). differ (sym (h .0 .0) ∙ ap (λ (j : ℕ). v .stream j .reserved) e ∙ ap (λ (x : Stream). x .reserved) (d .was-free)))
-      (λ (o : s ≡ i → ⊥). conforms-kept permitted offered 0 (v .stream s) (w .stream s) (d .streams .1 s o) refl h)
-      (eq-or-not s i)
-
 conforms-after : (last share n : ℕ) (v w : View) (r : Reply) (t : Sent) (c : Action) (s permitted offered : ℕ) → currentPlace < last → s < streamCount
     → Conforms permitted (v .stream s) offered → Effect last share n v w r t c → isTick c ≡ false → offered + offer s c ≤ permitted
     → Conforms permitted (w .stream s) (offered + offer s c)
@@ -152,7 +152,7 @@ conforms-after last share n v w r t c s permitted offered more below h (quiet q 
 conforms-after last share n v w r t c s permitted offered more below h (refuses-reservation not-granted e queues streams) no-tick most =
     conforms-kept permitted offered 0 (v .stream s) (w .stream s) (streams s) refl h
 conforms-after last share n v w r t c s permitted offered more below h (reserves {s = i} {permitted = p} e d) no-tick most =
-    reserved-conforms last share n v w r t s permitted offered more below h i p d
+    conforms-kept permitted offered 0 (v .stream s) (w .stream s) (others-grant share v w r s i p (h .0 .0) d) refl h
 conforms-after last share n v w r t c s permitted offered more below h (refuses-arrival {s = i} {charge = a} {tag = tag} e d) no-tick most =
     refused-conforms last share n v w r t s permitted offered more below h i a tag d most
 conforms-after last share n v w r t c s permitted offered more below h (arrives {s = i} {charge = a} {tag = tag} e d) no-tick most =
@@ -233,7 +233,7 @@ module _ (last share s permitted : ℕ) (more : currentPlace < last) (below : s 
   arriving-at (d ∷ earlier) = arriving-step d earlier (arriving-at earlier)
 
 -- a Reserve without refusal
-granted-reserve : (last share n : ℕ) (v w : View) (r : Reply) (t : Sent) (s permitted : ℕ) → Effect last share n v w r t (toReserve s permitted) → r .refusal ≡ 0
+pub granted-reserve : (last share n : ℕ) (v w : View) (r : Reply) (t : Sent) (s permitted : ℕ) → Effect last share n v w r t (toReserve s permitted) → r .refusal ≡ 0
     → Reserves share v w r s permitted
 granted-reserve last share n v w r t s permitted (quiet q e queues streams) is = absurd q
 granted-reserve last share n v w r t s permitted (refuses-reservation not-granted e queues streams) is = absurd (not-granted is)

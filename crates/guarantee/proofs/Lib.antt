@@ -5,6 +5,7 @@ pub mod Room
 pub mod Purge
 pub mod Delay
 pub mod Conforming
+pub mod OwnRun
 pub mod Alone
 pub mod Tied
 pub mod Held

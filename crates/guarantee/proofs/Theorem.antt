@@ -33,12 +33,13 @@ use Rattle.port_laws.proofs.OpenLaws.{opened-open, opened-link, opened-queue, o
 use Rattle.guarantee.specs.Events.{reservedSent, bestEffortSent, Made, made, Event, eventsAfter, events}
 use Rattle.guarantee.specs.Claims.{LinkCondition}
 use Rattle.guarantee.specs.Demand3.{CallList, eventsIn, LinkHolds, Promised, Demand3}
-use Rattle.guarantee.specs.Beyond.{SentByReply}
+use Rattle.guarantee.specs.Beyond.{SentByReply, RepliedAlone}
 use Rattle.guarantee.proofs.Run.{View, free, octets, quiet, Run}
 use Rattle.guarantee.proofs.Room.{Sound}
 use Rattle.guarantee.proofs.Purge.{no-purge}
 use Rattle.guarantee.proofs.Delay.{sent-by-reply, all-sent}
 use Rattle.guarantee.proofs.Conforming.{prompt}
+use Rattle.guarantee.proofs.OwnRun.{replied-alone}
 use Rattle.guarantee.proofs.Alone.{alike}
 use Rattle.guarantee.proofs.Tied.{tied-empty}
 use Rattle.guarantee.proofs.Held.{Holds, seenAt, seen-below, seen-above, seen-free}
@@ -175,6 +176,10 @@ pub sent-as-replied : (l : CallList) → LinkHolds l → SentByReply (eventsIn l
 sent-as-replied l link =
     sent-by-reply lastPlace (shareOf (l .terms .link)) emptyView (eventsIn l) (omega arith) (run l) (empty-sound lastPlace (shareOf (l .terms .link)) (omega arith))
     (demand-3 l .promised link .no-purge)
+
+-- and to a stream's own offers a port replies what the stream replies by itself
+pub replied-as-alone : (l : CallList) → RepliedAlone lastPlace (eventsIn l)
+replied-as-alone l = replied-alone lastPlace (shareOf (l .terms .link)) emptyView (eventsIn l) (omega arith) (run l) (opened-sound l)
 
 -- the quick calls, which do not scan the record, are these calls in every such list
 pub quick-events : (l : CallList) → events quicklyCalled (opening (l .terms) ∷ l .later) (l .port) (l .memory) ≡ eventsIn l

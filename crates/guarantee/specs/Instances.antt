@@ -56,6 +56,12 @@ joinsNext = replied (arriving 5 100 8) (granted 2 100)
 abbrev pub discardedArrival : Event
 discardedArrival = replied (arriving 5 200 9) (refusedBy 14)
 
+-- an arrival of a charge that is out of range:
+-- it is refused before the rule of its stream is asked,
+-- and so is no offer
+abbrev pub tooSmall : Event
+tooSmall = replied (arriving 5 83 7) (refusedBy 13)
+
 -- an epoch of a port whose share is 600, in which 516 octets are sent, the least charge less,
 -- and no transmit is without a reserved frame
 abbrev pub epoch : List Event

@@ -2,5 +2,6 @@
 pub mod Events
 pub mod Claims
 pub mod Demand3
+pub mod Own
 pub mod Beyond
 pub mod Instances

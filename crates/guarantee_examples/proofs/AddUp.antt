@@ -10,8 +10,9 @@ use Rattle.record.specs.Head.{priorAt}
 use Rattle.header.specs.Header.{lengthFits}
 use Rattle.fitness.specs.Clauses.{priorFits}
 use Rattle.guarantee.specs.Claims.{tickCount, reservedOctets, answers}
+use Rattle.guarantee.specs.Own.{own}
 use Rattle.guarantee_examples.specs.Examples.{busy, light, withheld, permitted200, untagged}
-use Rattle.guarantee_examples.specs.LeftOpen.{crowdedOpening, crowdedGrant, crowdedBefore, crowdedPlace, crowdedFrame, tooSoon, crowded, busyBefore, busyNextArrival, busyWith, secondFrame, thirdFrame, busySecond, busyThird, purgesNone, sixAnswers, discards, queueFull, shortestFrame, unfitRecord, keptTag, numberTag}
+use Rattle.guarantee_examples.specs.LeftOpen.{crowdedOpening, crowdedGrant, crowdedBefore, crowdedPlace, crowdedFrame, tooSoon, crowded, crowdedOwn, busyBefore, busyNextArrival, busyWith, secondFrame, thirdFrame, busySecond, busyThird, purgesNone, aloneOwn, sixAnswers, alone, discards, queueFull, shortestFrame, unfitRecord, keptTag, numberTag}
 use Rattle.guarantee_examples.specs.AddUp.{sentAt, broughtAt, accepted, purged, framesAccepted, framesSent, framesPurged, byRule, tagSent, numberSent, EventsAddUp}
 
 light-frame : sentAt light 5 ≡ broughtAt light 3
@@ -47,6 +48,12 @@ crowded-joins : crowdedPlace ≡ byRule 200 120 .first
 unfolding attempt arriveOf
 crowded-joins = refl
 
+crowded-own : own 5 crowded ≡ crowdedOwn
+crowded-own = refl
+
+alone-own : own 6 alone ≡ aloneOwn
+alone-own = refl
+
 busy-frames : framesAccepted 5 (busyWith busySecond busyThird purgesNone) ≡ framesSent busy + framesPurged (busyWith busySecond busyThird purgesNone)
 busy-frames = refl
 
@@ -72,6 +79,8 @@ events-add-up =
       shortest-fits = shortest-fits;
       unfit-prior = unfit-prior;
       crowded-joins = crowded-joins;
+      crowded-own = crowded-own;
+      alone-own = alone-own;
       busy-frames = busy-frames;
       full-no-discard = full-no-discard;
       tag-of-call = tag-of-call;

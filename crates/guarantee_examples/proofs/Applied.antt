@@ -10,12 +10,14 @@ use Rattle.lists.specs.Each.{All, Some}
 use Rattle.lists.proofs.EachLaws.{differ}
 use Rattle.lists.proofs.TurnLaws.{both}
 use Rattle.stream.specs.declared.Reply.{Reply}
+use Rattle.stream.specs.State.{lastPlace}
 use Rattle.record.specs.Layout.{queueCount}
 use Rattle.ranges.specs.Ranges.{shareOf}
 use Rattle.guarantee.specs.Events.{Marked, Sent, reservedSent, bestEffortSent, none, Event}
 use Rattle.guarantee.specs.Claims.{SameRecord, LinkCondition, SaysWhatItSends, AlikeMarked, Sends, Alike, NotByHost}
 use Rattle.guarantee.specs.Demand3.{runsOf, eventsIn, LinkHolds, Promised}
-use Rattle.guarantee.proofs.Theorem.{opened-reply, demand-3}
+use Rattle.guarantee.specs.Beyond.{RepliedAlone}
+use Rattle.guarantee.proofs.Theorem.{opened-reply, demand-3, replied-as-alone}
 use Rattle.guarantee_examples.specs.Examples.{Happens}
 
 -- the share, which the first event replies, since it is a granted Open
@@ -57,6 +59,9 @@ module _ (es : List Event) (happens : Happens es) where
 
   pub not-by-host-of : All NotByHost es
   not-by-host-of = subst (All NotByHost) (happens .so) (demand-3 (happens .list) .not-by-host)
+
+  pub replied-alone-of : RepliedAlone lastPlace es
+  replied-alone-of = subst (RepliedAlone lastPlace) (happens .so) (replied-as-alone (happens .list))
 
 -- whether what is sent is no reserved frame of call number n
 abbrev isOther : ℕ → Sent → Bool

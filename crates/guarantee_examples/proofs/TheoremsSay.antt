@@ -15,7 +15,7 @@ use Rattle.header.specs.Header.{chargeOf, lengthFits, taggedFrame}
 use Rattle.binding.specs.Finding.{frameLookup}
 use Rattle.lists.specs.Equal.{octetsEqual}
 use Rattle.lists.specs.Turns.{allTo}
-use Rattle.steps.specs.Call.{terms, Call, opening, ticking, joiningBestEffort, framing}
+use Rattle.steps.specs.Call.{terms, Call, opening, reserving, arriving, ticking, joiningBestEffort, framing}
 use Rattle.port.specs.Calls.{called}
 use Rattle.port.specs.Quick.{quicklyCalled}
 use Rattle.port_laws.specs.Lists.{replies, freshRecord, freshMemory}
@@ -30,11 +30,12 @@ use Rattle.guarantee.specs.Demand3.{Promised}
 use Rattle.guarantee.proofs.Theorem.{promised-by-less, sent-as-replied, quick-events}
 use Rattle.guarantee.specs.Instances.{replied}
 use Rattle.guarantee_examples.specs.Examples.{Happens, untagged}
-use Rattle.guarantee_examples.specs.LeftOpen.{transmitted, busyBefore, busyNextArrival, busyLastArrival, busyToSecondTick, busyToThirdTick, busyAfter, busyWith, secondFrame, busySecond, busyThird, purgesNone, nearlyBefore, nearlyEpoch, nearlyWith, nearly, crowded, aloneCalls, alone, unfitRecord, shortestFrame}
+use Rattle.guarantee_examples.specs.LeftOpen.{transmitted, crowdedOpening, crowdedGrant, crowdedBefore, crowdedAfter, crowdedWith, busyBefore, busyNextArrival, busyLastArrival, busyToSecondTick, busyToThirdTick, busyAfter, busyWith, secondFrame, busySecond, busyThird, purgesNone, nearlyBefore, nearlyEpoch, nearlyWith, nearly, crowded, crowdedOwn, aloneCalls, aloneWith, aloneOwn, alone, unfitRecord, shortestFrame}
+use Rattle.guarantee_examples.specs.AddUp.{repliesAlone}
 use Rattle.guarantee_examples.specs.Derived.{OpenPartsHappen, TheoremsSay}
 use Rattle.guarantee_examples.proofs.LinkTest.{links, link-holds, none-idle}
 use Rattle.guarantee_examples.proofs.AddUp.{shortest-fits}
-use Rattle.guarantee_examples.proofs.Applied.{by-numbers, firstShare, first-share, link-of, none-sends, only}
+use Rattle.guarantee_examples.proofs.Applied.{by-numbers, replied-alone-of, firstShare, first-share, link-of, none-sends, only}
 use Rattle.guarantee_examples.proofs.OpenPartsHappen.{listOf, crowded-made, nearly-made, alone-made, unfit-before, unfit-refused, unfit-opened, busy-made, arrived-made}
 
 module _ (sent : Sent) (said shown : Reply) where
@@ -60,6 +61,20 @@ not-sooner sooner =
     none-sends secondFrame (busyLastArrival ∷ busyToSecondTick) refl
     (sooner (busyLastArrival ∷ busyToSecondTick) (busySecond ∷ replied ticking (granted 0 0) ∷ busyThird ∷ replied ticking purgesNone ∷ [])
     (replied ticking (granted 0 0)) refl refl refl)
+
+-- from `replied-as-alone`
+five-alone : (reply : Reply) (sent : Sent) (said shown : Reply) → Happens (crowdedWith reply (transmitted sent said shown))
+    → reply ∷ granted 1 80 ∷ [] ≡ repliesAlone 200 crowdedOwn
+five-alone reply sent said shown happens =
+    let third = transmitted sent said shown in
+    replied-alone-of (crowdedWith reply third) happens 5 200 crowdedOpening (crowdedBefore ++ (replied (arriving 5 120 7) reply ∷ crowdedAfter third)) crowdedGrant
+    refl refl refl
+
+six-alone : (first second third fourth : Reply) → Happens (aloneWith first second third fourth)
+    → first ∷ second ∷ third ∷ fourth ∷ [] ≡ repliesAlone 200 aloneOwn
+six-alone first second third fourth happens =
+    replied-alone-of (aloneWith first second third fourth) happens 6 200 (replied (opening (terms 1742 3)) (granted 200 0) ∷ []) _ (replied (reserving 6 200) (granted 0 0))
+    refl refl refl
 
 -- the epoch that sends 83 octets less than the share
 epoch-fails : (shareOf 2142 ≤ reservedOctets nearlyEpoch) ⊎ Some Idle nearlyEpoch → ⊥
@@ -113,6 +128,8 @@ theorems-say =
     record {
       replied-second = next-sent;
       replied-not-sooner = not-sooner;
+      crowd-alone = five-alone;
+      frame-alone = six-alone;
       nearly-fails = fails;
       nearly-purges-none = second-tick;
       quick-crowded = quick-events (listOf crowded-made) ∙ crowded-made .so;

@@ -9,15 +9,16 @@ use Rattle.lists.specs.Turns.{sumOf}
 use Rattle.stream.specs.declared.Reply.{Reply}
 use Rattle.stream.specs.State.{lastPlace, reserveOf}
 use Rattle.stream.specs.Replies.{refusedBy}
-use Rattle.stream.specs.Alone.{arrival, replies}
+use Rattle.stream.specs.Alone.{StreamEvent, arrival, replies}
 use Rattle.header.specs.Header.{lengthFits}
 use Rattle.fitness.specs.Clauses.{priorFits}
 use Rattle.steps.specs.Call.{ticking}
 use Rattle.port_laws.specs.Counting.{actionOf}
 use Rattle.guarantee.specs.Events.{Sent, reservedSent, bestEffortSent, none, Event, action, broughtBy}
 use Rattle.guarantee.specs.Claims.{isTick, tickCount, reservedOctets, offer, isArriveOf, answers}
+use Rattle.guarantee.specs.Own.{own}
 use Rattle.guarantee_examples.specs.Examples.{busy, light, withheld, permitted200, untagged, callsOf}
-use Rattle.guarantee_examples.specs.LeftOpen.{crowdedOpening, crowdedGrant, crowdedBefore, crowdedPlace, crowdedFrame, tooSoon, crowded, busyBefore, busyNextArrival, busyWith, secondFrame, thirdFrame, busySecond, busyThird, purgesNone, sixAnswers, discards, queueFull, shortestFrame, unfitRecord, keptTag, numberTag}
+use Rattle.guarantee_examples.specs.LeftOpen.{crowdedOpening, crowdedGrant, crowdedBefore, crowdedPlace, crowdedFrame, tooSoon, crowded, crowdedOwn, busyBefore, busyNextArrival, busyWith, secondFrame, thirdFrame, busySecond, busyThird, purgesNone, aloneOwn, sixAnswers, alone, discards, queueFull, shortestFrame, unfitRecord, keptTag, numberTag}
 
 -- what event number n of a list sends, and what its call brings
 abbrev pub sentAt : List Event → ℕ → Sent
@@ -48,9 +49,12 @@ framesSent = sumOf (λ e. framesOf (e .sent))
 abbrev pub framesPurged : List Event → ℕ
 framesPurged = sumOf (λ e. cond (isTick (action e)) (e .reply .first) 0)
 
--- the reply to the one arrival of a stream by itself
+-- the replies of a stream by itself, and the reply to its one arrival
+abbrev pub repliesAlone : ℕ → List StreamEvent → List Reply
+repliesAlone permitted es = replies lastPlace (reserveOf permitted) es
+
 abbrev pub byRule : ℕ → ℕ → Reply
-byRule permitted charge = getD (replies lastPlace (reserveOf permitted) (arrival charge ∷ [])) 0 (refusedBy 0)
+byRule permitted charge = getD (repliesAlone permitted (arrival charge ∷ [])) 0 (refusedBy 0)
 
 -- the tag and the number of a reserved frame
 abbrev pub tagSent : Sent → ℕ
@@ -82,6 +86,9 @@ pub record EventsAddUp : Type 0 where
   pub unfit-prior : priorFits unfitRecord ≡ false
   -- the frame of `crowded` joins the queue that the rule of its stream alone chooses
   pub crowded-joins : crowdedPlace ≡ byRule 200 120 .first
+  -- the own events of stream 5 in the crowd, and of stream 6 alone
+  pub crowded-own : own 5 crowded ≡ crowdedOwn
+  pub alone-own : own 6 alone ≡ aloneOwn
   -- no frame of `busy` is lost: those accepted are sent or purged
   pub busy-frames : framesAccepted 5 (busyWith busySecond busyThird purgesNone) ≡ framesSent busy + framesPurged (busyWith busySecond busyThird purgesNone)
   -- a full queue is no discard

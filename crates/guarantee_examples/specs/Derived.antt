@@ -22,7 +22,8 @@ use Rattle.guarantee.specs.Events.{Sent, reservedSent, Made, bothRuns, Event, e
 use Rattle.guarantee.specs.Claims.{LinkCondition, Sends, SentBefore, OffersWithin}
 use Rattle.guarantee.specs.Demand3.{runsOf}
 use Rattle.guarantee_examples.specs.Examples.{Happens, untagged, busy, permitted200, permitted100, callsOf}
-use Rattle.guarantee_examples.specs.LeftOpen.{transmitted, laterCalls, crowdedBefore, crowdedToSecondTick, crowdedAfter, crowdedWith, crowdedPlace, crowdedFrame, tooSoon, crowdedThird, crowded, busyLastArrival, busyAfter, busyWith, secondFrame, thirdFrame, busySecond, busyThird, purgesNone, nearlyWith, nearly, aloneCalls, aloneWith, sixAnswers, alone, arrivedWith, discards, tooShort, unfit, queueFull, shortestFrame, unfitRecord, keptTag, numberTag}
+use Rattle.guarantee_examples.specs.LeftOpen.{transmitted, laterCalls, crowdedBefore, crowdedToSecondTick, crowdedAfter, crowdedWith, crowdedPlace, crowdedFrame, tooSoon, crowdedThird, crowded, crowdedOwn, busyLastArrival, busyAfter, busyWith, secondFrame, thirdFrame, busySecond, busyThird, purgesNone, nearlyWith, nearly, aloneCalls, aloneWith, aloneOwn, sixAnswers, alone, arrivedWith, discards, tooShort, unfit, queueFull, shortestFrame, unfitRecord, keptTag, numberTag}
+use Rattle.guarantee_examples.specs.AddUp.{repliesAlone}
 
 -- where the tag of current's first frame ends at opening, when current is queue 1
 abbrev pub tagOctet : ℕ
@@ -82,6 +83,12 @@ pub record TheoremsSay : Type 0 where
   pub replied-second : (sent : Sent) (said shown : Reply) → let es = busyWith (transmitted sent said shown) busyThird purgesNone in
       Happens es → LinkCondition (shareOf 1626) es → sent ≡ reservedSent secondFrame
   pub replied-not-sooner : SentBefore 2 secondFrame (busyLastArrival ∷ busyAfter busySecond busyThird purgesNone) → ⊥
+  -- `replied-as-alone`: whatever 6 and 7 send, and without the link condition, stream 5 gets the replies that it gets by itself ..
+  pub crowd-alone : (reply : Reply) (sent : Sent) (said shown : Reply) → Happens (crowdedWith reply (transmitted sent said shown))
+      → reply ∷ granted 1 80 ∷ [] ≡ repliesAlone 200 crowdedOwn
+  -- .. and so does stream 6 of which the first arrival is by a Frame
+  pub frame-alone : (first second third fourth : Reply) → Happens (aloneWith first second third fourth)
+      → first ∷ second ∷ third ∷ fourth ∷ [] ≡ repliesAlone 200 aloneOwn
   -- `promised-by-less`: with 83 octets less than the share sent the link condition fails, and yet no tick purges; with 84 less one does (`withheld-purges`)
   pub nearly-fails : LinkCondition (shareOf 2142) nearly → ⊥
   pub nearly-purges-none : (reply : Reply) → Happens (nearlyWith reply) → reply ≡ purgesNone

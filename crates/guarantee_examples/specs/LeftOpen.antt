@@ -5,6 +5,7 @@ use mathlib.Core.List.{List, [], _∷_, _++_}
 use lib.ListN.{set}
 use Rattle.stream.specs.declared.Reply.{Reply}
 use Rattle.stream.specs.Replies.{granted, refusedBy}
+use Rattle.stream.specs.Alone.{StreamEvent, arrival, tick}
 use Rattle.record.specs.Layout.{priorOffset, queueCount}
 use Rattle.steps.specs.Call.{terms, Call, opening, reserving, arriving, ticking, transmitting, joiningBestEffort, binding, framing}
 use Rattle.port_laws.specs.Lists.{freshRecord}
@@ -82,6 +83,10 @@ crowdedThird = transmitted (reservedSent crowdedFrame) (granted 5 7) (granted 5 
 
 abbrev pub crowded : List Event
 crowded = crowdedWith (granted crowdedPlace 80) crowdedThird
+
+-- stream 5's own events in it, from its grant on
+abbrev pub crowdedOwn : List StreamEvent
+crowdedOwn = arrival 120 ∷ tick ∷ arrival 120 ∷ tick ∷ []
 
 -- the list `busy`, of which are open the transmits after the second and after the third tick and what the fourth tick replies
 abbrev pub busyBefore : List Event
@@ -178,7 +183,11 @@ aloneWith first second third fourth =
     ∷ replied ticking (granted 1 200)
     ∷ []
 
--- the last of them, all of them, and the whole as it happens
+-- its own events, from its grant on
+abbrev pub aloneOwn : List StreamEvent
+aloneOwn = arrival 200 ∷ arrival 200 ∷ arrival 200 ∷ arrival 84 ∷ tick ∷ tick ∷ []
+
+-- the last of the replies, all of them, and the whole as it happens
 abbrev pub sixLast : Reply
 sixLast = refusedBy 14
 
