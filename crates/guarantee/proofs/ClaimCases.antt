@@ -12,7 +12,6 @@ use Rattle.lists.proofs.EachLaws.{differ}
 use Rattle.stream.specs.declared.Reply.{Reply}
 use Rattle.stream.specs.State.{lastPlace}
 use Rattle.stream.specs.Replies.{refusedBy}
-use Rattle.stream.specs.Alone.{StreamEvent, arrival, tick}
 use Rattle.header.specs.Header.{chargeOf, lengthFits, taggedFrame}
 use Rattle.binding.specs.Finding.{frameLookup}
 use Rattle.steps.specs.Call.{Call, reserving, arriving, ticking, transmitting, joiningBestEffort, framing}
@@ -21,7 +20,7 @@ use Rattle.guarantee.specs.Events.{Sent, reservedSent, bestEffortSent, n
 use Rattle.guarantee.specs.Claims.{isTick, tickCount, reservedCharge, reservedOctets, Idle, Linked, PurgesNothing, replyOfSent, SaysWhatItSends, AlikeMarked, SameRecord, Sends, offer, offers, Offered, isReserveOf, isArriveOf, remaining, grants, answers, Alike, NotByHost}
 use Rattle.guarantee.specs.Own.{isOfferOf, own, ownReplies}
 use Rattle.guarantee.specs.Beyond.{RepliedAlone}
-use Rattle.guarantee.specs.Instances.{replied, markedFrame, quietTick, purgingTick, joinsCurrent, currentFrame, sendsReserved, joinsNext, discardedArrival, tooSmall, epoch, offered, joinsTwice, sendsTwice, grantOf5, allowed, denied, refusalOf6, joinsOther, joinsBestEffort, mixed, tagOf, stacking}
+use Rattle.guarantee.specs.Instances.{replied, markedFrame, quietTick, purgingTick, joinsCurrent, currentFrame, sendsReserved, joinsNext, discardedArrival, tooSmall, epoch, offered, joinsTwice, sendsTwice, grantOf5, allowed, denied, refusalOf6, joinsOther, joinsBestEffort, mixed, tagOf, chargeIn, stacking}
 
 -- the charge and the number of a sent frame
 abbrev chargeSent : Sent → ℕ
@@ -244,10 +243,6 @@ answers-so : map (λ (r : Reply). r .refusal) (answers 5 (grantOf5 ∷ joinsCurr
 answers-so = refl
 
 -- `isOfferOf`, `own`, `ownReplies`: the offers of this stream alone, of charges in their range alone, and the ticks
-abbrev chargeIn : StreamEvent → ℕ
-chargeIn (arrival charge) = charge
-chargeIn tick = 0
-
 another-no-offer : isOfferOf 5 (toArrive 6 120 7) ≡ false
 another-no-offer = refl
 

@@ -5,6 +5,7 @@ use mathlib.Core.List.{List, [], _∷_}
 use lib.ListN.{getD}
 use Rattle.stream.specs.declared.Reply.{Reply}
 use Rattle.stream.specs.Replies.{granted, refusedBy}
+use Rattle.stream.specs.Alone.{StreamEvent, arrival, tick}
 use Rattle.steps.specs.Call.{Call, reserving, arriving, ticking, transmitting, joiningBestEffort}
 use Rattle.steps.specs.Outcome.{Outcome, outcome}
 use Rattle.port_laws.specs.Counting.{Action, toTick, toTransmit, toReserve, toArrive, toBestEffort, toFrame, neither, actionOf}
@@ -56,12 +57,6 @@ joinsNext = replied (arriving 5 100 8) (granted 2 100)
 abbrev pub discardedArrival : Event
 discardedArrival = replied (arriving 5 200 9) (refusedBy 14)
 
--- an arrival of a charge that is out of range:
--- it is refused before the rule of its stream is asked,
--- and so is no offer
-abbrev pub tooSmall : Event
-tooSmall = replied (arriving 5 83 7) (refusedBy 13)
-
 -- an epoch of a port whose share is 600, in which 516 octets are sent, the least charge less,
 -- and no transmit is without a reserved frame
 abbrev pub epoch : List Event
@@ -90,6 +85,12 @@ allowed = grantOf5 ∷ joinsCurrent ∷ []
 
 abbrev pub denied : List Event
 denied = replied (reserving 5 200) (refusedBy 8) ∷ replied (arriving 5 120 7) (refusedBy 12) ∷ []
+
+-- an arrival of a charge that is out of range:
+-- it is refused before the rule of its stream is asked,
+-- and so is no offer
+abbrev pub tooSmall : Event
+tooSmall = replied (arriving 5 83 7) (refusedBy 13)
 
 -- calls of others: a reservation that is refused, an arrival,
 -- and a frame of best effort
@@ -125,6 +126,11 @@ tagOf (toArrive s charge tag) = tag
 tagOf (toBestEffort charge tag) = tag
 tagOf (toFrame octets tag) = tag
 tagOf neither = 0
+
+-- the octets of a stream's own event, 0 of a tick
+abbrev pub chargeIn : StreamEvent → ℕ
+chargeIn (arrival charge) = charge
+chargeIn tick = 0
 
 -- a machine that is no port: it replies the heads of record and memory,
 -- and puts the call's tag before both

@@ -2,7 +2,7 @@
 use Prim.Native.Nat.{_+_}
 use mathlib.Core.Bool.{true, false}
 use mathlib.Core.Path.{_≡_, refl}
-use mathlib.Core.List.{[], _∷_, _++_}
+use mathlib.Core.List.{[], _∷_, _++_, map}
 use lib.ListN.{length}
 use lib.Dec.{eqb}
 use Rattle.stream.specs.Steps.{attempt, arriveOf}
@@ -11,6 +11,7 @@ use Rattle.header.specs.Header.{lengthFits}
 use Rattle.fitness.specs.Clauses.{priorFits}
 use Rattle.guarantee.specs.Claims.{tickCount, reservedOctets, answers}
 use Rattle.guarantee.specs.Own.{own}
+use Rattle.guarantee.specs.Instances.{chargeIn}
 use Rattle.guarantee_examples.specs.Examples.{busy, light, withheld, permitted200, untagged}
 use Rattle.guarantee_examples.specs.LeftOpen.{crowdedOpening, crowdedGrant, crowdedBefore, crowdedPlace, crowdedFrame, tooSoon, crowded, crowdedOwn, busyBefore, busyNextArrival, busyWith, secondFrame, thirdFrame, busySecond, busyThird, purgesNone, aloneOwn, sixAnswers, alone, discards, queueFull, shortestFrame, unfitRecord, keptTag, numberTag}
 use Rattle.guarantee_examples.specs.AddUp.{sentAt, broughtAt, accepted, purged, framesAccepted, framesSent, framesPurged, byRule, tagSent, numberSent, EventsAddUp}
@@ -48,10 +49,10 @@ crowded-joins : crowdedPlace ≡ byRule 200 120 .first
 unfolding attempt arriveOf
 crowded-joins = refl
 
-crowded-own : own 5 crowded ≡ crowdedOwn
+crowded-own : map chargeIn (own 5 crowded) ≡ map chargeIn crowdedOwn
 crowded-own = refl
 
-alone-own : own 6 alone ≡ aloneOwn
+alone-own : map chargeIn (own 6 alone) ≡ map chargeIn aloneOwn
 alone-own = refl
 
 busy-frames : framesAccepted 5 (busyWith busySecond busyThird purgesNone) ≡ framesSent busy + framesPurged (busyWith busySecond busyThird purgesNone)

@@ -17,6 +17,7 @@ use Rattle.port_laws.specs.Counting.{actionOf}
 use Rattle.guarantee.specs.Events.{Sent, reservedSent, bestEffortSent, none, Event, action, broughtBy}
 use Rattle.guarantee.specs.Claims.{isTick, tickCount, reservedOctets, offer, isArriveOf, answers}
 use Rattle.guarantee.specs.Own.{own}
+use Rattle.guarantee.specs.Instances.{chargeIn}
 use Rattle.guarantee_examples.specs.Examples.{busy, light, withheld, permitted200, untagged, callsOf}
 use Rattle.guarantee_examples.specs.LeftOpen.{crowdedOpening, crowdedGrant, crowdedBefore, crowdedPlace, crowdedFrame, tooSoon, crowded, crowdedOwn, busyBefore, busyNextArrival, busyWith, secondFrame, thirdFrame, busySecond, busyThird, purgesNone, aloneOwn, sixAnswers, alone, discards, queueFull, shortestFrame, unfitRecord, keptTag, numberTag}
 
@@ -86,9 +87,9 @@ pub record EventsAddUp : Type 0 where
   pub unfit-prior : priorFits unfitRecord ≡ false
   -- the frame of `crowded` joins the queue that the rule of its stream alone chooses
   pub crowded-joins : crowdedPlace ≡ byRule 200 120 .first
-  -- the own events of stream 5 in the crowd, and of stream 6 alone
-  pub crowded-own : own 5 crowded ≡ crowdedOwn
-  pub alone-own : own 6 alone ≡ aloneOwn
+  -- the octets of stream 5's own events in the crowd, and of stream 6's alone
+  pub crowded-own : map chargeIn (own 5 crowded) ≡ map chargeIn crowdedOwn
+  pub alone-own : map chargeIn (own 6 alone) ≡ map chargeIn aloneOwn
   -- no frame of `busy` is lost: those accepted are sent or purged
   pub busy-frames : framesAccepted 5 (busyWith busySecond busyThird purgesNone) ≡ framesSent busy + framesPurged (busyWith busySecond busyThird purgesNone)
   -- a full queue is no discard
