@@ -10,7 +10,6 @@ use Rattle.lists.specs.Turns.{allTo}
 use Rattle.lists.specs.Equal.{octetsEqual}
 use Rattle.lists.proofs.EachLaws.{differ}
 use Rattle.stream.specs.declared.Reply.{Reply}
-use Rattle.stream.specs.State.{lastPlace}
 use Rattle.stream.specs.Replies.{refusedBy}
 use Rattle.header.specs.Header.{chargeOf, lengthFits, taggedFrame}
 use Rattle.binding.specs.Finding.{frameLookup}
@@ -314,11 +313,11 @@ calls-differ : Alike 5 allowed (grantOf5 ∷ joinsNext ∷ [])
 calls-differ calls grant = absurd (omega (arith, ap (λ (cs : List Call). tagOf (actionOf (getD cs 1 ticking))) calls))
 
 -- where no reservation is granted nothing is said of the stream by itself
-none-granted : RepliedAlone lastPlace denied
-none-granted s permitted [] after g split call is = absurd (omega (arith, ap (λ (es : List Event). getD es 0 quietTick .reply .refusal) split))
-none-granted s permitted (b ∷ []) after g split call is =
+none-granted : (last : ℕ) → RepliedAlone last denied
+none-granted last s permitted [] after g split call is = absurd (omega (arith, ap (λ (es : List Event). getD es 0 quietTick .reply .refusal) split))
+none-granted last s permitted (b ∷ []) after g split call is =
     absurd (omega (arith, ap (λ (es : List Event). tagOf (actionOf (getD es 1 quietTick .call))) split, ap (λ (c : Call). tagOf (actionOf c)) call))
-none-granted s permitted (b ∷ c ∷ before) after g split call is =
+none-granted last s permitted (b ∷ c ∷ before) after g split call is =
     absurd (omega (arith, ap (λ (es : List Event). length es) split, length-append before (g ∷ after)))
 
 -- a discard is not the host's fault, nor is a Frame that is too short

@@ -12,7 +12,8 @@ use Rattle.lists.proofs.Order.{le-or-lt, eq-or-not}
 use Rattle.stream.specs.declared.Stream.{Stream}
 use Rattle.queue.specs.declared.Frame.{Frame}
 use Rattle.queue.specs.Waiting.{waiting}
-use Rattle.record.specs.Layout.{queueCount, bestEffort, streamCount, memoryLength}
+use Rattle.record.specs.Layout.{streamCount}
+use Rattle.record.specs.Queues.{queuesAt, bestEffortAt, HasMemory}
 use Rattle.record.specs.Head.{openAt, priorAt, linkAt, queueAt}
 use Rattle.record.specs.Entry.{streamAt}
 use Rattle.record.specs.Reservations.{permittedOf as reservedP, permittedSum}
@@ -40,14 +41,14 @@ inRole p m role = waiting m (roleAt p role) (queueAt p (roleAt p role))
 pub record Holds (all : List Call) (link : ℕ) (p m k : List ℕ) (v : View) (best : List Marked) : Type 0 where
   pub fit : recordFits p m ≡ true
   pub fit-marked : recordFits p k ≡ true
-  pub long : memoryLength ≤ length m
-  pub long-marked : memoryLength ≤ length k
+  pub long : HasMemory p m
+  pub long-marked : HasMemory p k
   pub opened : openAt p ≡ true
   pub octets : linkAt p ≡ link
   pub streams : (s : ℕ) → v .stream s ≡ seenAt p s
-  pub queues : (role : ℕ) → role < queueCount → Tied all reservedSent (inRole p m role) (inRole p k role) (v .queue role)
-  pub above : (role : ℕ) → queueCount ≤ role → v .queue role ≡ []
-  pub waits : Tied all bestEffortSent (waiting m bestEffort (queueAt p bestEffort)) (waiting k bestEffort (queueAt p bestEffort)) best
+  pub queues : (role : ℕ) → role < queuesAt p → Tied all reservedSent (inRole p m role) (inRole p k role) (v .queue role)
+  pub above : (role : ℕ) → queuesAt p ≤ role → v .queue role ≡ []
+  pub waits : Tied all bestEffortSent (waiting m (bestEffortAt p) (queueAt p (bestEffortAt p))) (waiting k (bestEffortAt p) (queueAt p (bestEffortAt p))) best
 
 -- a stream of the port is seen as it is in the record, any other as free
 pub seen-below : (p : List ℕ) (s : ℕ) → s < streamCount → seenAt p s ≡ seen (streamAt p s)
@@ -92,8 +93,8 @@ own-refusal p s a opened =
     (le-or-lt streamCount s)
 
 -- a role's frames are as they were where its queue is
-pub role-kept : (p q m : List ℕ) (role : ℕ) → priorAt q ≡ priorAt p → queueAt q (roleAt p role) ≡ queueAt p (roleAt p role) → inRole q m role ≡ inRole p m role
-role-kept p q m role prior queue = rw (role-same p q role prior, queue)
+pub role-kept : (p q m : List ℕ) (role : ℕ) → priorAt q ≡ priorAt p → queuesAt q ≡ queuesAt p → queueAt q (roleAt p role) ≡ queueAt p (roleAt p role) → inRole q m role ≡ inRole p m role
+role-kept p q m role prior count queue = rw (role-same p q role prior count, queue)
 
 -- the streams of a view with stream s changed
 abbrev pub changed : View → ℕ → Stream → ℕ → Stream

@@ -7,10 +7,9 @@ use mathlib.Core.List.{List, []}
 use Rattle.lists.proofs.EachLaws.{differ}
 use Rattle.lists.proofs.Order.{eq-or-not}
 use Rattle.stream.specs.declared.Reply.{Reply}
-use Rattle.stream.specs.State.{lastPlace}
 use Rattle.stream.specs.Replies.{refusedBy}
 use Rattle.queue.specs.Waiting.{waiting}
-use Rattle.record.specs.Layout.{queueCount, bestEffort}
+use Rattle.record.specs.Queues.{queuesAt, lastPlaceAt, bestEffortAt}
 use Rattle.record.specs.Head.{openAt, linkAt, queueAt}
 use Rattle.record.proofs.KeepLaws.{Keeps}
 use Rattle.ranges.specs.Ranges.{shareOf}
@@ -28,20 +27,20 @@ use Rattle.guarantee.proofs.CallLaws.{quiet-no-transmit, sends-none}
 use Rattle.guarantee.proofs.Tied.{Tied}
 use Rattle.guarantee.proofs.Held.{seenAt, inRole, Holds}
 
--- record q is of an open port where p is, with the same L
+-- record q is of an open port where p is, with the same L and as many queues
 abbrev pub SameLink : List ℕ → List ℕ → Type 0
-SameLink p q = (openAt q ≡ openAt p) × (linkAt q ≡ linkAt p)
+SameLink p q = (openAt q ≡ openAt p) × ((linkAt q ≡ linkAt p) × (queuesAt q ≡ queuesAt p))
 
 pub link-kept : (p q : List ℕ) → Keeps p q → SameLink p q
-link-kept p q keeps = (keeps .opened, keeps .link)
+link-kept p q keeps = (keeps .opened, (keeps .link, keeps .queues))
 
 -- record q, memory m and the memory k of the marked calls hold view w and best effort's frames, of a port that was p before
 pub record Moved (all : List Call) (p q m k : List ℕ) (w : View) (best : List Marked) : Type 0 where
   pub keeps : SameLink p q
   pub streams : (s : ℕ) → w .stream s ≡ seenAt q s
-  pub queues : (role : ℕ) → role < queueCount → Tied all reservedSent (inRole q m role) (inRole q k role) (w .queue role)
-  pub above : (role : ℕ) → queueCount ≤ role → w .queue role ≡ []
-  pub waits : Tied all bestEffortSent (waiting m bestEffort (queueAt q bestEffort)) (waiting k bestEffort (queueAt q bestEffort)) best
+  pub queues : (role : ℕ) → role < queuesAt p → Tied all reservedSent (inRole q m role) (inRole q k role) (w .queue role)
+  pub above : (role : ℕ) → queuesAt p ≤ role → w .queue role ≡ []
+  pub waits : Tied all bestEffortSent (waiting m (bestEffortAt p) (queueAt q (bestEffortAt p))) (waiting k (bestEffortAt p) (queueAt q (bestEffortAt p))) best
 
 -- a transmit and the marked one say what is sent
 abbrev pub Says : Reply → Reply → Sent → Type 0
@@ -52,7 +51,7 @@ Says reply shown sent = (reply ≡ replyOfSent (λ f. f .tag) sent) × (shown �
 pub record Next (earlier all : List Call) (n link : ℕ) (p m k : List ℕ) (v : View) (c : Call) (o u : Outcome) : Type 0 where
   pub view : View
   pub best : List Marked
-  pub effect : Effect lastPlace (shareOf link) n v view (o .reply) (sentBy earlier c (u .reply)) (actionOf c)
+  pub effect : Effect (lastPlaceAt p) (shareOf link) n v view (o .reply) (sentBy earlier c (u .reply)) (actionOf c)
   pub same : u .port ≡ o .port
   pub moved : Moved all p (o .port) (o .memory) (u .memory) view best
   pub says : isTransmit (actionOf c) ≡ true → Says (o .reply) (u .reply) (sentBy earlier c (u .reply))
@@ -62,15 +61,15 @@ pub record Next (earlier all : List Call) (n link : ℕ) (p m k : List ℕ) (v :
 module _ (all : List Call) (n link : ℕ) (p m k : List ℕ) (v : View) (best : List Marked) (h : Holds all link p m k v best) where
   -- a call that leaves record and memory as they were, refused or granted
   pub unmoved : Moved all p p m k v best
-  unmoved = record { keeps = (refl, refl); streams = h .streams; queues = h .queues; above = h .above; waits = h .waits }
+  unmoved = record { keeps = (refl, (refl, refl)); streams = h .streams; queues = h .queues; above = h .above; waits = h .waits }
 
-  pub next-unchanged : (r : Reply) (c : Call) → Own (r .refusal) → isTransmit (actionOf c) ≡ false → Effect lastPlace (shareOf link) n v v r none (actionOf c)
+  pub next-unchanged : (r : Reply) (c : Call) → Own (r .refusal) → isTransmit (actionOf c) ≡ false → Effect (lastPlaceAt p) (shareOf link) n v v r none (actionOf c)
       → Next all all n link p m k v c (outcome r p m) (outcome r p k)
   next-unchanged r c own other effect =
       record {
         view = v;
         best = best;
-        effect = subst (λ (t : Sent). Effect lastPlace (shareOf link) n v v r t (actionOf c)) (sym (sends-none all c r other)) effect;
+        effect = subst (λ (t : Sent). Effect (lastPlaceAt p) (shareOf link) n v v r t (actionOf c)) (sym (sends-none all c r other)) effect;
         same = refl;
         moved = unmoved;
         says = λ e. differ (sym e ∙ other);

@@ -11,7 +11,6 @@ use Rattle.lists.proofs.Order.{eq-or-not}
 use Rattle.stream.specs.declared.Stream.{Stream}
 use Rattle.stream.specs.declared.Arrival.{Arrival}
 use Rattle.stream.specs.declared.Arrival.the-variants.{Joined, Discarded}
-use Rattle.stream.specs.State.{lastPlace}
 use Rattle.stream.specs.Steps.{arriveOf}
 use Rattle.stream.specs.Replies.{granted, refusedBy, replyOf, streamOf}
 use Rattle.stream.proofs.FitLaws.{OnlyMoves, joins-within, arrive-moves}
@@ -20,9 +19,11 @@ use Rattle.queue.specs.Ring.{placeCount, joinedMemory, joinedQueue}
 use Rattle.queue.specs.Waiting.{waiting}
 use Rattle.queue.proofs.WaitingLaws.{joins, joins-elsewhere, length-waiting}
 use Rattle.lists.proofs.EachLaws.{differ}
-use Rattle.record.specs.Layout.{Whole, queueCount, bestEffort, streamCount, memoryLength}
+use Rattle.record.specs.Layout.{Whole, streamCount}
+use Rattle.record.specs.Queues.{queuesAt, lastPlaceAt, bestEffortAt, HasMemory}
 use Rattle.record.specs.Head.{priorAt, linkAt, queueAt, withQueue}
 use Rattle.record.specs.Entry.{streamAt}
+use Rattle.record.proofs.QueueLaws.{queues-least, queues-most, queues-queue}
 use Rattle.record.proofs.HeadPairs.{queue-queue, other-queue, prior-queue, stream-queue}
 use Rattle.record.proofs.EntryPairs.{stream-place, other-place, prior-place, queue-place}
 use Rattle.record.proofs.KeepLaws.{keeps-both, keeps-queue, keeps-place}
@@ -49,7 +50,7 @@ use Rattle.guarantee.proofs.Next.{link-kept, Moved, Next, next-unchange
 
 -- the step, where the frame joins a queue that has room, and where it is discarded
 module _ (p m : List ℕ) (s a tag : ℕ) where
-  step-joins : (place : ℕ) (next : Stream) → arriveOf lastPlace (streamAt p s) a ≡ Joined place next → queueAt p (roleAt p place) .count < placeCount
+  step-joins : (place : ℕ) (next : Stream) → arriveOf (lastPlaceAt p) (streamAt p s) a ≡ Joined place next → queueAt p (roleAt p place) .count < placeCount
       → arriveStep p m s a tag
       ≡ outcome (granted place (next .left)) (withQueue (moved p s next) (roleAt p place) (joinedQueue (queueAt p (roleAt p place))))
       (joinedMemory m (roleAt p place) (queueAt p (roleAt p place)) (record { stream = s; charge = a; tag = tag }))
@@ -58,12 +59,12 @@ module _ (p m : List ℕ) (s a tag : ℕ) where
       ap (λ (z : Arrival). arrived p m s (record { stream = s; charge = a; tag = tag }) (replyOf z) z) e
       ∙ rw (lt-leb placeCount (queueAt p (roleAt p place) .count) room)
 
-  step-discards : (spent : Stream) → arriveOf lastPlace (streamAt p s) a ≡ Discarded spent → arriveStep p m s a tag ≡ outcome (refusedBy 14) (moved p s spent) m
+  step-discards : (spent : Stream) → arriveOf (lastPlaceAt p) (streamAt p s) a ≡ Discarded spent → arriveStep p m s a tag ≡ outcome (refusedBy 14) (moved p s spent) m
   unfolding arriveStep
   step-discards spent e = ap (λ (z : Arrival). arrived p m s (record { stream = s; charge = a; tag = tag }) (replyOf z) z) e
 
 -- the record where stream s has moved, and a frame has joined the queue of this number
-module _ (p : List ℕ) (s number : ℕ) (next : Stream) (whole : Whole p) (b : number < queueCount) where
+module _ (p : List ℕ) (s number : ℕ) (next : Stream) (whole : Whole p) (b : number < queuesAt p) where
   abbrev joinedRecord : List ℕ
   joinedRecord = withQueue (moved p s next) number (joinedQueue (queueAt p number))
 
@@ -73,14 +74,17 @@ module _ (p : List ℕ) (s number : ℕ) (next : Stream) (whole : Whole p) (b : 
   joined-prior : priorAt joinedRecord ≡ priorAt p
   joined-prior = prior-queue (moved p s next) number (joinedQueue (queueAt p number)) ∙ prior-place p s (next .place) (next .left)
 
-  joined-here : queueAt joinedRecord number ≡ joinedQueue (queueAt p number)
-  joined-here = queue-queue (moved p s next) number (joinedQueue (queueAt p number)) moved-whole (omega arith)
+  joined-count : queuesAt joinedRecord ≡ queuesAt p
+  joined-count = queues-queue (moved p s next) number (joinedQueue (queueAt p number)) ∙ keeps-place p s (next .place) (next .left) .queues
 
-  joined-other : (q : ℕ) → q ≤ bestEffort → (q ≡ number → ⊥) → queueAt joinedRecord q ≡ queueAt p q
-  joined-other q c o = other-queue (moved p s next) number (joinedQueue (queueAt p number)) q o ∙ queue-place p s (next .place) (next .left) q (omega arith)
+  joined-here : queueAt joinedRecord number ≡ joinedQueue (queueAt p number)
+  joined-here = queue-queue (moved p s next) number (joinedQueue (queueAt p number)) moved-whole (omega (arith, queues-most p))
+
+  joined-other : (q : ℕ) → q ≤ bestEffortAt p → (q ≡ number → ⊥) → queueAt joinedRecord q ≡ queueAt p q
+  joined-other q c o = other-queue (moved p s next) number (joinedQueue (queueAt p number)) q o ∙ queue-place p s (next .place) (next .left) q (omega (arith, queues-most p))
 
   joined-stream : (i : ℕ) → streamAt joinedRecord i ≡ streamAt (moved p s next) i
-  joined-stream i = stream-queue (moved p s next) number (joinedQueue (queueAt p number)) i (omega arith)
+  joined-stream i = stream-queue (moved p s next) number (joinedQueue (queueAt p number)) i (omega (arith, queues-most p))
 
 -- the view after an arrival
 abbrev arrivedView : View → ℕ → Marked → Arrival → View
@@ -93,7 +97,7 @@ after-here f place x fs = rw (eq-eqb place place refl)
 after-else : (f : Marked) (j place : ℕ) (x : Stream) (fs : List Marked) → (j ≡ place → ⊥) → queueAfter j f (Joined place x) fs ≡ fs
 after-else f j place x fs o = rw (ne-eqb place j (λ e. o (sym e)))
 
-module _ (all : List Call) (n link : ℕ) (p m k : List ℕ) (v : View) (best : List Marked) (h : Holds all link p m k v best) (sound : Sound lastPlace (shareOf link) v)
+module _ (all : List Call) (n link : ℕ) (p m k : List ℕ) (v : View) (best : List Marked) (h : Holds all link p m k v best) (sound : Sound (lastPlaceAt p) (shareOf link) v)
     (s a tag : ℕ) (counted : n < length all) (here : getD all n ticking ≡ arriving s a tag) (free-of : arriveRefusal p s a ≡ 0) where
   abbrev frame : Marked
   frame = record { stream = s; charge = a; tag = tag; number = n }
@@ -118,9 +122,9 @@ module _ (all : List Call) (n link : ℕ) (p m k : List ℕ) (v : View) (best : 
   seen-held = h .streams s ∙ seen-below p s below ∙ seen-as-is held is-reserved
 
   -- so the stream's rule answers alike, and the call does to the view what it does
-  arrival-effect : (z : Arrival) → arriveOf lastPlace held a ≡ z → Effect lastPlace (shareOf link) n v (arrivedView v s frame z) (replyOf z) none (toArrive s a tag)
+  arrival-effect : (z : Arrival) → arriveOf (lastPlaceAt p) held a ≡ z → Effect (lastPlaceAt p) (shareOf link) n v (arrivedView v s frame z) (replyOf z) none (toArrive s a tag)
   arrival-effect z e =
-      let rule : arriveOf lastPlace (v .stream s) a ≡ z = ap (λ (x : Stream). arriveOf lastPlace x a) seen-held ∙ e in
+      let rule : arriveOf (lastPlaceAt p) (v .stream s) a ≡ z = ap (λ (x : Stream). arriveOf (lastPlaceAt p) x a) seen-held ∙ e in
       arrives refl
       (record {
         allowed = ap (λ (x : Stream). ownRefusal s x a) (h .streams s) ∙ sym (own-refusal p s a (h .opened)) ∙ free-of;
@@ -137,20 +141,20 @@ module _ (all : List Call) (n link : ℕ) (p m k : List ℕ) (v : View) (best : 
       let plan = fit-plan p (h .opened) (fit-record p m (h .fit) .plan) in
       omega (arith, within-bounds _ _ (linkAt p) (plan .link) .1, ap shareOf (h .octets))
 
-  module _ (place : ℕ) (next : Stream) (e : arriveOf lastPlace held a ≡ Joined place next) where
-    within-roles : place < queueCount
-    within-roles = omega (arith, joins-within lastPlace (v .stream s) a place next (sound .fit s) (ap (λ (x : Stream). arriveOf lastPlace x a) seen-held ∙ e))
+  module _ (place : ℕ) (next : Stream) (e : arriveOf (lastPlaceAt p) held a ≡ Joined place next) where
+    within-roles : place < queuesAt p
+    within-roles = omega (arith, joins-within (lastPlaceAt p) (v .stream s) a place next (sound .fit s) (ap (λ (x : Stream). arriveOf (lastPlaceAt p) x a) seen-held ∙ e), queues-least p)
 
     -- no queue of the share's octets is full, so 20 is not met
     room : queueAt p (roleAt p place) .count < placeCount
     room =
         let w = arrivedView v s frame (Joined place next) in
-        let later = stays-sound lastPlace (shareOf link) n v w (granted place (next .left)) none (toArrive s a tag) (omega arith) (arrival-effect (Joined place next) e) sound in
+        let later = stays-sound (lastPlaceAt p) (shareOf link) n v w (granted place (next .left)) none (toArrive s a tag) (omega (arith, queues-least p)) (arrival-effect (Joined place next) e) sound in
         let fs = v .queue place in
         let joined : w .queue place ≡ fs ++ (frame ∷ []) = after-here frame place next fs in
         omega (
           arith,
-          octets-most lastPlace (shareOf link) w later place,
+          octets-most (lastPlaceAt p) (shareOf link) w later place,
           charged-length (w .queue place) (later .charged place),
           share-most,
           ap length joined,
@@ -166,27 +170,27 @@ module _ (all : List Call) (n link : ℕ) (p m k : List ℕ) (v : View) (best : 
     after = joinedRecord p s number next whole (role-below p place)
 
     -- the frames of each role, in either memory
-    here-joins : (l : List ℕ) (f : Frame) → memoryLength ≤ length l → inRole after (joinedMemory l number (queueAt p number) f) place ≡ inRole p l place ++ (f ∷ [])
+    here-joins : (l : List ℕ) (f : Frame) → HasMemory p l → inRole after (joinedMemory l number (queueAt p number) f) place ≡ inRole p l place ++ (f ∷ [])
     here-joins l f long =
-        rw (role-same p after place (joined-prior p s number next whole (role-below p place)), joined-here p s number next whole (role-below p place))
-        (joins l number (queueAt p number) f room (omega (arith, role-below p place)))
+        rw (role-same p after place (joined-prior p s number next whole (role-below p place)) (joined-count p s number next whole (role-below p place)), joined-here p s number next whole (role-below p place))
+        (joins l number (queueAt p number) f room (omega (arith, role-below p place, queues-most p)))
 
-    else-kept : (l : List ℕ) (f : Frame) (role : ℕ) → role < queueCount → (role ≡ place → ⊥)
+    else-kept : (l : List ℕ) (f : Frame) (role : ℕ) → role < queuesAt p → (role ≡ place → ⊥)
         → inRole after (joinedMemory l number (queueAt p number) f) role ≡ inRole p l role
     else-kept l f role b o =
         let apart = role-apart p role place b within-roles o in
-        role-kept p after (joinedMemory l number (queueAt p number) f) role (joined-prior p s number next whole (role-below p place))
-        (joined-other p s number next whole (role-below p place) (roleAt p role) (omega (arith, role-below p role)) apart)
+        role-kept p after (joinedMemory l number (queueAt p number) f) role (joined-prior p s number next whole (role-below p place)) (joined-count p s number next whole (role-below p place))
+        (joined-other p s number next whole (role-below p place) (roleAt p role) (omega (arith, role-below p role, queues-most p)) apart)
         ∙ joins-elsewhere l number (roleAt p role) (queueAt p number) (queueAt p (roleAt p role)) f apart
 
     best-effort-kept : (l : List ℕ) (f : Frame)
-        → waiting (joinedMemory l number (queueAt p number) f) bestEffort (queueAt after bestEffort) ≡ waiting l bestEffort (queueAt p bestEffort)
+        → waiting (joinedMemory l number (queueAt p number) f) (bestEffortAt p) (queueAt after (bestEffortAt p)) ≡ waiting l (bestEffortAt p) (queueAt p (bestEffortAt p))
     best-effort-kept l f =
-        let apart : bestEffort ≡ number → ⊥ = λ z. omega (arith, role-below p place) in
-        ap (waiting (joinedMemory l number (queueAt p number) f) bestEffort) (joined-other p s number next whole (role-below p place) bestEffort (omega arith) apart)
-        ∙ joins-elsewhere l number bestEffort (queueAt p number) (queueAt p bestEffort) f apart
+        let apart : bestEffortAt p ≡ number → ⊥ = λ z. omega (arith, role-below p place, queues-most p) in
+        ap (waiting (joinedMemory l number (queueAt p number) f) (bestEffortAt p)) (joined-other p s number next whole (role-below p place) (bestEffortAt p) (omega arith) apart)
+        ∙ joins-elsewhere l number (bestEffortAt p) (queueAt p number) (queueAt p (bestEffortAt p)) f apart
 
-    joined-queues : (role : ℕ) → role < queueCount
+    joined-queues : (role : ℕ) → role < queuesAt p
         → Tied all reservedSent (inRole after (joinedMemory m number (queueAt p number) (plain frame)) role)
         (inRole after (joinedMemory k number (queueAt p number) (numbered frame)) role)
         (queueAfter role frame (Joined place next) (v .queue role))
@@ -201,7 +205,7 @@ module _ (all : List Call) (n link : ℕ) (p m k : List ℕ) (v : View) (best : 
 
     -- the stream where its rule has moved it
     next-held : OnlyMoves held next
-    next-held = subst (λ (z : Arrival). OnlyMoves held (streamOf z)) e (arrive-moves lastPlace held a)
+    next-held = subst (λ (z : Arrival). OnlyMoves held (streamOf z)) e (arrive-moves (lastPlaceAt p) held a)
 
     next-reserved : next .reserved ≡ true
     next-reserved = ap (λ (x : Stream). x .reserved) (sym next-held) ∙ is-reserved
@@ -210,7 +214,7 @@ module _ (all : List Call) (n link : ℕ) (p m k : List ℕ) (v : View) (best : 
         (arrivedView v s frame (Joined place next)) best
     joined-moved =
         record {
-          keeps = link-kept _ _ (keeps-both p _ _ (keeps-place p s (next .place) (next .left)) (keeps-queue (moved p s next) number (joinedQueue (queueAt p number)) (omega (arith, role-below p place))));
+          keeps = link-kept _ _ (keeps-both p _ _ (keeps-place p s (next .place) (next .left)) (keeps-queue (moved p s next) number (joinedQueue (queueAt p number)) (omega (arith, role-below p place, queues-most p))));
           streams =
               changed-seen p after v s next below (h .streams)
               (joined-stream p s number next whole (role-below p place) s ∙ stream-place p s (next .place) (next .left) whole below ∙ next-held)
@@ -236,14 +240,14 @@ module _ (all : List Call) (n link : ℕ) (p m k : List ℕ) (v : View) (best : 
         })
 
   -- discarded: only the stream moves
-  module _ (spent : Stream) (e : arriveOf lastPlace held a ≡ Discarded spent) where
+  module _ (spent : Stream) (e : arriveOf (lastPlaceAt p) held a ≡ Discarded spent) where
     spent-held : OnlyMoves held spent
-    spent-held = subst (λ (z : Arrival). OnlyMoves held (streamOf z)) e (arrive-moves lastPlace held a)
+    spent-held = subst (λ (z : Arrival). OnlyMoves held (streamOf z)) e (arrive-moves (lastPlaceAt p) held a)
 
     spent-role : (l : List ℕ) (role : ℕ) → inRole (moved p s spent) l role ≡ inRole p l role
     spent-role l role =
-        role-kept p (moved p s spent) l role (prior-place p s (spent .place) (spent .left))
-        (queue-place p s (spent .place) (spent .left) (roleAt p role) (omega (arith, role-below p role)))
+        role-kept p (moved p s spent) l role (prior-place p s (spent .place) (spent .left)) (keeps-place p s (spent .place) (spent .left) .queues)
+        (queue-place p s (spent .place) (spent .left) (roleAt p role) (omega (arith, role-below p role, queues-most p)))
 
     discarded-next : Next all all n link p m k v (arriving s a tag) (arriveStep p m s a tag) (arriveStep p k s a n)
     discarded-next =
@@ -262,7 +266,7 @@ module _ (all : List Call) (n link : ℕ) (p m k : List ℕ) (v : View) (best : 
                     (λ i c o. other-place p s (spent .place) (spent .left) i o);
                 queues = λ role b. rw (spent-role m role, spent-role k role) (h .queues role b);
                 above = h .above;
-                waits = rw (queue-place p s (spent .place) (spent .left) bestEffort (omega arith)) (h .waits);
+                waits = rw (queue-place p s (spent .place) (spent .left) (bestEffortAt p) (omega (arith, queues-most p))) (h .waits);
               };
           says = λ z. differ (sym z);
           marks = λ z. refl;
@@ -271,13 +275,13 @@ module _ (all : List Call) (n link : ℕ) (p m k : List ℕ) (v : View) (best : 
 
   -- by what the stream's rule says
   arrive-next : Next all all n link p m k v (arriving s a tag) (arriveStep p m s a tag) (arriveStep p k s a n)
-  arrive-next = told (arriveOf lastPlace held a) refl
+  arrive-next = told (arriveOf (lastPlaceAt p) held a) refl
     where
-      told : (z : Arrival) → arriveOf lastPlace held a ≡ z → Next all all n link p m k v (arriving s a tag) (arriveStep p m s a tag) (arriveStep p k s a n)
+      told : (z : Arrival) → arriveOf (lastPlaceAt p) held a ≡ z → Next all all n link p m k v (arriving s a tag) (arriveStep p m s a tag) (arriveStep p k s a n)
       told (Joined place next) e = joined-next place next e
       told (Discarded spent) e = discarded-next spent e
 
-module _ (all : List Call) (n link : ℕ) (p m k : List ℕ) (v : View) (best : List Marked) (h : Holds all link p m k v best) (sound : Sound lastPlace (shareOf link) v) where
+module _ (all : List Call) (n link : ℕ) (p m k : List ℕ) (v : View) (best : List Marked) (h : Holds all link p m k v best) (sound : Sound (lastPlaceAt p) (shareOf link) v) where
   pub next-arrive : (s a tag : ℕ) → n < length all → getD all n ticking ≡ arriving s a tag
       → Next all all n link p m k v (arriving s a tag) (called (arriving s a tag) p m) (called (marked n (arriving s a tag)) p k)
   next-arrive s a tag counted here =

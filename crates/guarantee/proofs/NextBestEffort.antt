@@ -11,7 +11,8 @@ use Rattle.queue.specs.Ring.{placeCount, joinedMemory, joinedQueue}
 use Rattle.queue.specs.Waiting.{waiting}
 use Rattle.queue.proofs.WaitingLaws.{joins, joins-elsewhere}
 use Rattle.lists.proofs.EachLaws.{differ}
-use Rattle.record.specs.Layout.{Whole, bestEffort, memoryLength}
+use Rattle.record.specs.Layout.{Whole}
+use Rattle.record.specs.Queues.{bestEffortAt, HasMemory}
 use Rattle.record.specs.Head.{waitsAt, queueAt}
 use Rattle.queue.specs.Place.{bestEffortStream}
 use Rattle.fitness.proofs.FitLaws.{fit-record}
@@ -32,11 +33,11 @@ use Rattle.guarantee.proofs.Next.{link-kept, Next, by-quiet-gate}
 
 -- the queue of best effort and W after the step
 abbrev queueJoined : List ℕ → Queue
-queueJoined p = joinedQueue (queueAt p bestEffort)
+queueJoined p = joinedQueue (queueAt p (bestEffortAt p))
 
 module _ (p : List ℕ) (a : ℕ) (m : List ℕ) (f : Frame) where
   abbrev memoryAfter : List ℕ
-  memoryAfter = joinedMemory m bestEffort (queueAt p bestEffort) f
+  memoryAfter = joinedMemory m (bestEffortAt p) (queueAt p (bestEffortAt p)) f
 
   abbrev recordAfter : List ℕ
   recordAfter = written p (queueJoined p) (waitsAt p + a)
@@ -45,13 +46,13 @@ module _ (p : List ℕ) (a : ℕ) (m : List ℕ) (f : Frame) where
   best-effort-role : (role : ℕ) → inRole recordAfter memoryAfter role ≡ inRole p m role
   best-effort-role role =
       written-role p (queueJoined p) (waitsAt p + a) memoryAfter role
-      ∙ joins-elsewhere m bestEffort (roleAt p role) (queueAt p bestEffort) (queueAt p (roleAt p role)) f (role-not-best-effort p (queueJoined p) (waitsAt p + a) role)
+      ∙ joins-elsewhere m (bestEffortAt p) (roleAt p role) (queueAt p (bestEffortAt p)) (queueAt p (roleAt p role)) f (role-not-best-effort p (queueJoined p) (waitsAt p + a) role)
 
   -- and the frame is the last in best effort
-  best-effort-joins : Whole p → memoryLength ≤ length m → queueAt p bestEffort .count < placeCount
-      → waiting memoryAfter bestEffort (queueAt recordAfter bestEffort) ≡ waiting m bestEffort (queueAt p bestEffort) ++ (f ∷ [])
+  best-effort-joins : Whole p → HasMemory p m → queueAt p (bestEffortAt p) .count < placeCount
+      → waiting memoryAfter (bestEffortAt p) (queueAt recordAfter (bestEffortAt p)) ≡ waiting m (bestEffortAt p) (queueAt p (bestEffortAt p)) ++ (f ∷ [])
   best-effort-joins whole long room =
-      ap (waiting memoryAfter bestEffort) (written-here p (queueJoined p) (waitsAt p + a) whole) ∙ joins m bestEffort (queueAt p bestEffort) f room (omega arith)
+      ap (waiting memoryAfter (bestEffortAt p)) (written-here p (queueJoined p) (waitsAt p + a) whole) ∙ joins m (bestEffortAt p) (queueAt p (bestEffortAt p)) f room (omega arith)
 
 module _ (all : List Call) (n link : ℕ) (p m k : List ℕ) (v : View) (best : List Marked) (h : Holds all link p m k v best) where
   best-effort-next : (a tag : ℕ) → n < length all → getD all n ticking ≡ joiningBestEffort a tag → bestEffortRefusal p a ≡ 0
@@ -59,7 +60,7 @@ module _ (all : List Call) (n link : ℕ) (p m k : List ℕ) (v : View) (best : 
   unfolding bestEffortStep
   best-effort-next a tag counted here e =
       let d = best-effort-allowed p a e in
-      let x = queueAt p bestEffort in
+      let x = queueAt p (bestEffortAt p) in
       let f : Marked = record { stream = bestEffortStream; charge = a; tag = tag; number = n } in
       let whole = fit-record p m (h .fit) .long in
       record {
@@ -75,7 +76,7 @@ module _ (all : List Call) (n link : ℕ) (p m k : List ℕ) (v : View) (best : 
               above = h .above;
               waits =
                   rw (best-effort-joins p a m (bestEffortFrame a tag) whole (h .long) (d .free), best-effort-joins p a k (bestEffortFrame a n) whole (h .long-marked) (d .free))
-                  (tied-joins all bestEffortSent (waiting m bestEffort x) (waiting k bestEffort x) best f (h .waits) (counted, ap (λ (c : Call). broughtBy n (actionOf c)) here));
+                  (tied-joins all bestEffortSent (waiting m (bestEffortAt p) x) (waiting k (bestEffortAt p) x) best f (h .waits) (counted, ap (λ (c : Call). broughtBy n (actionOf c)) here));
             };
         says = λ z. differ (sym z);
         marks = λ z. refl;

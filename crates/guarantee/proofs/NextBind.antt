@@ -5,8 +5,9 @@ use mathlib.Core.Logic.{inl}
 use mathlib.Core.List.{List}
 use native.Mathlib.Omega.{arith}
 use Rattle.lists.proofs.EachLaws.{differ}
-use Rattle.record.specs.Layout.{bestEffort}
+use Rattle.record.specs.Queues.{bestEffortAt}
 use Rattle.record.specs.Entry.{withBinding}
+use Rattle.record.proofs.QueueLaws.{queues-most, queues-binding}
 use Rattle.record.proofs.BindingPairs.{open-binding, prior-binding, link-binding, queue-binding, stream-binding}
 use Rattle.steps.specs.Roles.{roleAt}
 use Rattle.steps.proofs.RoleLaws.{role-below}
@@ -25,6 +26,7 @@ module _ (all : List Call) (n link : ℕ) (p m k : List ℕ) (v : View) (best : 
       → Next all all n link p m k v (binding s address vid) (bindStep p m s address vid) (bindStep p k s address vid)
   bind-next s address vid =
       let q = withBinding p s address vid in
+      let same = queues-binding p s address vid in
       record {
         view = v;
         best = best;
@@ -32,13 +34,13 @@ module _ (all : List Call) (n link : ℕ) (p m k : List ℕ) (v : View) (best : 
         same = refl;
         moved =
             record {
-              keeps = (open-binding p s address vid, link-binding p s address vid);
+              keeps = (open-binding p s address vid, (link-binding p s address vid, same));
               streams = same-seen p q v (h .streams) (λ i b. stream-binding p s address vid i);
               queues = λ role b.
-                  let there = queue-binding p s address vid (roleAt p role) (omega (arith, role-below p role)) in
-                  rw (role-kept p q m role (prior-binding p s address vid) there, role-kept p q k role (prior-binding p s address vid) there) (h .queues role b);
+                  let there = queue-binding p s address vid (roleAt p role) (omega (arith, role-below p role, queues-most p)) in
+                  rw (role-kept p q m role (prior-binding p s address vid) same there, role-kept p q k role (prior-binding p s address vid) same there) (h .queues role b);
               above = h .above;
-              waits = rw (queue-binding p s address vid bestEffort (omega arith)) (h .waits);
+              waits = rw (queue-binding p s address vid (bestEffortAt p) (omega (arith, queues-most p))) (h .waits);
             };
         says = λ z. differ (sym z);
         marks = λ z. refl;

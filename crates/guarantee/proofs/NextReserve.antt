@@ -7,8 +7,9 @@ use native.Mathlib.Omega.{arith}
 use Rattle.stream.specs.State.{reserveOf}
 use Rattle.stream.specs.Replies.{refusedBy}
 use Rattle.lists.proofs.EachLaws.{differ}
-use Rattle.record.specs.Layout.{bestEffort}
+use Rattle.record.specs.Queues.{bestEffortAt}
 use Rattle.record.specs.Entry.{streamAt, withStream}
+use Rattle.record.proofs.QueueLaws.{queues-most}
 use Rattle.record.proofs.EntryPairs.{stream-stream, other-stream, prior-stream, queue-stream}
 use Rattle.record.proofs.KeepLaws.{keeps-stream}
 use Rattle.ranges.specs.Ranges.{shareOf}
@@ -34,6 +35,7 @@ module _ (all : List Call) (n link : ℕ) (p m k : List ℕ) (v : View) (best : 
       let a = reserve-allowed p s permitted e in
       let q = withStream p s (reserveOf permitted) in
       let whole = fit-record p m (h .fit) .long in
+      let keeps = keeps-stream p s (reserveOf permitted) in
       let w : View = record { queue = v .queue; stream = changed v s (reserveOf permitted) } in
       record {
         view = w;
@@ -51,16 +53,16 @@ module _ (all : List Call) (n link : ℕ) (p m k : List ℕ) (v : View) (best : 
         same = refl;
         moved =
             record {
-              keeps = link-kept _ _ (keeps-stream p s (reserveOf permitted));
+              keeps = link-kept _ _ keeps;
               streams =
                   changed-seen p q v s (reserveOf permitted) (a .stream) (h .streams) (stream-stream p s (reserveOf permitted) whole (a .stream)) refl
                   (λ i b o. other-stream p s (reserveOf permitted) i o);
               queues = λ role b.
-                  let there = queue-stream p s (reserveOf permitted) (roleAt p role) (omega (arith, role-below p role)) in
-                  rw (role-kept p q m role (prior-stream p s (reserveOf permitted)) there, role-kept p q k role (prior-stream p s (reserveOf permitted)) there)
+                  let there = queue-stream p s (reserveOf permitted) (roleAt p role) (omega (arith, role-below p role, queues-most p)) in
+                  rw (role-kept p q m role (prior-stream p s (reserveOf permitted)) (keeps .queues) there, role-kept p q k role (prior-stream p s (reserveOf permitted)) (keeps .queues) there)
                   (h .queues role b);
               above = h .above;
-              waits = rw (queue-stream p s (reserveOf permitted) bestEffort (omega arith)) (h .waits);
+              waits = rw (queue-stream p s (reserveOf permitted) (bestEffortAt p) (omega (arith, queues-most p))) (h .waits);
             };
         says = λ z. differ (sym z);
         marks = λ z. refl;

@@ -18,9 +18,11 @@ use Rattle.stream.proofs.TickLaws.{stays-current}
 use Rattle.queue.specs.Ring.{emptyQueue}
 use Rattle.queue.proofs.WaitingLaws.{empty-waits, length-waiting}
 use Rattle.lists.proofs.EachLaws.{differ}
-use Rattle.record.specs.Layout.{Whole, queueCount, bestEffort, queueRoom, streamCount}
+use Rattle.record.specs.Layout.{Whole, queueRoom, streamCount}
+use Rattle.record.specs.Queues.{queuesAt, bestEffortAt}
 use Rattle.record.specs.Head.{priorAt, withPrior, queueAt, withQueue}
 use Rattle.record.specs.Entry.{streamAt}
+use Rattle.record.proofs.QueueLaws.{queues-least, queues-most}
 use Rattle.record.proofs.HeadPairs.{prior-prior, queue-prior, stream-prior, queue-queue, other-queue, stream-queue}
 use Rattle.record.proofs.EntryPairs.{stream-place, other-place, prior-place, queue-place}
 use Rattle.record.proofs.KeepLaws.{Keeps, keeps-same, keeps-both, keeps-prior, keeps-queue, keeps-place}
@@ -125,7 +127,7 @@ module _ (p : List ℕ) (whole : Whole p) where
 
   turned-keeps : Keeps p turned
   turned-keeps =
-      keeps-both p _ _ (keeps-queue p (roleAt p priorRole) emptyQueue (omega (arith, role-below p priorRole)))
+      keeps-both p _ _ (keeps-queue p (roleAt p priorRole) emptyQueue (omega (arith, role-below p priorRole, queues-most p)))
       (keeps-prior (withQueue p (roleAt p priorRole) emptyQueue) (roleAt p currentRole))
 
   turned-whole : Whole turned
@@ -140,23 +142,23 @@ module _ (p : List ℕ) (whole : Whole p) where
   ticked-prior =
       turns-prior turned turned-whole streamCount
       ∙ prior-prior (withQueue p (roleAt p priorRole) emptyQueue) (roleAt p currentRole)
-      (omega (arith, keeps-queue p (roleAt p priorRole) emptyQueue (omega (arith, role-below p priorRole)) .long))
+      (omega (arith, keeps-queue p (roleAt p priorRole) emptyQueue (omega (arith, role-below p priorRole, queues-most p)) .long))
 
   -- so each queue has the role before its own
   ticked-role : (role : ℕ) → roleAt (tickedRecord p) role ≡ roleAt p (suc role)
-  ticked-role role = role-nearer p (tickedRecord p) role ticked-prior
+  ticked-role role = role-nearer p (tickedRecord p) role ticked-prior (ticked-keeps .queues)
 
   ticked-purged : queueAt (tickedRecord p) (roleAt p priorRole) ≡ emptyQueue
   unfolding tickedRecord
   ticked-purged =
-      turns-queue turned turned-whole streamCount (roleAt p priorRole) (omega (arith, role-below p priorRole))
+      turns-queue turned turned-whole streamCount (roleAt p priorRole) (omega (arith, role-below p priorRole, queues-most p))
       ∙ queue-prior (withQueue p (roleAt p priorRole) emptyQueue) (roleAt p currentRole) (roleAt p priorRole)
-      ∙ queue-queue p (roleAt p priorRole) emptyQueue whole (omega (arith, role-below p priorRole))
+      ∙ queue-queue p (roleAt p priorRole) emptyQueue whole (omega (arith, role-below p priorRole, queues-most p))
 
-  ticked-other : (q : ℕ) → q ≤ bestEffort → (q ≡ roleAt p priorRole → ⊥) → queueAt (tickedRecord p) q ≡ queueAt p q
+  ticked-other : (q : ℕ) → q ≤ bestEffortAt p → (q ≡ roleAt p priorRole → ⊥) → queueAt (tickedRecord p) q ≡ queueAt p q
   unfolding tickedRecord
   ticked-other q b o =
-      turns-queue turned turned-whole streamCount q (omega arith)
+      turns-queue turned turned-whole streamCount q (omega (arith, queues-most p))
       ∙ queue-prior (withQueue p (roleAt p priorRole) emptyQueue) (roleAt p currentRole) q
       ∙ other-queue p (roleAt p priorRole) emptyQueue q o
 
@@ -166,15 +168,15 @@ module _ (p : List ℕ) (whole : Whole p) where
       turns-after turned turned-whole streamCount s b (omega arith)
       ∙ ap ticked
       (stream-prior (withQueue p (roleAt p priorRole) emptyQueue) (roleAt p currentRole) s
-      ∙ stream-queue p (roleAt p priorRole) emptyQueue s (omega (arith, role-below p priorRole)))
+      ∙ stream-queue p (roleAt p priorRole) emptyQueue s (omega (arith, role-below p priorRole, queues-most p)))
 
   -- the frames of each role but last are those of the role after it
-  ticked-frames : (l : List ℕ) (role : ℕ) → suc role < queueCount → inRole (tickedRecord p) l role ≡ inRole p l (suc role)
+  ticked-frames : (l : List ℕ) (role : ℕ) → suc role < queuesAt p → inRole (tickedRecord p) l role ≡ inRole p l (suc role)
   ticked-frames l role b =
-      rw (ticked-role role, ticked-other (roleAt p (suc role)) (omega (arith, role-below p (suc role))) (role-apart p (suc role) priorRole b (omega arith) (λ e. omega arith)))
+      rw (ticked-role role, ticked-other (roleAt p (suc role)) (omega (arith, role-below p (suc role), queues-most p)) (role-apart p (suc role) priorRole b (omega (arith, queues-least p)) (λ e. omega arith)))
 
   -- and last is empty
-  ticked-last : (l : List ℕ) (role : ℕ) → suc role ≡ queueCount → inRole (tickedRecord p) l role ≡ []
+  ticked-last : (l : List ℕ) (role : ℕ) → suc role ≡ queuesAt p → inRole (tickedRecord p) l role ≡ []
   ticked-last l role e = rw (ticked-role role, role-wraps p role e, ticked-purged) (empty-waits l (roleAt p priorRole))
 
 module _ (all : List Call) (n link : ℕ) (p m k : List ℕ) (v : View) (best : List Marked) (h : Holds all link p m k v best) where
@@ -184,12 +186,12 @@ module _ (all : List Call) (n link : ℕ) (p m k : List ℕ) (v : View) (best : 
   whole : Whole p
   whole = fit-record p m (h .fit) .long
 
-  tick-queues : (role : ℕ) → role < queueCount → Tied all reservedSent (inRole (tickedRecord p) m role) (inRole (tickedRecord p) k role) (v .queue (suc role))
+  tick-queues : (role : ℕ) → role < queuesAt p → Tied all reservedSent (inRole (tickedRecord p) m role) (inRole (tickedRecord p) k role) (v .queue (suc role))
   tick-queues role b =
       ⊎-elim
-      (λ (e : suc role ≡ queueCount).
+      (λ (e : suc role ≡ queuesAt p).
       rw (ticked-last p whole m role e, ticked-last p whole k role e, h .above (suc role) (omega arith)) (tied-empty all reservedSent))
-      (λ (c : suc role < queueCount). rw (ticked-frames p whole m role c, ticked-frames p whole k role c) (h .queues (suc role) c))
+      (λ (c : suc role < queuesAt p). rw (ticked-frames p whole m role c, ticked-frames p whole k role c) (h .queues (suc role) c))
       (eq-or-lt-of-le b)
 
   tick-streams : (s : ℕ) → tickOf (v .stream s) ≡ seenAt (tickedRecord p) s
@@ -201,14 +203,14 @@ module _ (all : List Call) (n link : ℕ) (p m k : List ℕ) (v : View) (best : 
       ap tickOf (seen-below p s b) ∙ ticked-seen (streamAt p s) ∙ ap seen (sym (ticked-stream p whole s b)) ∙ sym (seen-below (tickedRecord p) s b))
       (le-or-lt streamCount s)
 
-  tick-waits : queueAt (tickedRecord p) bestEffort ≡ queueAt p bestEffort
-  tick-waits = ticked-other p whole bestEffort (omega arith) (λ e. omega (arith, role-below p priorRole))
+  tick-waits : queueAt (tickedRecord p) (bestEffortAt p) ≡ queueAt p (bestEffortAt p)
+  tick-waits = ticked-other p whole (bestEffortAt p) (omega arith) (λ e. omega (arith, role-below p priorRole, queues-most p))
 
   -- the frames and octets that are purged
   tick-reply : tickStep p m .reply ≡ granted (length (v .queue 0)) (octets (v .queue 0))
   unfolding tickStep
   tick-reply =
-      let prior = h .queues priorRole (omega arith) in
+      let prior = h .queues priorRole (omega (arith, queues-least p)) in
       let x = queueAt p (roleAt p priorRole) in
       ap₂ granted
       (sym (length-waiting m (roleAt p priorRole) x) ∙ tied-length all reservedSent (inRole p m priorRole) (inRole p k priorRole) (v .queue 0) prior)
@@ -218,7 +220,7 @@ module _ (all : List Call) (n link : ℕ) (p m k : List ℕ) (v : View) (best : 
   tick-marks : tickStep p k .reply ≡ tickStep p m .reply
   unfolding tickStep
   tick-marks =
-      let prior = h .queues priorRole (omega arith) in
+      let prior = h .queues priorRole (omega (arith, queues-least p)) in
       ap (granted (queueAt p (roleAt p priorRole) .count))
       (tied-octets-shown all reservedSent (inRole p m priorRole) (inRole p k priorRole) (v .queue 0) prior
       ∙ sym (tied-octets all reservedSent (inRole p m priorRole) (inRole p k priorRole) (v .queue 0) prior))

@@ -15,8 +15,10 @@ use Rattle.queue.specs.declared.Queue.{Queue}
 use Rattle.queue.specs.Ring.{frontOf, sentQueue}
 use Rattle.queue.specs.Waiting.{waiting}
 use Rattle.queue.proofs.WaitingLaws.{sends, length-waiting}
-use Rattle.record.specs.Layout.{Whole, queueCount, bestEffort, queueRoom}
+use Rattle.record.specs.Layout.{Whole, queueRoom}
+use Rattle.record.specs.Queues.{queuesAt, bestEffortAt}
 use Rattle.record.specs.Head.{waitsAt, queueAt, withQueue}
+use Rattle.record.proofs.QueueLaws.{queues-least, queues-most, queues-queue}
 use Rattle.record.proofs.HeadPairs.{queue-queue, other-queue, prior-queue, stream-queue}
 use Rattle.record.proofs.KeepLaws.{keeps-queue}
 use Rattle.fitness.proofs.FitLaws.{fit-record}
@@ -45,7 +47,7 @@ module _ (all : List Call) (n link : ℕ) (p m k : List ℕ) (v : View) (best : 
   whole = fit-record p m (h .fit) .long
 
   -- no frame waits in a role whose queue counts none
-  role-empty : (role : ℕ) → role < queueCount → queueAt p (roleAt p role) .count ≡ 0 → v .queue role ≡ []
+  role-empty : (role : ℕ) → role < queuesAt p → queueAt p (roleAt p role) .count ≡ 0 → v .queue role ≡ []
   role-empty role b zero-count =
       none-long (v .queue role)
       (sym (tied-length all reservedSent (inRole p m role) (inRole p k role) (v .queue role) (h .queues role b))
@@ -66,7 +68,7 @@ module _ (all : List Call) (n link : ℕ) (p m k : List ℕ) (v : View) (best : 
   names kind number x fs o = ap (λ (g : Frame). broughtBy (g .tag) (actionOf (getD all (g .tag) ticking))) (o .shown) ∙ o .known .1
 
   -- a reserved frame is sent from a role
-  module _ (role : ℕ) (b : role < queueCount) (some : queueAt p (roleAt p role) .count ≡ 0 → ⊥) (earlier : (j : ℕ) → j < role → v .queue j ≡ []) where
+  module _ (role : ℕ) (b : role < queuesAt p) (some : queueAt p (roleAt p role) .count ≡ 0 → ⊥) (earlier : (j : ℕ) → j < role → v .queue j ≡ []) where
     abbrev number : ℕ
     number = roleAt p role
 
@@ -89,16 +91,16 @@ module _ (all : List Call) (n link : ℕ) (p m k : List ℕ) (v : View) (best : 
     sent-else j o = rw (ne-eqb j role o)
 
     number-below : number < queueRoom
-    number-below = omega (arith, role-below p role)
+    number-below = omega (arith, role-below p role, queues-most p)
 
     after-here : (l : List ℕ) → inRole after l role ≡ waiting l number (sentQueue there)
-    after-here l = rw (role-same p after role (prior-queue p number (sentQueue there)), queue-queue p number (sentQueue there) whole number-below)
+    after-here l = rw (role-same p after role (prior-queue p number (sentQueue there)) (queues-queue p number (sentQueue there)), queue-queue p number (sentQueue there) whole number-below)
 
-    after-else : (l : List ℕ) (j : ℕ) → j < queueCount → (j ≡ role → ⊥) → inRole after l j ≡ inRole p l j
+    after-else : (l : List ℕ) (j : ℕ) → j < queuesAt p → (j ≡ role → ⊥) → inRole after l j ≡ inRole p l j
     after-else l j c o =
-        role-kept p after l j (prior-queue p number (sentQueue there)) (other-queue p number (sentQueue there) (roleAt p j) (role-apart p j role c b o))
+        role-kept p after l j (prior-queue p number (sentQueue there)) (queues-queue p number (sentQueue there)) (other-queue p number (sentQueue there) (roleAt p j) (role-apart p j role c b o))
 
-    sent-queues : (j : ℕ) → j < queueCount → Tied all reservedSent (inRole after m j) (inRole after k j) (sentView .queue j)
+    sent-queues : (j : ℕ) → j < queuesAt p → Tied all reservedSent (inRole after m j) (inRole after k j) (sentView .queue j)
     sent-queues j c =
         ⊎-elim
         (λ (e : j ≡ role). rw (e, after-here m, after-here k, sent-here) (front .rest))
@@ -131,7 +133,7 @@ module _ (all : List Call) (n link : ℕ) (p m k : List ℕ) (v : View) (best : 
                 streams = same-seen p after v (h .streams) (λ i c. stream-queue p number (sentQueue there) i number-below);
                 queues = sent-queues;
                 above = λ j c. sent-else j (λ e. omega arith) ∙ h .above j c;
-                waits = rw (other-queue p number (sentQueue there) bestEffort (λ e. omega (arith, role-below p role))) (h .waits);
+                waits = rw (other-queue p number (sentQueue there) (bestEffortAt p) (λ e. omega (arith, role-below p role, queues-most p))) (h .waits);
               };
           says = λ z. (
             reply ∙ sym (ap (replyOfSent (λ g. g .tag)) sends-it),
@@ -142,23 +144,23 @@ module _ (all : List Call) (n link : ℕ) (p m k : List ℕ) (v : View) (best : 
         }
 
   -- a frame of best effort is sent
-  module _ (some : queueAt p bestEffort .count ≡ 0 → ⊥) (prior-empty : v .queue 0 ≡ []) where
+  module _ (some : queueAt p (bestEffortAt p) .count ≡ 0 → ⊥) (prior-empty : v .queue 0 ≡ []) where
     abbrev waitingThere : Queue
-    waitingThere = queueAt p bestEffort
+    waitingThere = queueAt p (bestEffortAt p)
 
-    oldest-there : Oldest all bestEffortSent (frontOf m bestEffort waitingThere) (frontOf k bestEffort waitingThere) (waiting m bestEffort (sentQueue waitingThere))
-        (waiting k bestEffort (sentQueue waitingThere)) best
-    oldest-there = first-of bestEffortSent bestEffort waitingThere best (h .waits) some
+    oldest-there : Oldest all bestEffortSent (frontOf m (bestEffortAt p) waitingThere) (frontOf k (bestEffortAt p) waitingThere) (waiting m (bestEffortAt p) (sentQueue waitingThere))
+        (waiting k (bestEffortAt p) (sentQueue waitingThere)) best
+    oldest-there = first-of bestEffortSent (bestEffortAt p) waitingThere best (h .waits) some
 
     -- the charge is the same in both memories
-    same-charge : frontOf k bestEffort waitingThere .charge ≡ frontOf m bestEffort waitingThere .charge
+    same-charge : frontOf k (bestEffortAt p) waitingThere .charge ≡ frontOf m (bestEffortAt p) waitingThere .charge
     same-charge = ap (λ (g : Frame). g .charge) (oldest-there .shown) ∙ sym (ap (λ (g : Frame). g .charge) (oldest-there .real))
 
-    best-effort-next : Next all all n link p m k v transmitting (sentBestEffort p m waitingThere) (sentBestEffort p k waitingThere)
+    best-effort-next : Next all all n link p m k v transmitting (sentBestEffort p m (bestEffortAt p) waitingThere) (sentBestEffort p k (bestEffortAt p) waitingThere)
     best-effort-next =
         let f = oldest-there .first in
-        let octets = waitsAt p - frontOf m bestEffort waitingThere .charge in
-        let sends-it = names bestEffortSent bestEffort waitingThere best oldest-there in
+        let octets = waitsAt p - frontOf m (bestEffortAt p) waitingThere .charge in
+        let sends-it = names bestEffortSent (bestEffortAt p) waitingThere best oldest-there in
         record {
           view = v;
           best = oldest-there .others;
@@ -203,23 +205,23 @@ module _ (all : List Call) (n link : ℕ) (p m k : List ℕ) (v : View) (best : 
         let current = roleAt p currentRole in
         let a = queueAt p prior in
         let b = queueAt p current in
-        let c = queueAt p bestEffort in
+        let c = queueAt p (bestEffortAt p) in
         ⊎-elim
         (λ (i : a .count ≡ 0).
-        let prior-empty = role-empty priorRole (omega arith) i in
+        let prior-empty = role-empty priorRole (omega (arith, queues-least p)) i in
         ⊎-elim
         (λ (j : b .count ≡ 0).
         ⊎-elim
-        (λ (z : c .count ≡ 0). rw (sends-nothing p m prior current a b c i j z, sends-nothing p k prior current a b c i j z) (nothing-next prior-empty))
+        (λ (z : c .count ≡ 0). rw (sends-nothing p m prior current (bestEffortAt p) a b c i j z, sends-nothing p k prior current (bestEffortAt p) a b c i j z) (nothing-next prior-empty))
         (λ (z : c .count ≡ 0 → ⊥).
-        rw (sends-best-effort p m prior current a b c i j z, sends-best-effort p k prior current a b c i j z) (best-effort-next z prior-empty))
+        rw (sends-best-effort p m prior current (bestEffortAt p) a b c i j z, sends-best-effort p k prior current (bestEffortAt p) a b c i j z) (best-effort-next z prior-empty))
         (eq-or-not (c .count) 0))
         (λ (j : b .count ≡ 0 → ⊥).
-        rw (sends-current p m prior current a b c i j, sends-current p k prior current a b c i j)
-        (sent-next currentRole (omega arith) j (λ role z. subst (λ (y : ℕ). v .queue y ≡ []) (omega arith) prior-empty)))
+        rw (sends-current p m prior current (bestEffortAt p) a b c i j, sends-current p k prior current (bestEffortAt p) a b c i j)
+        (sent-next currentRole (omega (arith, queues-least p)) j (λ role z. subst (λ (y : ℕ). v .queue y ≡ []) (omega arith) prior-empty)))
         (eq-or-not (b .count) 0))
         (λ (i : a .count ≡ 0 → ⊥).
-        rw (sends-prior p m prior current a b c i, sends-prior p k prior current a b c i) (sent-next priorRole (omega arith) i (λ role z. absurd (omega arith))))
+        rw (sends-prior p m prior current (bestEffortAt p) a b c i, sends-prior p k prior current (bestEffortAt p) a b c i) (sent-next priorRole (omega (arith, queues-least p)) i (λ role z. absurd (omega arith))))
         (eq-or-not (a .count) 0)
 
     pub next-transmit : Next all all n link p m k v transmitting (called transmitting p m) (called (marked n transmitting) p k)

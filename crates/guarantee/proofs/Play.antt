@@ -1,5 +1,5 @@
 -- A list of calls, from a port that holds a view on, is a run of the views. Assumes nothing.
-use Prim.Native.Nat.{ℕ, suc, _<_}
+use Prim.Native.Nat.{ℕ, suc, _-_, _<_}
 use mathlib.Core.Bool.{Bool, true, false, cond}
 use mathlib.Core.Path.{_≡_, refl, sym, ap, ap₂, subst, _∙_}
 use mathlib.Core.Logic.{inl, inr}
@@ -8,7 +8,8 @@ use native.Mathlib.Omega.{arith}
 use lib.ListN.{length, getD, length-append}
 use Rattle.lists.specs.Each.{All}
 use Rattle.lists.proofs.EachLaws.{differ, getD-before, getD-last}
-use Rattle.stream.specs.State.{lastPlace}
+use Rattle.record.specs.Queues.{lastPlaceAt}
+use Rattle.record.proofs.QueueLaws.{queues-least}
 use Rattle.ranges.specs.Ranges.{shareOf}
 use Rattle.header.specs.Header.{chargeOf, lengthFits}
 use Rattle.fitness.specs.Fit.{recordFits}
@@ -91,7 +92,7 @@ module _ (earlier : List Call) (link : ℕ) (p m k : List ℕ) (v : View) where
         view = x .view;
         best = x .best;
         effect =
-            subst (λ (t : Sent). Effect lastPlace (shareOf link) (length earlier) v (x .view) (o .reply) t (actionOf c))
+            subst (λ (t : Sent). Effect (lastPlaceAt p) (shareOf link) (length earlier) v (x .view) (o .reply) t (actionOf c))
             (sends-none all c (u .reply) h ∙ sym (sends-none earlier c (u .reply) h))
             (x .effect);
         same = x .same;
@@ -116,7 +117,7 @@ module _ (earlier : List Call) (link : ℕ) (p m k : List ℕ) (v : View) where
       }
 
   -- any call
-  module _ (best : List Marked) (h : Holds earlier link p m k v best) (sound : Sound lastPlace (shareOf link) v) (first : broughtBy 0 (actionOf (getD earlier 0 ticking)) ≡ none) where
+  module _ (best : List Marked) (h : Holds earlier link p m k v best) (sound : Sound (lastPlaceAt p) (shareOf link) v) (first : broughtBy 0 (actionOf (getD earlier 0 ticking)) ≡ none) where
     abbrev held : (c : Call) → Holds (withCall earlier c) link p m k v best
     held c = holds-later earlier c link p m k v best h
 
@@ -172,24 +173,25 @@ module _ (earlier : List Call) (link : ℕ) (p m k : List ℕ) (v : View) where
       → Holds (withCall earlier (countsAs p c)) link (called c p m .port) (called c p m .memory) (called (marked (length earlier) c) p k .memory) (next .view) (next .best)
   holds-next best c h next =
       let moved = next .moved in
+      let count = moved .keeps .1 .1 in
       record {
         fit = stays-fit c p m (h .fit);
         fit-marked =
             subst (λ (l : List ℕ). recordFits l (called (marked (length earlier) c) p k .memory) ≡ true) (next .same)
             (stays-fit (marked (length earlier) c) p k (h .fit-marked));
-        long = omega (arith, memory-length c p m, h .long);
-        long-marked = omega (arith, memory-length (marked (length earlier) c) p k, h .long-marked);
+        long = omega (arith, memory-length c p m, count, h .long);
+        long-marked = omega (arith, memory-length (marked (length earlier) c) p k, count, h .long-marked);
         opened = moved .keeps .0 ∙ h .opened;
-        octets = moved .keeps .1 ∙ h .octets;
+        octets = moved .keeps .1 .0 ∙ h .octets;
         streams = moved .streams;
-        queues = moved .queues;
-        above = moved .above;
-        waits = moved .waits;
+        queues = λ role b. moved .queues role (omega (arith, count));
+        above = λ role b. moved .above role (omega (arith, count));
+        waits = rw count (moved .waits);
       }
 
--- what is shown of the calls that were made after `earlier`, and of their events
-pub record Plays (link n : ℕ) (v : View) (earlier : List Call) (xs : List Made) : Type 0 where
-  pub run : Run lastPlace (shareOf link) n v (eventsAfter earlier xs)
+-- what is shown of the calls that were made after `earlier`, and of their events, on a port with this last place
+pub record Plays (last link n : ℕ) (v : View) (earlier : List Call) (xs : List Made) : Type 0 where
+  pub run : Run last (shareOf link) n v (eventsAfter earlier xs)
   pub records : All SameRecord xs
   pub says : All SaysWhatItSends (eventsAfter earlier xs)
   pub marks : All AlikeMarked (eventsAfter earlier xs)
@@ -214,29 +216,31 @@ one d o u = record { call = d; real = o; shown = u }
 abbrev event : List Call → Made → Event
 event earlier x = record { call = x .call; reply = x .real .reply; shown = x .shown .reply; sent = sentBy earlier (x .call) (x .shown .reply) }
 
-module _ (link : ℕ) where
-  -- what is to be shown of the calls cs: on record p and memory m, and marked on record q, which is p, and memory k
+module _ (last link : ℕ) where
+  -- what is to be shown of the calls cs: on record p, with this last place, and memory m, and marked on record q, which is p, and memory k
   abbrev PlaysOn : List Call → Type 0
   PlaysOn cs =
-      (earlier : List Call) (p m q k : List ℕ) (v : View) (best : List Marked) → Holds earlier link p m k v best → Sound lastPlace (shareOf link) v
-      → FirstBringsNone earlier → q ≡ p → Plays link (length earlier) v earlier (made called earlier cs p m q k)
+      (earlier : List Call) (p m q k : List ℕ) (v : View) (best : List Marked) → Holds earlier link p m k v best → lastPlaceAt p ≡ last → Sound last (shareOf link) v
+      → FirstBringsNone earlier → q ≡ p → Plays last link (length earlier) v earlier (made called earlier cs p m q k)
 
   plays-one : (c : Call) (cs : List Call) → PlaysOn cs → (earlier : List Call) (p m k : List ℕ) (v : View) (best : List Marked) → Holds earlier link p m k v best
-      → Sound lastPlace (shareOf link) v → FirstBringsNone earlier → Plays link (length earlier) v earlier (made called earlier (c ∷ cs) p m p k)
-  plays-one c cs rest earlier p m k v best h sound first =
-      let next = next-call earlier link p m k v best h sound (first .1) c in
+      → lastPlaceAt p ≡ last → Sound last (shareOf link) v → FirstBringsNone earlier → Plays last link (length earlier) v earlier (made called earlier (c ∷ cs) p m p k)
+  plays-one c cs rest earlier p m k v best h count sound first =
+      let next = next-call earlier link p m k v best h (subst (λ (place : ℕ). Sound place (shareOf link) v) (sym count) sound) (first .1) c in
       let d = countsAs p c in
       let o = called c p m in
       let u = called (marked (length earlier) c) p k in
+      let effect = subst (λ (place : ℕ). Effect place (shareOf link) (length earlier) v (next .view) (o .reply) (sentBy earlier d (u .reply)) (actionOf d)) count (next .effect) in
       let xs = made called (earlier ++ (d ∷ [])) cs (o .port) (o .memory) (u .port) (u .memory) in
       let one-more : length (earlier ++ (d ∷ [])) ≡ suc (length earlier) = omega (arith, length-append earlier (d ∷ [])) in
-      let later : Plays link (suc (length earlier)) (next .view) (earlier ++ (d ∷ [])) xs =
-      subst (λ (n : ℕ). Plays link n (next .view) (earlier ++ (d ∷ [])) xs) one-more
+      let later : Plays last link (suc (length earlier)) (next .view) (earlier ++ (d ∷ [])) xs =
+      subst (λ (n : ℕ). Plays last link n (next .view) (earlier ++ (d ∷ [])) xs) one-more
       (rest (earlier ++ (d ∷ [])) (o .port) (o .memory) (u .port) (u .memory) (next .view) (next .best) (holds-next earlier link p m k v best c h next)
-      (stays-sound lastPlace (shareOf link) (length earlier) v (next .view) (o .reply) _ (actionOf d) (omega arith) (next .effect) sound)
+      (ap (λ (q : ℕ). q - 1) (next .moved .keeps .1 .1) ∙ count)
+      (stays-sound last (shareOf link) (length earlier) v (next .view) (o .reply) _ (actionOf d) (omega (arith, queues-least p)) effect sound)
       (first-later earlier d first) (next .same)) in
       record {
-        run = (next .view, next .effect, later .run);
+        run = (next .view, effect, later .run);
         records = (next .same, later .records);
         says = (next .says, later .says);
         marks = (next .marks, later .marks);
@@ -244,33 +248,35 @@ module _ (link : ℕ) where
       }
 
   pub plays : (cs : List Call) → PlaysOn cs
-  plays [] = λ earlier p m q k v best h sound first same. record { run = tt; records = tt; says = tt; marks = tt; not-by-host = tt }
-  plays (c ∷ cs) = λ earlier p m q k v best h sound first same.
-      subst (λ (q : List ℕ). Plays link (length earlier) v earlier (made called earlier (c ∷ cs) p m q k)) (sym same)
-      (plays-one c cs (plays cs) earlier p m k v best h sound first)
+  plays [] = λ earlier p m q k v best h count sound first same. record { run = tt; records = tt; says = tt; marks = tt; not-by-host = tt }
+  plays (c ∷ cs) = λ earlier p m q k v best h count sound first same.
+      subst (λ (q : List ℕ). Plays last link (length earlier) v earlier (made called earlier (c ∷ cs) p m q k)) (sym same)
+      (plays-one c cs (plays cs) earlier p m k v best h count sound first)
 
   -- the quick calls, which do not scan the record, do the same
   abbrev QuickOn : List Call → Type 0
   QuickOn cs =
-      (earlier : List Call) (p m q k : List ℕ) (v : View) (best : List Marked) → Holds earlier link p m k v best → Sound lastPlace (shareOf link) v
+      (earlier : List Call) (p m q k : List ℕ) (v : View) (best : List Marked) → Holds earlier link p m k v best → lastPlaceAt p ≡ last → Sound last (shareOf link) v
       → FirstBringsNone earlier → q ≡ p → made quicklyCalled earlier cs p m q k ≡ made called earlier cs p m q k
 
   quick-one : (c : Call) (cs : List Call) → QuickOn cs → (earlier : List Call) (p m k : List ℕ) (v : View) (best : List Marked) → Holds earlier link p m k v best
-      → Sound lastPlace (shareOf link) v → FirstBringsNone earlier → made quicklyCalled earlier (c ∷ cs) p m p k ≡ made called earlier (c ∷ cs) p m p k
-  quick-one c cs rest earlier p m k v best h sound first =
-      let next = next-call earlier link p m k v best h sound (first .1) c in
+      → lastPlaceAt p ≡ last → Sound last (shareOf link) v → FirstBringsNone earlier → made quicklyCalled earlier (c ∷ cs) p m p k ≡ made called earlier (c ∷ cs) p m p k
+  quick-one c cs rest earlier p m k v best h count sound first =
+      let next = next-call earlier link p m k v best h (subst (λ (place : ℕ). Sound place (shareOf link) v) (sym count) sound) (first .1) c in
       let d = countsAs p c in
       let o = called c p m in
       let u = called (marked (length earlier) c) p k in
+      let effect = subst (λ (place : ℕ). Effect place (shareOf link) (length earlier) v (next .view) (o .reply) (sentBy earlier d (u .reply)) (actionOf d)) count (next .effect) in
       ap₂ (λ (x y : Outcome). one d x y ∷ made quicklyCalled (earlier ++ (d ∷ [])) cs (x .port) (x .memory) (y .port) (y .memory))
       (quick-call c p m (h .fit)) (quick-call (marked (length earlier) c) p k (h .fit-marked))
       ∙ ap (λ (xs : List Made). one d o u ∷ xs)
       (rest (earlier ++ (d ∷ [])) (o .port) (o .memory) (u .port) (u .memory) (next .view) (next .best) (holds-next earlier link p m k v best c h next)
-      (stays-sound lastPlace (shareOf link) (length earlier) v (next .view) (o .reply) _ (actionOf d) (omega arith) (next .effect) sound)
+      (ap (λ (q : ℕ). q - 1) (next .moved .keeps .1 .1) ∙ count)
+      (stays-sound last (shareOf link) (length earlier) v (next .view) (o .reply) _ (actionOf d) (omega (arith, queues-least p)) effect sound)
       (first-later earlier d first) (next .same))
 
   pub quick-plays : (cs : List Call) → QuickOn cs
-  quick-plays [] = λ earlier p m q k v best h sound first same. refl
-  quick-plays (c ∷ cs) = λ earlier p m q k v best h sound first same.
+  quick-plays [] = λ earlier p m q k v best h count sound first same. refl
+  quick-plays (c ∷ cs) = λ earlier p m q k v best h count sound first same.
       subst (λ (q : List ℕ). made quicklyCalled earlier (c ∷ cs) p m q k ≡ made called earlier (c ∷ cs) p m q k) (sym same)
-      (quick-one c cs (quick-plays cs) earlier p m k v best h sound first)
+      (quick-one c cs (quick-plays cs) earlier p m k v best h count sound first)

@@ -1,5 +1,5 @@
 -- Demand 3, the theorem. Assumes nothing.
-use Prim.Native.Nat.{ℕ, _+_, _≤_, _<_}
+use Prim.Native.Nat.{ℕ, _+_, _-_, _≤_, _<_}
 use mathlib.Core.Bool.{true}
 use mathlib.Core.Path.{_≡_, refl, sym, ap, subst, _∙_}
 use mathlib.Core.Logic.{⊎-elim}
@@ -8,13 +8,15 @@ use native.Mathlib.Omega.{arith}
 use Rattle.lists.proofs.TurnLaws.{sumTo-none}
 use Rattle.lists.proofs.EachLaws.{differ}
 use Rattle.lists.proofs.Order.{le-or-lt}
-use Rattle.stream.specs.State.{currentPlace, lastPlace}
+use Rattle.stream.specs.State.{currentPlace}
 use Rattle.stream.specs.Replies.{granted}
 use Rattle.queue.specs.Waiting.{waiting}
 use Rattle.queue.proofs.WaitingLaws.{empty-waits}
-use Rattle.record.specs.Layout.{Whole, queueCount, bestEffort, streamCount}
+use Rattle.record.specs.Layout.{Whole, streamCount}
+use Rattle.record.specs.Queues.{queuesAt, lastPlaceAt, bestEffortAt, HasMemory}
 use Rattle.record.specs.Head.{queueAt}
 use Rattle.record.specs.Entry.{streamAt}
+use Rattle.record.proofs.QueueLaws.{queues-least, queues-same}
 use Rattle.ranges.specs.Ranges.{leastCharge, shareOf}
 use Rattle.fitness.specs.Fit.{recordFits, lentRefusal}
 use Rattle.fitness.proofs.FitLaws.{fit-record, lent-fit}
@@ -29,10 +31,10 @@ use Rattle.port.specs.Calls.{called}
 use Rattle.port.specs.Quick.{quicklyCalled}
 use Rattle.port_laws.proofs.QuickLaws.{quick-call}
 use Rattle.port_laws.proofs.StayLaws.{stays-fit}
-use Rattle.port_laws.proofs.OpenLaws.{opened-open, opened-link, opened-queue, opened-stream}
+use Rattle.port_laws.proofs.OpenLaws.{opened-open, opened-queues, opened-link, opened-queue, opened-stream}
 use Rattle.guarantee.specs.Events.{reservedSent, bestEffortSent, Made, made, Event, eventsAfter, events}
 use Rattle.guarantee.specs.Claims.{LinkCondition}
-use Rattle.guarantee.specs.Demand3.{CallList, eventsIn, LinkHolds, Promised, Demand3}
+use Rattle.guarantee.specs.Demand3.{CallList, queuesIn, eventsIn, LinkHolds, Promised, Demand3}
 use Rattle.guarantee.specs.Beyond.{SentByReply, RepliedAlone}
 use Rattle.guarantee.proofs.Run.{View, free, octets, quiet, Run}
 use Rattle.guarantee.proofs.Room.{Sound}
@@ -82,14 +84,17 @@ module _ (p m : List ℕ) (t : Terms) (is : called (opening t) p m .reply .refus
   abbrev after : List ℕ
   after = openedRecord p t
 
-  no-frames : (number : ℕ) → number ≤ bestEffort → waiting m number (queueAt after number) ≡ []
+  no-frames : (number : ℕ) → number ≤ bestEffortAt p → waiting m number (queueAt after number) ≡ []
   no-frames number b = ap (waiting m number) (opened-queue p t whole number (omega arith)) ∙ empty-waits m number
+
+  as-many : queuesAt after ≡ queuesAt p
+  as-many = opened-queues p t whole
 
   open-holds : (all : List Call) → Holds all (t .link) after m m emptyView []
   open-holds all =
       let fit-after : recordFits after m ≡ true =
       subst (λ (o : Outcome). recordFits (o .port) (o .memory) ≡ true) open-so (stays-fit (opening t) p m fit) in
-      let long = lent-fit p m not-lent .0 in
+      let long : HasMemory after m = omega (arith, as-many, lent-fit p m not-lent .0) in
       record {
         fit = fit-after;
         fit-marked = fit-after;
@@ -98,9 +103,9 @@ module _ (p m : List ℕ) (t : Terms) (is : called (opening t) p m .reply .refus
         opened = opened-open p t whole;
         octets = opened-link p t whole;
         streams = λ s. sym (seen-opened s);
-        queues = λ role b. rw (no-frames (roleAt after role) (omega (arith, role-below after role))) (tied-empty all reservedSent);
+        queues = λ role b. rw (no-frames (roleAt after role) (omega (arith, role-below after role, as-many))) (tied-empty all reservedSent);
         above = λ role b. refl;
-        waits = rw (no-frames bestEffort (omega arith)) (tied-empty all bestEffortSent);
+        waits = rw (no-frames (bestEffortAt after) (omega (arith, as-many))) (tied-empty all bestEffortSent);
       }
     where
       seen-opened : (s : ℕ) → seenAt after s ≡ free
@@ -127,15 +132,24 @@ module _ (l : CallList) where
       subst (λ (o : Outcome). Holds first (l .terms .link) (o .port) (o .memory) (o .memory) emptyView []) (sym opened-so)
       (open-holds (l .port) (l .memory) (l .terms) (l .opened) first)
 
-  opened-sound : Sound lastPlace (shareOf (l .terms .link)) emptyView
-  opened-sound = empty-sound lastPlace (shareOf (l .terms .link)) (omega arith)
+  -- the last place of the list's port, before its Open and after it
+  abbrev last : ℕ
+  last = queuesIn l - 1
 
-  later-plays : Plays (l .terms .link) 1 emptyView first (made called first (l .later) (opened .port) (opened .memory) (opened .port) (opened .memory))
+  opened-last : lastPlaceAt (opened .port) ≡ last
+  opened-last =
+      ap (λ (o : Outcome). lastPlaceAt (o .port)) opened-so
+      ∙ ap (λ (q : ℕ). q - 1) (opened-queues (l .port) (l .terms) (whole (l .port) (l .memory) (l .terms) (l .opened)))
+
+  opened-sound : Sound last (shareOf (l .terms .link)) emptyView
+  opened-sound = empty-sound last (shareOf (l .terms .link)) (omega (arith, queues-least (l .port)))
+
+  later-plays : Plays last (l .terms .link) 1 emptyView first (made called first (l .later) (opened .port) (opened .memory) (opened .port) (opened .memory))
   later-plays =
-      plays (l .terms .link) (l .later) first (opened .port) (opened .memory) (opened .port) (opened .memory) emptyView [] opened-holds opened-sound (omega arith, refl) refl
+      plays last (l .terms .link) (l .later) first (opened .port) (opened .memory) (opened .port) (opened .memory) emptyView [] opened-holds opened-last opened-sound (omega arith, refl) refl
 
   -- the Open touches nothing of an empty view
-  run : Run lastPlace (shareOf (l .terms .link)) 0 emptyView (eventsIn l)
+  run : Run last (shareOf (l .terms .link)) 0 emptyView (eventsIn l)
   run = (emptyView, quiet tt refl (λ role. refl) (λ s. refl), later-plays .run)
 
 -- the Open's reply tells the share
@@ -154,32 +168,35 @@ promises last share asked es more slack run link =
       prompt = prompt last share emptyView es more run sound purges;
     }
 
+-- of every list of calls, and beyond the demand: less than the share would do, by less than the least charge
+pub promised-by-less : (l : CallList) (asked : ℕ) → shareOf (l .terms .link) < asked + leastCharge → LinkCondition asked (eventsIn l) → Promised (queuesIn l) (eventsIn l)
+promised-by-less l asked slack link =
+    subst (λ (queues : ℕ). Promised queues (eventsIn l)) (omega (arith, queues-least (l .port)))
+    (promises (last l) (shareOf (l .terms .link)) asked (eventsIn l) (omega (arith, queues-least (l .port))) slack (run l) link)
+
 -- every list of calls from a granted Open
 pub demand-3 : (l : CallList) → Demand3 l
 demand-3 l =
     record {
-      promised = promises lastPlace (shareOf (l .terms .link)) (shareOf (l .terms .link)) (eventsIn l) (omega arith) (omega arith) (run l);
+      promised = promised-by-less l (shareOf (l .terms .link)) (omega arith);
       alike = λ other s.
-          alike lastPlace (shareOf (l .terms .link)) (shareOf (other .terms .link)) s (eventsIn l) (eventsIn other) emptyView emptyView refl (run l) (run other);
+          alike (last l) (shareOf (l .terms .link)) (shareOf (other .terms .link)) s (eventsIn l) (eventsIn other) emptyView emptyView refl (run l)
+          (subst (λ (place : ℕ). Run place (shareOf (other .terms .link)) 0 emptyView (eventsIn other)) (ap (λ (q : ℕ). q - 1) (queues-same (other .port) (l .port))) (run other));
       records = (refl, later-plays l .records);
       says = (λ e. differ (sym e), later-plays l .says);
       marks = (λ e. refl, later-plays l .marks);
       not-by-host = ((λ e. omega (arith, l .opened), (λ e. omega (arith, l .opened), λ e. omega (arith, l .opened))), later-plays l .not-by-host);
     }
 
--- and beyond the demand: less than the share would do, by less than the least charge
-pub promised-by-less : (l : CallList) (asked : ℕ) → shareOf (l .terms .link) < asked + leastCharge → LinkCondition asked (eventsIn l) → Promised queueCount (eventsIn l)
-promised-by-less l asked slack = promises lastPlace (shareOf (l .terms .link)) asked (eventsIn l) (omega arith) slack (run l)
-
 -- and a frame is sent before the tick that its reply tells
 pub sent-as-replied : (l : CallList) → LinkHolds l → SentByReply (eventsIn l)
 sent-as-replied l link =
-    sent-by-reply lastPlace (shareOf (l .terms .link)) emptyView (eventsIn l) (omega arith) (run l) (empty-sound lastPlace (shareOf (l .terms .link)) (omega arith))
+    sent-by-reply (last l) (shareOf (l .terms .link)) emptyView (eventsIn l) (omega (arith, queues-least (l .port))) (run l) (opened-sound l)
     (demand-3 l .promised link .no-purge)
 
 -- and to a stream's own offers a port replies what the stream replies by itself
-pub replied-as-alone : (l : CallList) → RepliedAlone lastPlace (eventsIn l)
-replied-as-alone l = replied-alone lastPlace (shareOf (l .terms .link)) emptyView (eventsIn l) (omega arith) (run l) (opened-sound l)
+pub replied-as-alone : (l : CallList) → RepliedAlone (queuesIn l - 1) (eventsIn l)
+replied-as-alone l = replied-alone (last l) (shareOf (l .terms .link)) emptyView (eventsIn l) (omega (arith, queues-least (l .port))) (run l) (opened-sound l)
 
 -- the quick calls, which do not scan the record, are these calls in every such list
 pub quick-events : (l : CallList) → events quicklyCalled (opening (l .terms) ∷ l .later) (l .port) (l .memory) ≡ eventsIn l
@@ -189,4 +206,4 @@ quick-events l =
     ap (eventsAfter [])
     (ap (λ (o : Outcome). one c o o ∷ made quicklyCalled (first l) (l .later) (o .port) (o .memory) (o .port) (o .memory)) same
     ∙ ap (λ (xs : List Made). one c (opened l) (opened l) ∷ xs)
-    (quick-plays (l .terms .link) (l .later) (first l) (opened l .port) (opened l .memory) (opened l .port) (opened l .memory) emptyView [] (opened-holds l) (opened-sound l) (omega arith, refl) refl))
+    (quick-plays (last l) (l .terms .link) (l .later) (first l) (opened l .port) (opened l .memory) (opened l .port) (opened l .memory) emptyView [] (opened-holds l) (opened-last l) (opened-sound l) (omega arith, refl) refl))

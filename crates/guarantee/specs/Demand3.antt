@@ -3,7 +3,7 @@ use Prim.Native.Nat.{ℕ}
 use mathlib.Core.Path.{_≡_}
 use mathlib.Core.List.{List, [], _∷_}
 use Rattle.lists.specs.Each.{All}
-use Rattle.record.specs.Layout.{queueCount}
+use Rattle.record.specs.Queues.{queuesAt}
 use Rattle.ranges.specs.Ranges.{shareOf}
 use Rattle.steps.specs.Call.{Terms, Call, opening}
 use Rattle.port.specs.Calls.{called}
@@ -18,6 +18,10 @@ pub record CallList : Type 0 where
   pub terms : Terms
   pub later : List Call
   pub opened : called (opening terms) port memory .reply .refusal ≡ 0
+
+-- the queues for reserved traffic of its port, before the Open and ever after
+abbrev pub queuesIn : CallList → ℕ
+queuesIn l = queuesAt (l .port)
 
 -- both runs of it, and what happened in it, the Open being call number 0
 abbrev pub runsOf : CallList → List Made
@@ -43,7 +47,7 @@ pub record Promised (queues : ℕ) (es : List Event) : Type 0 where
 -- the claim, of one list
 pub record Demand3 (l : CallList) : Type 0 where
   -- under the link condition
-  pub promised : LinkHolds l → Promised queueCount (eventsIn l)
+  pub promised : LinkHolds l → Promised (queuesIn l) (eventsIn l)
   -- "With or without the link condition, two lists alike [..] give its arrivals the same replies", also where they open with other terms
   pub alike : (other : CallList) (s : ℕ) → Alike s (eventsIn l) (eventsIn other)
   -- the run whose frames are marked is a run of this port,
