@@ -6,6 +6,7 @@ use mathlib.Core.List.{[], _∷_, _++_, map}
 use lib.ListN.{length}
 use lib.Dec.{eqb}
 use Rattle.stream.specs.Steps.{attempt, arriveOf}
+use Rattle.record.specs.Queues.{queuesAt}
 use Rattle.record.specs.Head.{priorAt}
 use Rattle.header.specs.Header.{lengthFits}
 use Rattle.fitness.specs.Clauses.{priorFits}
@@ -42,7 +43,7 @@ unfolding lengthFits
 shortest-fits = refl
 
 unfit-prior : priorFits unfitRecord ≡ false
-unfolding priorAt
+unfolding priorAt queuesAt
 unfit-prior = refl
 
 crowded-joins : crowdedPlace ≡ byRule 200 120 .first

@@ -1,5 +1,5 @@
 -- Demand 3 of a list of calls that is known by its events. Assumes nothing.
-use Prim.Native.Nat.{ℕ}
+use Prim.Native.Nat.{ℕ, _-_}
 use mathlib.Core.Bool.{Bool, true, not, _&&_}
 use mathlib.Core.Path.{_≡_, refl, sym, ap, subst, _∙_}
 use mathlib.Core.Logic.{inl, inr}
@@ -10,8 +10,8 @@ use Rattle.lists.specs.Each.{All, Some}
 use Rattle.lists.proofs.EachLaws.{differ}
 use Rattle.lists.proofs.TurnLaws.{both}
 use Rattle.stream.specs.declared.Reply.{Reply}
-use Rattle.stream.specs.State.{lastPlace}
-use Rattle.record.specs.Layout.{queueCount}
+use Rattle.stream.specs.State.{leastQueues}
+use Rattle.record.specs.Queues.{queuesAt}
 use Rattle.ranges.specs.Ranges.{shareOf}
 use Rattle.guarantee.specs.Events.{Marked, Sent, reservedSent, bestEffortSent, none, Event}
 use Rattle.guarantee.specs.Claims.{SameRecord, LinkCondition, SaysWhatItSends, AlikeMarked, Sends, Alike, NotByHost}
@@ -38,9 +38,10 @@ module _ (es : List Event) (happens : Happens es) where
   pub link-of : LinkCondition (firstShare es) es → LinkHolds (happens .list)
   link-of link = subst (LinkCondition (shareOf (happens .list .terms .link))) (sym (happens .so)) (subst (λ (share : ℕ). LinkCondition share es) first-share link)
 
-  -- what the link condition promises
-  pub promised-of : LinkCondition (firstShare es) es → Promised queueCount es
-  promised-of link = subst (Promised queueCount) (happens .so) (demand-3 (happens .list) .promised (link-of link))
+  -- what the link condition promises, on a port with four queues
+  pub promised-of : LinkCondition (firstShare es) es → Promised leastQueues es
+  unfolding queuesAt
+  promised-of link = subst (Promised leastQueues) (happens .so) (demand-3 (happens .list) .promised (link-of link))
 
   -- what is so in every list
   pub alike-of : (fs : List Event) (s : ℕ) → Happens fs → Alike s es fs
@@ -60,8 +61,9 @@ module _ (es : List Event) (happens : Happens es) where
   pub not-by-host-of : All NotByHost es
   not-by-host-of = subst (All NotByHost) (happens .so) (demand-3 (happens .list) .not-by-host)
 
-  pub replied-alone-of : RepliedAlone lastPlace es
-  replied-alone-of = subst (RepliedAlone lastPlace) (happens .so) (replied-as-alone (happens .list))
+  pub replied-alone-of : RepliedAlone (leastQueues - 1) es
+  unfolding queuesAt
+  replied-alone-of = subst (RepliedAlone (leastQueues - 1)) (happens .so) (replied-as-alone (happens .list))
 
 -- whether what is sent is no reserved frame of call number n
 abbrev isOther : ℕ → Sent → Bool

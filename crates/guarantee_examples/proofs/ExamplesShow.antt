@@ -6,7 +6,7 @@ use mathlib.Core.List.{List, [], _∷_, _++_}
 use native.Mathlib.Omega.{arith}
 use Rattle.lists.specs.Each.{All, Some}
 use Rattle.stream.specs.declared.Reply.{Reply}
-use Rattle.stream.specs.State.{lastPlace}
+use Rattle.stream.specs.State.{leastQueues}
 use Rattle.stream.specs.Replies.{granted}
 use Rattle.ranges.specs.Ranges.{leastCharge, shareOf}
 use Rattle.steps.specs.Call.{terms, opening, reserving, arriving, ticking}
@@ -46,7 +46,7 @@ third-unsent (inr (inl s)) = other-frame (markedFrame 5 84 7 2) third (λ e. ome
 third-unsent (inr (inr (inl s))) = none-reserved third (s .0)
 third-unsent (inr (inr (inr (inl s)))) = other-frame (markedFrame 5 84 7 3) third (λ e. omega arith) (s .0)
 
-not-by-third : AllSentBefore lastPlace busy → ⊥
+not-by-third : AllSentBefore (leastQueues - 1) busy → ⊥
 not-by-third all =
     third-unsent
     (all

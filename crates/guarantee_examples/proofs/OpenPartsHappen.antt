@@ -74,7 +74,7 @@ unfolding allTo sumTo listTo twoOf fourOf octetsEqual waiting openAt priorAt del
 unfit-refused = refl
 
 pub unfit-opened : quicklyCalled (opening (terms 2142 1)) unfitRecord freshMemory .reply ≡ granted 600 0
-unfolding openAt openRefusal lengthRefusal
+unfolding openAt queuesAt openRefusal lengthRefusal
 unfit-opened = refl
 
 -- the tag of the one frame that joins, in both runs

@@ -9,7 +9,8 @@ use Rattle.lists.specs.Each.{Some}
 use Rattle.lists.proofs.EachLaws.{all-rest}
 use Rattle.stream.specs.declared.Reply.{Reply}
 use Rattle.stream.specs.Replies.{granted}
-use Rattle.record.specs.Layout.{queueCount}
+use Rattle.stream.specs.State.{leastQueues}
+use Rattle.record.specs.Queues.{queuesAt}
 use Rattle.ranges.specs.Ranges.{shareOf, leastCharge}
 use Rattle.header.specs.Header.{chargeOf, lengthFits, taggedFrame}
 use Rattle.binding.specs.Finding.{frameLookup}
@@ -88,10 +89,11 @@ fails link = epoch-fails (link nearlyBefore nearlyEpoch [] (replied ticking (gra
 abbrev leastAsked : ℕ
 leastAsked = shareOf 2142 + 1 - leastCharge
 
-nearly-promised : (es : List Event) → Happens es → firstShare es ≡ shareOf 2142 → LinkCondition leastAsked es → Promised queueCount es
+nearly-promised : (es : List Event) → Happens es → firstShare es ≡ shareOf 2142 → LinkCondition leastAsked es → Promised leastQueues es
+unfolding queuesAt
 nearly-promised es happens share-so link =
     let same : shareOf (happens .list .terms .link) ≡ shareOf 2142 = sym (first-share es happens) ∙ share-so in
-    subst (Promised queueCount) (happens .so)
+    subst (Promised leastQueues) (happens .so)
     (promised-by-less (happens .list) leastAsked (rw same (omega arith)) (subst (LinkCondition leastAsked) (sym (happens .so)) link))
 
 nearly-links : links leastAsked nearly ≡ true

@@ -1,5 +1,5 @@
 -- What adds up in the events of the examples themselves, whatever the port: the numbers of frames, what was accepted, and the replies to a stream.
-use Prim.Native.Nat.{ℕ, _+_}
+use Prim.Native.Nat.{ℕ, _+_, _-_}
 use mathlib.Core.Bool.{true, false, _&&_, cond}
 use mathlib.Core.Path.{_≡_}
 use mathlib.Core.List.{List, [], _∷_, _++_, map}
@@ -7,7 +7,7 @@ use lib.ListN.{length, getD}
 use lib.Dec.{eqb}
 use Rattle.lists.specs.Turns.{sumOf}
 use Rattle.stream.specs.declared.Reply.{Reply}
-use Rattle.stream.specs.State.{lastPlace, reserveOf}
+use Rattle.stream.specs.State.{leastQueues, reserveOf}
 use Rattle.stream.specs.Replies.{refusedBy}
 use Rattle.stream.specs.Alone.{StreamEvent, arrival, replies}
 use Rattle.header.specs.Header.{lengthFits}
@@ -50,9 +50,9 @@ framesSent = sumOf (λ e. framesOf (e .sent))
 abbrev pub framesPurged : List Event → ℕ
 framesPurged = sumOf (λ e. cond (isTick (action e)) (e .reply .first) 0)
 
--- the replies of a stream by itself, and the reply to its one arrival
+-- the replies of a stream by itself, of a port with four queues, and the reply to its one arrival
 abbrev pub repliesAlone : ℕ → List StreamEvent → List Reply
-repliesAlone permitted es = replies lastPlace (reserveOf permitted) es
+repliesAlone permitted es = replies (leastQueues - 1) (reserveOf permitted) es
 
 abbrev pub byRule : ℕ → ℕ → Reply
 byRule permitted charge = getD (repliesAlone permitted (arrival charge ∷ [])) 0 (refusedBy 0)

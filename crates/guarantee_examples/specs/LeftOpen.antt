@@ -6,7 +6,8 @@ use lib.ListN.{set}
 use Rattle.stream.specs.declared.Reply.{Reply}
 use Rattle.stream.specs.Replies.{granted, refusedBy}
 use Rattle.stream.specs.Alone.{StreamEvent, arrival, tick}
-use Rattle.record.specs.Layout.{priorOffset, queueCount}
+use Rattle.record.specs.Layout.{priorOffset}
+use Rattle.record.specs.Queues.{queuesAt}
 use Rattle.steps.specs.Call.{terms, Call, opening, reserving, arriving, ticking, transmitting, joiningBestEffort, binding, framing}
 use Rattle.port_laws.specs.Lists.{freshRecord}
 use Rattle.guarantee.specs.Events.{Marked, Sent, reservedSent, none, Event}
@@ -221,7 +222,7 @@ shortestFrame = 60
 
 -- a record that is unfit: closed, but its prior queue has a number that no queue for reserved traffic has
 abbrev pub unfitRecord : List ℕ
-unfitRecord = set freshRecord priorOffset queueCount
+unfitRecord = set freshRecord priorOffset (queuesAt freshRecord)
 
 -- the tag of the frame of `permitted200`, as the caller gave it, and where each tag is its call's number
 abbrev pub keptTag : ℕ

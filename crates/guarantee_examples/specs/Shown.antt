@@ -3,7 +3,7 @@ use Prim.Native.Nat.{_-_, _<_}
 use mathlib.Core.Path.{_≡_}
 use mathlib.Core.List.{[], _∷_}
 use Rattle.lists.specs.Each.{All, Some}
-use Rattle.stream.specs.State.{lastPlace}
+use Rattle.stream.specs.State.{leastQueues}
 use Rattle.ranges.specs.Ranges.{leastCharge, shareOf}
 use Rattle.steps.specs.Call.{reserving, arriving, ticking}
 use Rattle.port_laws.specs.Lists.{freshRecord, freshMemory}
@@ -28,7 +28,7 @@ pub record ExamplesShow : Type 0 where
   pub busy-links : LinkCondition (shareOf 1626) busy
   pub busy-never-idle : Some Idle busy → ⊥
   -- the third tick would be too early
-  pub busy-not-by-third : AllSentBefore lastPlace busy → ⊥
+  pub busy-not-by-third : AllSentBefore (leastQueues - 1) busy → ⊥
   -- by a transmit without a reserved frame: the link condition is met, with fewer octets than the share
   pub light-links : LinkCondition (shareOf 2142) light
   pub light-octets : reservedOctets light < shareOf 2142

@@ -9,7 +9,6 @@ use Rattle.lists.specs.Equal.{octetsEqual}
 use Rattle.octets.specs.Numbers.{twoOf}
 use Rattle.stream.specs.declared.Reply.{Reply}
 use Rattle.stream.specs.Replies.{granted}
-use Rattle.record.specs.Queues.{queuesAt}
 use Rattle.record.specs.Head.{openAt}
 use Rattle.record.specs.Entry.{boundAt, vidAt, addressAt, withBinding}
 use Rattle.header.specs.Header.{chargeOf, lengthFits, taggedFrame, vidOf}
@@ -116,5 +115,4 @@ unfolding openAt
 fresh-closed = refl
 
 fresh-memory-length : length freshMemory ≡ 10240
-unfolding queuesAt
 fresh-memory-length = refl

@@ -3,8 +3,8 @@ use Prim.Native.Nat.{ℕ}
 use mathlib.Core.List.{List, [], _∷_}
 use lib.ListN.{replicate}
 use Rattle.stream.specs.declared.Reply.{Reply}
+use Rattle.stream.specs.State.{leastQueues}
 use Rattle.record.specs.Layout.{recordLength, memoryLength}
-use Rattle.record.specs.Queues.{queuesAt}
 use Rattle.steps.specs.Call.{Call}
 use Rattle.steps.specs.Outcome.{Outcome}
 
@@ -17,5 +17,6 @@ replies call (c ∷ cs) p m = let o = call c p m in o .reply ∷ replies call cs
 abbrev pub freshRecord : List ℕ
 freshRecord = replicate recordLength 0
 
+-- the memory that such a port is lent, for the fewest queues
 abbrev pub freshMemory : List ℕ
-freshMemory = replicate (memoryLength (queuesAt freshRecord)) 0
+freshMemory = replicate (memoryLength leastQueues) 0
