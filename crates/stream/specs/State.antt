@@ -7,8 +7,8 @@ use Rattle.stream.specs.declared.Stream.{Stream}
 abbrev pub currentPlace : ℕ
 currentPlace = 1
 
--- the queues for reserved traffic of a port, prior and one for each place, are at least so many and at most so many; the rules of a stream and their
--- laws take the last place as a parameter
+-- a port has at least so many queues for reserved traffic, prior and one for each place, and at most so many; the rules of a stream take the last
+-- place as an argument
 abbrev pub leastQueues : ℕ
 leastQueues = 4
 
