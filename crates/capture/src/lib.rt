@@ -20,9 +20,6 @@ const PORT_TEXT_BOUND: usize = (capture_file::MOST_OCTETS / capture_file::field:
 // The octets that the memory for the text must have.
 pub const TEXT_LENGTH: usize = capture_file::PORTS as usize * PORT_TEXT_BOUND;
 
-// The octets of the memory of a port with the fewest queues.
-const MEMORY_LENGTH: usize = (record::LEAST_QUEUES as usize + 1) * queue::PART_LENGTH;
-
 // A record of a port that was never opened.
 fn fresh_record() -> [u8; record::RECORD_LENGTH]
     ensures { λ r. ⌜ r ≡ freshRecord ⌝ }
@@ -31,10 +28,10 @@ fn fresh_record() -> [u8; record::RECORD_LENGTH]
 }
 
 // The memory that such a port is lent, for the fewest queues.
-fn fresh_memory() -> [u8; MEMORY_LENGTH]
+fn fresh_memory() -> [u8; record::LEAST_MEMORY_LENGTH]
     ensures { λ r. ⌜ r ≡ freshMemory ⌝ }
 {
-    [0; MEMORY_LENGTH]
+    [0; record::LEAST_MEMORY_LENGTH]
 }
 
 // Plays the events of a port on a record and a memory of its own, writes their lines from `at` on, and returns the index after them.

@@ -15,8 +15,10 @@ pub const LEAST_QUEUES: u8 = 4;
 // The streams of a port.
 pub const STREAMS: u8 = 64;
 
-// The octets of a record.
+// The octets of a record, and those of the memory of a port with the fewest queues.
 pub const RECORD_LENGTH: usize = entry::START + STREAMS as usize * entry::LENGTH;
+
+pub const LEAST_MEMORY_LENGTH: usize = (LEAST_QUEUES as usize + 1) * queue::PART_LENGTH;
 
 // The octets of an address.
 pub const ADDRESS_LENGTH: usize = 6;
