@@ -8,3 +8,4 @@ pub mod KeepLaws
 pub mod OpenPairs
 pub mod BindingPairs
 pub mod PairLaws
+pub mod QueueCases
