@@ -1,4 +1,3 @@
 -- The laws of what the steps share, cited by the crates above.
 pub mod OutcomeLaws
 pub mod RoleLaws
-pub mod RoleCases

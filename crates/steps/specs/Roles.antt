@@ -10,9 +10,6 @@ use Rattle.record.specs.Head.{priorAt}
 unfoldable pub roleAt : List ℕ → ℕ → ℕ
 roleAt p role = (priorAt p + role) % queuesAt p
 
--- the two roles that transmits and ticks name: prior,
--- which a transmit sends from first and a tick empties, and current,
--- which a transmit sends from next and a tick makes prior
 abbrev pub priorRole : ℕ
 priorRole = 0
 
