@@ -41,6 +41,7 @@ impl<'a> Tried<'a> {
     /// That each function and law that a wrong program names is refused; or the first that is not.
     pub fn refused(&self, program: &WrongProgram) -> Result<(), String> {
         match program.refused.iter().find(|name| !self.log.refuses(self.of, name)) {
+            Some(name) if self.log.only_misfits(name) => Err(format!("{name} is refused only since its proof no longer fits the code")),
             Some(name) => Err(format!("{name} is not refused on its own account")),
             None => Ok(()),
         }
@@ -182,6 +183,14 @@ mod tests {
         assert_eq!(shown, Err("held is not refused on its own account".into()));
         assert_eq!(copy.judged(&["held"], Evidence::Cases, "new"), Err("held is not refused on its own account".into()));
         assert_eq!(copy.judged(&["number"], Evidence::Cases, "new"), Ok(Shown::ByCases));
+    }
+
+    #[test]
+    fn a_proof_that_no_longer_fits_refuses_nothing() {
+        let log = "a/proofs/send/Proof.antt:31:9: error: `returns`: record `a.Lts.After-put-queue-arg` has no field `sent`\n";
+        let copy = Copy::with("misfit", log, "proofs/ClosedLaws.antt", LAWS);
+        assert_eq!(copy.judged(&["send"], Evidence::Cases, "new"), Err("send is refused only since its proof no longer fits the code".into()));
+        assert_eq!(copy.judged(&["sent"], Evidence::Cases, "new"), Err("sent is not refused on its own account".into()));
     }
 
     #[test]

@@ -3,6 +3,10 @@
 
 /// What an error says that only follows from another.
 const FOLLOWS: &str = "was not admitted";
+/// What an error says where a proof speaks of a step that the code has not: it names a need that there is not, or a field that a step has not.
+const NO_STEP: [&str; 2] = ["that can be named from here", "has no field"];
+/// What an error says where a proof gives one need for another.
+const OTHER_NEED: [&str; 2] = ["expected type `tie.Need-", "but this has type `tie.Need-"];
 /// What stands before the words of an error and of a note.
 const ERROR: &str = ": error: ";
 const NOTE: &str = ": note: ";
@@ -64,14 +68,25 @@ impl Log {
     }
 
     /// Whether a function or law of a crate is refused on its own account: a function by an error in its own proof file, or, where it has none, because
-    /// it is not proved and not for a callee; a law by an error of its own. An error that only follows from another does not count.
+    /// it is not proved and not for a callee; a law by an error of its own. An error that only follows from another does not count, nor does one that only
+    /// says that the proof no longer fits the code.
     pub fn refuses(&self, of: &str, name: &str) -> bool {
         let unproved = format!("fn {of}::{name}: no proof");
         self.own(name).next().is_some() || self.functions.iter().any(|line| line.starts_with(&unproved) && !line.contains("it calls"))
     }
 
-    /// The errors of a function or law that do not follow from another.
+    /// The errors of a function or law by which it is refused: they follow from no other, and a fact fails in each.
     pub fn own<'a>(&'a self, name: &'a str) -> impl Iterator<Item = &'a Error> {
+        self.first(name).filter(|error| !error.is_misfit())
+    }
+
+    /// Whether a function or law has errors that follow from no other, and all of them only say that its proof no longer fits the code.
+    pub fn only_misfits(&self, name: &str) -> bool {
+        self.first(name).next().is_some() && self.own(name).next().is_none()
+    }
+
+    /// The errors of a function or law that do not follow from another.
+    fn first<'a>(&'a self, name: &'a str) -> impl Iterator<Item = &'a Error> {
         let file = format!("proofs/{}/Proof.antt", name.replace("::", "/"));
         self.errors.iter().filter(move |error| (error.file == file || error.name == name) && !error.words.contains(FOLLOWS))
     }
@@ -91,6 +106,13 @@ impl Log {
     pub fn advises_on(&self, name: &str) -> bool {
         let on = format!("(in `{name}`)");
         self.notes.iter().any(|note| note.contains(&on))
+    }
+}
+
+impl Error {
+    /// Whether it only says that the proof no longer fits the code: the proof speaks of a step that is not there, or answers one need with another.
+    fn is_misfit(&self) -> bool {
+        NO_STEP.iter().any(|words| self.words.contains(words)) || OTHER_NEED.iter().all(|words| self.words.contains(words))
     }
 }
 
@@ -129,6 +151,38 @@ logic=not-proved
         assert!(["charge_fits", "within-spec", "within-bounds", "share", "permitted"].iter().all(|name| !log.refuses("ranges", name)));
         assert!(!log.refuses("header", "permitted_fits"));
         assert!(log.has_error_of("within-bounds") && !log.has_error_of("within"));
+    }
+
+    /// Parts of logs of edits that take a step out of a function, or add one, so that its proof no longer fits: of `transmit` the proof names a need that
+    /// there is not, of `tick` a step has not the field that the proof asks, of `send` a need is answered with another; of `join` a fact fails too.
+    const MISFITS: &str = "\
+a/proofs/transmit/Proof.antt:24:17: error: `send-requires-2`: `tie.Need-send-requires-2`: module `a.proofs.transmit.Tie` has no `Need-send-requires-2`
+  that can be named from here
+a/proofs/tick/Proof.antt:31:9: error: `returns`: record `a.proofs.tick.Lts.After-put-queue-arg` has no field `sent`
+a/proofs/send/Proof.antt:45:5: error: `send-spec`: computed as far as they go, the two types first differ where one has `After-move-to-arg` (expected)
+  and the other has `After-queue-at-arg` (found)
+  expected type `tie.Need-cast-granted-2`,
+  but this has type `tie.Need-granted-requires`
+a/proofs/join/Proof.antt:27:9: error: `returns`: record `a.proofs.join.Lts.After-move-to` has no field `args`
+a/proofs/join/Proof.antt:35:9: error: `joined-requires`: `search`: no proof of `a.proofs.joined.Reads.Asked`
+a/proofs/close/Proof.antt:12:9: error: `returns`: computed as far as they go, the two types differ only where one has `20` (expected) and the other has
+  `14` (found)
+  expected type `tie.Need-returns`, but this has type `Path ℕ 14 14`
+fn a::close: not proved
+fn a::bare: no proof: expected `bare-spec` in a file; `search` does not close `returns`
+";
+
+    #[test]
+    fn an_error_that_only_says_that_the_proof_no_longer_fits_is_no_refusal() {
+        let log = Log::read(MISFITS);
+        for name in ["transmit", "tick", "send"] {
+            assert!(!log.refuses("a", name) && log.only_misfits(name), "{name} is taken for refused");
+        }
+        for name in ["join", "close", "bare"] {
+            assert!(log.refuses("a", name) && !log.only_misfits(name), "{name} is not taken for refused");
+        }
+        assert_eq!(log.own("join").map(|error| error.name.as_str()).collect::<Vec<_>>(), ["joined-requires"]);
+        assert!(!log.only_misfits("other"));
     }
 
     #[test]
