@@ -1,7 +1,7 @@
 -- The lookup finds the stream whose address and VID are both those that are looked for, by small examples. Assumes nothing.
 use Prim.Native.Nat.{ℕ}
 use mathlib.Core.Path.{_≡_, refl}
-use mathlib.Core.List.{List, [], _∷_}
+use mathlib.Core.List.{List, [], _∷_, _++_}
 use lib.ListN.{replicate}
 use Rattle.lists.specs.Turns.{allTo}
 use Rattle.lists.specs.Equal.{octetsEqual}
@@ -9,7 +9,8 @@ use Rattle.octets.specs.Numbers.{twoOf}
 use Rattle.record.specs.Layout.{recordLength}
 use Rattle.record.specs.Entry.{boundAt, vidAt, addressAt, withBinding}
 use Rattle.binding.specs.declared.Lookup.the-variants.{Bound, Unbound}
-use Rattle.binding.specs.Finding.{lookupFrom, lookup}
+use Rattle.header.specs.Header.{taggedFrame, vidOf}
+use Rattle.binding.specs.Finding.{lookupFrom, lookup, frameLookup}
 
 -- an address by its first octet
 abbrev from : ℕ → List ℕ
@@ -37,3 +38,8 @@ finds-no-address = refl
 pub finds-no-vid : lookup two (from 3) 101 ≡ Unbound
 unfolding lookup lookupFrom allTo octetsEqual twoOf boundAt vidAt addressAt withBinding
 finds-no-vid = refl
+
+-- the stream of a frame by its destination, which is the first's, and not by its source, which is the other's
+pub finds-frame : frameLookup two (from 1 ++ (from 3 ++ (129 ∷ 0 ∷ 0 ∷ 100 ∷ []))) ≡ Bound 3
+unfolding lookup lookupFrom frameLookup taggedFrame vidOf allTo octetsEqual twoOf boundAt vidAt addressAt withBinding
+finds-frame = refl
