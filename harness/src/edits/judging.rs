@@ -189,7 +189,10 @@ mod tests {
     fn a_proof_that_no_longer_fits_refuses_nothing() {
         let log = "a/proofs/send/Proof.antt:31:9: error: `returns`: record `a.Lts.After-put-queue-arg` has no field `sent`\n";
         let copy = Copy::with("misfit", log, "proofs/ClosedLaws.antt", LAWS);
-        assert_eq!(copy.judged(&["send"], Evidence::Cases, "new"), Err("send is refused only since its proof no longer fits the code".into()));
+        assert_eq!(
+            copy.judged(&["send"], Evidence::Cases, "new"),
+            Err("send is refused only since its proof no longer fits the code".into())
+        );
         assert_eq!(copy.judged(&["sent"], Evidence::Cases, "new"), Err("sent is not refused on its own account".into()));
     }
 
