@@ -30,5 +30,6 @@ bestEffortInto p m number a tag =
     (withWaits (withQueue p number (joinedQueue (queueAt p number))) (waitsAt p + a))
     (joinedMemory m number (queueAt p number) (bestEffortFrame a tag))
 
+-- the queue of best effort is the one after those for reserved traffic
 unfoldable pub bestEffortStep : List ℕ → List ℕ → ℕ → ℕ → Outcome
 bestEffortStep p m a tag = bestEffortInto p m (bestEffortAt p) a tag

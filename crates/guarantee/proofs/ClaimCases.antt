@@ -16,8 +16,8 @@ use Rattle.binding.specs.Finding.{frameLookup}
 use Rattle.steps.specs.Call.{Call, reserving, arriving, ticking, transmitting, joiningBestEffort, framing}
 use Rattle.port_laws.specs.Counting.{Action, toTick, toTransmit, toReserve, toArrive, toBestEffort, toFrame, neither, actionOf}
 use Rattle.guarantee.specs.Events.{Sent, reservedSent, bestEffortSent, none, marked, Made, broughtBy, isTransmit, sentBy, Event, eventsAfter, bothRuns}
-use Rattle.guarantee.specs.Claims.{isTick, tickCount, reservedCharge, reservedOctets, Idle, Linked, PurgesNothing, replyOfSent, SaysWhatItSends, AlikeMarked, SameRecord, Sends, offer, offers, Offered, isReserveOf, isArriveOf, remaining, grants, answers, Alike, NotByHost}
-use Rattle.guarantee.specs.Own.{isOfferOf, own, ownReplies}
+use Rattle.guarantee.specs.Claims.{isTick, tickCount, reservedCharge, reservedOctets, Idle, Linked, PurgesNothing, replyOfSent, SaysWhatItSends, AlikeMarked, SameRecord, Sends, isOfferOf, offer, offers, Offered, isReserveOf, isArriveOf, remaining, grants, answers, Alike, NotByHost}
+use Rattle.guarantee.specs.Own.{own, ownReplies}
 use Rattle.guarantee.specs.Beyond.{RepliedAlone}
 use Rattle.guarantee.specs.Instances.{replied, markedFrame, quietTick, purgingTick, joinsCurrent, currentFrame, sendsReserved, joinsNext, discardedArrival, tooSmall, epoch, offered, joinsTwice, sendsTwice, grantOf5, allowed, denied, refusalOf6, joinsOther, joinsBestEffort, mixed, tagOf, chargeIn, stacking}
 

@@ -19,8 +19,8 @@ use Rattle.record.specs.Layout.{streamCount}
 use Rattle.ranges.specs.Ranges.{chargeFits}
 use Rattle.port_laws.specs.Counting.{Action, actionOf, toArrive, toBestEffort, toFrame, neither}
 use Rattle.guarantee.specs.Events.{Sent, Event, action}
-use Rattle.guarantee.specs.Claims.{isTick, offer}
-use Rattle.guarantee.specs.Own.{isOfferOf, own, ownReplies}
+use Rattle.guarantee.specs.Claims.{isTick, isOfferOf, offer}
+use Rattle.guarantee.specs.Own.{own, ownReplies}
 use Rattle.guarantee.specs.Beyond.{RepliedAlone}
 use Rattle.guarantee.proofs.Run.{View, Quiet, Arrives, RefusesArrival, Effect, quiet, refuses-reservation, reserves, refuses-arrival, arrives, ticks, sends, idles, Run}
 use Rattle.guarantee.proofs.Room.{Sound}

@@ -102,12 +102,22 @@ AllSentBefore number es =
     → e .call ≡ arriving s charge tag → e .reply .refusal ≡ 0
     → SentBefore number (record { stream = s; charge = charge; tag = tag; number = length before }) after
 
--- a stream's offers: its arrivals "of a charge from 84 to 1,542"
+-- whether an action is an offer of the stream: an arrival on it "of a charge from 84 to 1,542"
+abbrev pub isOfferOf : ℕ → Action → Bool
+isOfferOf s toTick = false
+isOfferOf s toTransmit = false
+isOfferOf s (toReserve r permitted) = false
+isOfferOf s (toArrive r charge tag) = eqb r s && chargeFits charge
+isOfferOf s (toBestEffort charge tag) = false
+isOfferOf s (toFrame octets tag) = false
+isOfferOf s neither = false
+
+-- the octets that it offers
 abbrev pub offer : ℕ → Action → ℕ
 offer s toTick = 0
 offer s toTransmit = 0
 offer s (toReserve r permitted) = 0
-offer s (toArrive r charge tag) = cond (eqb r s && chargeFits charge) charge 0
+offer s (toArrive r charge tag) = cond (isOfferOf s (toArrive r charge tag)) charge 0
 offer s (toBestEffort charge tag) = 0
 offer s (toFrame octets tag) = 0
 offer s neither = 0

@@ -36,6 +36,17 @@ module _ (last : ℕ) (s : Stream) (a : ℕ) (some : 1 ≤ a) (within : s .place
   pub discarded-early : arriveOf last s a ≡ Discarded t → s .place < last → s .permitted < a
   discarded-early e before = omega (arith, refuses e .none last (omega arith), room-ahead last s before)
 
+  -- no frame joins after the last place
+  pub joins-up-to-last : (q : ℕ) → arriveOf last s a ≡ Joined q t → q ≤ last
+  joins-up-to-last q e = joins q e .within
+
+  -- and no arrival brings its stream back, whether its frame joins or is discarded
+  pub joined-onward : (q : ℕ) → arriveOf last s a ≡ Joined q t → s .place ≤ t .place
+  joined-onward q e = omega (arith, joins q e .onward, joins q e .stays)
+
+  pub discarded-onward : arriveOf last s a ≡ Discarded t → s .place ≤ t .place
+  discarded-onward e = refuses e .on
+
 -- document 01's C6: of P = 200 there are 80 left at current,
 abbrev after120 : Stream
 after120 = atPlace (reserveOf 200) currentPlace 80

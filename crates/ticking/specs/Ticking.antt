@@ -26,6 +26,7 @@ streamsTicked = iterate tickedAt streamCount
 abbrev pub tickedFrom : List ℕ → ℕ → ℕ → List ℕ
 tickedFrom p prior current = streamsTicked (withPrior (withQueue p prior emptyQueue) current)
 
+-- by the numbers of the queues in these two roles
 unfoldable pub tickedRecord : List ℕ → List ℕ
 tickedRecord p = tickedFrom p (roleAt p priorRole) (roleAt p currentRole)
 
