@@ -31,7 +31,14 @@ pub(crate) fn fit(port: &[u8]) -> bool
     let mut ok = true;
     let mut s: u8 = 0;
     while s < record::STREAMS {
-        ok = crate::both(stream_fits(last, record::entry::stream_at(port, s), record::entry::drain(port, s)), ok);
+        ok = crate::both(
+            stream_fits(
+                last,
+                record::entry::stream_at(port, s),
+                record::entry::drain(port, s),
+            ),
+            ok,
+        );
         s += 1;
     }
     ok

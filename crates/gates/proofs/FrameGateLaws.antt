@@ -9,7 +9,7 @@ use lib.Dec.{leb}
 use borrow.Author.Tests.{leb-false, not-false}
 use Rattle.record.specs.Layout.{streamCount}
 use Rattle.record.specs.Head.{openAt}
-use Rattle.record.specs.Entry.{streamAt, boundAt}
+use Rattle.record.specs.Entry.{streamAt, drainsAt, boundAt}
 use Rattle.ranges.specs.Ranges.{vidFits}
 use Rattle.ranges.proofs.RangeLaws.{within-bounds}
 use Rattle.header.specs.Header.{headerLength, chargeOf, lengthFits}
@@ -40,9 +40,10 @@ bind-allowed p s address vid e =
     let bound : ℕ = cond (boundAt p s) 10 taken in
     let outside : ℕ = cond (not (vidFits vid)) 9 bound in
     let unreserved : ℕ = cond (not (streamAt p s .reserved)) 12 outside in
-    let a = past (not (openAt p)) 1 (cond (leb streamCount s) 5 unreserved) (omega arith) e in
-    let b = past (leb streamCount s) 5 unreserved (omega arith) (a .1) in
-    let c = past (not (streamAt p s .reserved)) 12 outside (omega arith) (b .1) in
+    let draining : ℕ = cond (drainsAt p s) 25 unreserved in
+    let a = past (not (openAt p)) 1 (cond (leb streamCount s) 5 draining) (omega arith) e in
+    let b = past (leb streamCount s) 5 draining (omega arith) (a .1) in
+    let c = past (not (streamAt p s .reserved)) 12 outside (omega arith) (past (drainsAt p s) 25 unreserved (omega arith) (b .1) .1) in
     let d = past (not (vidFits vid)) 9 bound (omega arith) (c .1) in
     let f = past (boundAt p s) 10 taken (omega arith) (d .1) in
     let g = past (isBound (lookup p address vid)) 11 0 (omega arith) (f .1) in
