@@ -2,6 +2,7 @@
 use Prim.Native.Nat.{ℕ, _+_, _≤_, _<_}
 use mathlib.Core.Path.{_≡_, refl, ap₂}
 use mathlib.Core.Bool.{Bool, true, false, _&&_, cond}
+use native.Mathlib.Omega.{arith}
 use lib.Dec.{leb, ltb}
 use borrow.Author.Tests.{leb-true, ltb-true, le-leb, lt-ltb}
 use Rattle.lists.proofs.TurnLaws.{both}
@@ -52,3 +53,11 @@ fit-stream last s drain f d =
 -- nothing is asked of a free one
 pub free-fits : (last : ℕ) (s : Stream) (drain : ℕ) → s .reserved ≡ false → streamFits last s drain ≡ true
 free-fits last s drain e = simp e
+
+-- a count that is no greater is as fit
+pub lower-fits : (last : ℕ) (s : Stream) (drain less : ℕ) → less ≤ drain → streamFits last s drain ≡ true → streamFits last s less ≡ true
+lower-fits last s drain less lower h = told (s .reserved) refl
+  where
+    told : (b : Bool) → s .reserved ≡ b → streamFits last s less ≡ true
+    told true e = fit-stream last s less (stream-fit last s drain e h) (omega (arith, drain-fit last s drain e h))
+    told false e = free-fits last s less e

@@ -3,11 +3,14 @@ pub mod WriteFit
 pub mod OpenLaws
 pub mod OpenFit
 pub mod ReserveFit
+pub mod WithdrawFit
 pub mod ArriveFit
+pub mod BindFit
+pub mod DropFit
+pub mod TurnKeeps
 pub mod TickFit
 pub mod SendFit
 pub mod BestEffortFit
-pub mod BindFit
 pub mod FrameLaws
 pub mod LookupLaws
 pub mod QuickLaws
