@@ -39,6 +39,7 @@ open-allowed p t e =
 pub record ReserveAllowed (p : List ℕ) (s permitted : ℕ) : Type 0 where
   pub opened : openAt p ≡ true
   pub stream : s < streamCount
+  pub keeps : drainsAt p s ≡ false
   pub free : streamAt p s .reserved ≡ false
   pub permitted-fits : permittedFits permitted ≡ true
   pub share : permittedSum p + permitted ≤ shareOf (linkAt p)
@@ -52,15 +53,17 @@ reserve-allowed p s permitted e =
     let draining : ℕ = cond (drainsAt p s) 25 taken in
     let a = past (not (openAt p)) 1 (cond (leb streamCount s) 5 draining) (omega arith) e in
     let b = past (leb streamCount s) 5 draining (omega arith) (a .1) in
-    let c = past (streamAt p s .reserved) 6 below (omega arith) (past (drainsAt p s) 25 taken (omega arith) (b .1) .1) in
-    let d = past (not (permittedFits permitted)) 7 above (omega arith) (c .1) in
-    let f = past (ltb (shareOf (linkAt p)) (permittedSum p + permitted)) 8 0 (omega arith) (d .1) in
+    let c = past (drainsAt p s) 25 taken (omega arith) (b .1) in
+    let d = past (streamAt p s .reserved) 6 below (omega arith) (c .1) in
+    let f = past (not (permittedFits permitted)) 7 above (omega arith) (d .1) in
+    let g = past (ltb (shareOf (linkAt p)) (permittedSum p + permitted)) 8 0 (omega arith) (f .1) in
     record {
       opened = not-false (openAt p) (a .0);
       stream = leb-false streamCount s (b .0);
-      free = c .0;
-      permitted-fits = not-false (permittedFits permitted) (d .0);
-      share = ltb-false (shareOf (linkAt p)) (permittedSum p + permitted) (f .0);
+      keeps = c .0;
+      free = d .0;
+      permitted-fits = not-false (permittedFits permitted) (f .0);
+      share = ltb-false (shareOf (linkAt p)) (permittedSum p + permitted) (g .0);
     }
 
 pub record WithdrawAllowed (p : List ℕ) (s : ℕ) : Type 0 where

@@ -1,7 +1,7 @@
 -- A record stays fit where a stream is dropped, whichever: its binding goes with it, and R falls. Assumes nothing.
 use Prim.Native.Nat.{ℕ, _+_, _≤_, _<_}
 use mathlib.Core.Path.{_≡_, refl, sym, ap, ap₂, _∙_}
-use mathlib.Core.Bool.{Bool, true, false, not, _&&_, cond}
+use mathlib.Core.Bool.{Bool, true, false, not, _&&_, cond, true≢false}
 use mathlib.Core.Logic.{⊎-elim}
 use mathlib.Core.List.{List}
 use native.Mathlib.Omega.{arith}
@@ -44,7 +44,7 @@ module _ (p m : List ℕ) (fit : Fit p m) (s : ℕ) where
   bound-before : (t : ℕ) → t < streamCount → boundAt after t ≡ true → boundAt p t ≡ true
   bound-before =
       each (λ t. boundAt after t ≡ true → boundAt p t ≡ true)
-      (λ b e. let z : _≡_ {A = Bool} false true = sym (bound-dropped p s (fit .long) b) ∙ e in absurd (let n : _≡_ {A = ℕ} 0 1 = ap (λ (x : Bool). cond x 1 0) z in omega arith))
+      (λ b e. absurd (true≢false (sym e ∙ bound-dropped p s (fit .long) b)))
       (λ t b o e. sym (other-bound-dropped p s t o) ∙ e)
 
   unlike-still : (t : ℕ) → t < streamCount → unlikeEarlier p t ≡ true → unlikeEarlier after t ≡ true

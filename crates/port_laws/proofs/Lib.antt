@@ -16,6 +16,7 @@ pub mod LookupLaws
 pub mod QuickLaws
 pub mod SameLength
 pub mod StayLaws
+pub mod BesideCalls
 pub mod CasesHold
 pub mod GateNumbers
 pub mod FreshFit

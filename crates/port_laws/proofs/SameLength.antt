@@ -44,7 +44,7 @@ use Rattle.port_laws.proofs.OpenLaws.{length-opened}
 use Rattle.port_laws.proofs.TurnKeeps.{ticked-keeps}
 
 -- what is true of both is true of whichever a test chooses
-either : (G : Outcome → Type 0) (b : Bool) (x y : Outcome) → G x → G y → G (cond b x y)
+pub either : (G : Outcome → Type 0) (b : Bool) (x y : Outcome) → G x → G y → G (cond b x y)
 either G true x y g h = g
 either G false x y g h = h
 

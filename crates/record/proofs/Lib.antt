@@ -9,5 +9,6 @@ pub mod OpenPairs
 pub mod DropPairs
 pub mod DrainPairs
 pub mod BindingPairs
+pub mod BesideLaws
 pub mod PairLaws
 pub mod QueueCases
