@@ -1,4 +1,5 @@
 -- Demand 3, proved.
+pub mod Reservation
 pub mod Run
 pub mod CallLaws
 pub mod Room
@@ -7,6 +8,7 @@ pub mod Delay
 pub mod Conforming
 pub mod OwnRun
 pub mod Alone
+pub mod Draining
 pub mod Tied
 pub mod Held
 pub mod BestEffortWritten

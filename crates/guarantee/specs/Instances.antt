@@ -8,7 +8,7 @@ use Rattle.stream.specs.Replies.{granted, refusedBy}
 use Rattle.stream.specs.Alone.{StreamEvent, arrival, tick}
 use Rattle.steps.specs.Call.{Call, reserving, arriving, ticking, transmitting, joiningBestEffort}
 use Rattle.steps.specs.Outcome.{Outcome, outcome}
-use Rattle.port_laws.specs.Counting.{Action, toTick, toTransmit, toReserve, toArrive, toBestEffort, toFrame, neither, actionOf}
+use Rattle.port_laws.specs.Counting.{Action, toTick, toTransmit, toReserve, toWithdraw, toArrive, toBestEffort, toFrame, neither, actionOf}
 use Rattle.guarantee.specs.Events.{Marked, Sent, reservedSent, bestEffortSent, none, Made, Event}
 
 -- an event that sends nothing, the frame of a call, and a transmit that sends something, as it is replied, and as it is replied where each tag is its
@@ -122,6 +122,7 @@ abbrev pub tagOf : Action → ℕ
 tagOf toTick = 0
 tagOf toTransmit = 0
 tagOf (toReserve s permitted) = 0
+tagOf (toWithdraw s) = 0
 tagOf (toArrive s charge tag) = tag
 tagOf (toBestEffort charge tag) = tag
 tagOf (toFrame octets tag) = tag
