@@ -23,3 +23,4 @@ pub mod NextTransmit
 pub mod Play
 pub mod Theorem
 pub mod ClaimCases
+pub mod WithdrawalCases
