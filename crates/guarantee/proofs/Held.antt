@@ -5,11 +5,9 @@ use mathlib.Core.Path.{_≡_, refl, sym, ap, ap₂, _∙_}
 use mathlib.Core.Logic.{⊎-elim}
 use mathlib.Core.List.{List, []}
 use borrow.Author.Tests.{lt-ltb, le-ltb, lt-leb, le-leb, eq-eqb, ne-eqb, eqb-true, not-false}
-use lib.ListN.{length}
 use lib.Dec.{ltb, eqb}
 use Rattle.lists.proofs.TurnLaws.{sumTo-same}
 use Rattle.lists.proofs.Order.{le-or-lt, eq-or-not}
-use Rattle.stream.specs.declared.Stream.{Stream}
 use Rattle.queue.specs.declared.Frame.{Frame}
 use Rattle.queue.specs.Waiting.{waiting}
 use Rattle.record.specs.Layout.{streamCount}
@@ -24,17 +22,17 @@ use Rattle.ranges.specs.Ranges.{shareOf}
 use Rattle.gates.specs.Refusals.{reserveRefusal, withdrawRefusal, arriveRefusal}
 use Rattle.steps.specs.Call.{Call}
 use Rattle.guarantee.specs.Events.{Marked, reservedSent, bestEffortSent}
-use Rattle.guarantee.proofs.Reservation.{Reservation, free, draining, arrivalRefusal, withdrawalRefusal, reservationRefusal}
+use Rattle.guarantee.proofs.Reservation.{Reservation, reservation, free, draining, arrivalRefusal, withdrawalRefusal, reservationRefusal}
 use Rattle.guarantee.proofs.Run.{View, permittedOf}
 use Rattle.guarantee.proofs.Tied.{Tied}
 
 -- a stream of the record with its draining count
 abbrev pub reservationAt : List ℕ → ℕ → Reservation
-reservationAt p s = record { stream = streamAt p s; drain = drainAt p s }
+reservationAt p s = reservation (streamAt p s) (drainAt p s)
 
 -- it is as it was where both are
 pub same-reservation : (p q : List ℕ) (s : ℕ) → streamAt q s ≡ streamAt p s → drainAt q s ≡ drainAt p s → reservationAt q s ≡ reservationAt p s
-same-reservation p q s = ap₂ (λ (x : Stream) (ticks : ℕ). record { stream = x; drain = ticks })
+same-reservation p q s = ap₂ reservation
 
 -- as it is seen: free where it is not reserved, or is none of the port's
 abbrev pub seen : Reservation → Reservation

@@ -14,6 +14,7 @@ pub mod Held
 pub mod BestEffortWritten
 pub mod Next
 pub mod NextReserve
+pub mod NextWithdraw
 pub mod NextBestEffort
 pub mod NextBind
 pub mod NextFrame

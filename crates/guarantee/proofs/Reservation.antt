@@ -21,9 +21,12 @@ pub record Reservation : Type 0 where
   pub stream : Stream
   pub drain : ℕ
 
+abbrev pub reservation : Stream → ℕ → Reservation
+reservation x ticks = record { stream = x; drain = ticks }
+
 -- one that does not drain
 abbrev pub keeping : Stream → Reservation
-keeping x = record { stream = x; drain = 0 }
+keeping x = reservation x 0
 
 -- a stream that is not reserved is seen as this one: it has used nothing of any queue, and a tick leaves it as it is
 abbrev pub freeStream : Stream
@@ -34,11 +37,11 @@ free = keeping freeStream
 
 -- "It drains until the fourth tick after the withdrawal": in general, the tick whose number is that of the queues
 abbrev pub withdrawn : ℕ → Reservation → Reservation
-withdrawn queues x = record { stream = x .stream; drain = queues }
+withdrawn queues x = reservation (x .stream) queues
 
 -- a tick moves the stream, and frees one that drains for one more tick
 abbrev pub ticked : Reservation → Reservation
-ticked x = cond (eqb (x .drain) 1) free (record { stream = tickOf (x .stream); drain = x .drain - 1 })
+ticked x = cond (eqb (x .drain) 1) free (reservation (tickOf (x .stream)) (x .drain - 1))
 
 -- whether it drains
 abbrev pub draining : Reservation → Bool
@@ -78,10 +81,10 @@ module _ (x : Reservation) where
   ticked-frees e = rw (eq-eqb (x .drain) 1 e)
 
   -- any other is moved, and drains for one tick less
-  pub ticked-moves : (x .drain ≡ 1 → ⊥) → ticked x ≡ record { stream = tickOf (x .stream); drain = x .drain - 1 }
+  pub ticked-moves : (x .drain ≡ 1 → ⊥) → ticked x ≡ reservation (tickOf (x .stream)) (x .drain - 1)
   ticked-moves o = rw (ne-eqb (x .drain) 1 o)
 
-  pub ticked-cases : (G : Reservation → Type 0) → (x .drain ≡ 1 → G free) → ((x .drain ≡ 1 → ⊥) → G (record { stream = tickOf (x .stream); drain = x .drain - 1 }))
+  pub ticked-cases : (G : Reservation → Type 0) → (x .drain ≡ 1 → G free) → ((x .drain ≡ 1 → ⊥) → G (reservation (tickOf (x .stream)) (x .drain - 1)))
       → G (ticked x)
   ticked-cases G frees moves =
       ⊎-elim
@@ -91,7 +94,7 @@ module _ (x : Reservation) where
 
   -- so one that does not drain is moved and nothing else
   pub ticked-keeping : x .drain ≡ 0 → ticked x ≡ keeping (tickOf (x .stream))
-  ticked-keeping e = ticked-moves (λ f. omega arith) ∙ ap (λ (n : ℕ). record { stream = tickOf (x .stream); drain = n }) (omega (arith, e))
+  ticked-keeping e = ticked-moves (λ f. omega arith) ∙ ap (reservation (tickOf (x .stream))) (omega (arith, e))
 
   -- and the count of one that drains on is one less
   pub ticked-drain : 1 < x .drain → ticked x .drain ≡ x .drain - 1
@@ -159,6 +162,6 @@ used-nearer last k x f =
     let nearer : used (suc k) (x .stream) ≤ used k (tickOf (x .stream)) = rw one-less at (used-tick last (suc k) (x .stream) f) in
     rw (ticked-keeping x e) (omega (arith, used-keeping (suc k) x e, nearer)))
     (λ h.
-    let y : Reservation = record { stream = tickOf (x .stream); drain = x .drain - 1 } in
+    let y : Reservation = reservation (tickOf (x .stream)) (x .drain - 1) in
     rw (ticked-moves x (λ e. omega arith)) (omega (arith, used-near (suc k) x h, used-near k y (omega arith), permitted-tick (x .stream))))
     (λ h a. omega (arith, used-far (suc k) x h a))
