@@ -17,6 +17,7 @@ pub mod QuickLaws
 pub mod SameLength
 pub mod StayLaws
 pub mod BesideCalls
+pub mod DrainTick
 pub mod CasesHold
 pub mod GateNumbers
 pub mod FreshFit
