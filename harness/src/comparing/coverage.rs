@@ -59,6 +59,8 @@ pub enum Seen {
     BestEffortFullAndAbove,
     /// A granted Reserve after which W is above K × (L − R).
     LimitBelowWaits,
+    /// A granted Withdraw.
+    Withdrawn,
     /// A granted Bind.
     Bound,
     /// A granted Bind after which all 64 streams are bound.
@@ -114,6 +116,7 @@ impl fmt::Display for Seen {
             Seen::BestEffortFilled => write!(f, "best effort filled"),
             Seen::BestEffortFullAndAbove => write!(f, "best effort full and above"),
             Seen::LimitBelowWaits => write!(f, "limit fell below W"),
+            Seen::Withdrawn => write!(f, "withdrawn"),
             Seen::Bound => write!(f, "bound"),
             Seen::AllBound => write!(f, "all streams bound"),
             Seen::FrameArrived => write!(f, "frames that arrived"),
@@ -184,6 +187,7 @@ impl Coverage {
                 self.count(Seen::Bound);
                 self.add(Seen::AllBound, u64::from((0..STREAMS).all(|stream| is_bound(record, stream))));
             }
+            Call::Withdraw { .. } => self.count(Seen::Withdrawn),
             Call::Frame { .. } => unreachable!("a Frame is counted as the call that it becomes"),
         }
     }
