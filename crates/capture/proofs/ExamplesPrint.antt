@@ -10,7 +10,7 @@ use Rattle.octets.specs.Numbers.{twoOf, fourOf}
 use Rattle.queue.specs.Waiting.{waiting}
 use Rattle.record.specs.Queues.{queuesAt}
 use Rattle.record.specs.Head.{openAt, withOpen, priorAt, withPrior, delayAt, withDelay, linkAt, withLink, waitsAt, withWaits, queueAt, withQueue}
-use Rattle.record.specs.Entry.{streamAt, withStream, boundAt, vidAt, dropped}
+use Rattle.record.specs.Entry.{streamAt, withStream, drainAt, drainsAt, boundAt, vidAt, dropped}
 use Rattle.fitness.specs.Fit.{recordFits, lentRefusal}
 use Rattle.opening.specs.Opening.{openedRecord}
 use Rattle.gates.specs.Refusals.{openRefusal, reserveRefusal}
@@ -35,7 +35,7 @@ pub two-ports : output (header 1 1 ++ events 0)
     ++ lineOf (0 ∷ 2 ∷ 2 ∷ 0 ∷ 400 ∷ 0 ∷ [])
     ++ lineOf (1 ∷ 1 ∷ 1 ∷ 0 ∷ 600 ∷ 0 ∷ [])
     ++ lineOf (1 ∷ 2 ∷ 2 ∷ 0 ∷ 400 ∷ 0 ∷ [])
-unfolding numberThen digits digitsWithin octetsEqual allTo sumTo listTo iterate twoOf fourOf waiting openAt withOpen priorAt withPrior delayAt withDelay linkAt withLink waitsAt withWaits queueAt queuesAt withQueue streamAt withStream boundAt vidAt dropped recordFits lentRefusal openedRecord openRefusal reserveRefusal lettersOf firstOf kindOf streamOctetOf nextOf numberA numberB endOf chainWithin headerGood firstGood nextGood recordGood recordRefusal chainRefusal portRefusal portsRefusal fileRefusal callAt eventLine linesOf portsText output
+unfolding numberThen digits digitsWithin octetsEqual allTo sumTo listTo iterate twoOf fourOf waiting openAt withOpen priorAt withPrior delayAt withDelay linkAt withLink waitsAt withWaits queueAt queuesAt withQueue streamAt withStream drainAt drainsAt boundAt vidAt dropped recordFits lentRefusal openedRecord openRefusal reserveRefusal lettersOf firstOf kindOf streamOctetOf nextOf numberA numberB endOf chainWithin headerGood firstGood nextGood recordGood recordRefusal chainRefusal portRefusal portsRefusal fileRefusal callAt eventLine linesOf portsText output
 two-ports = refl
 
 -- a next index that is its record's own

@@ -4,20 +4,22 @@ use mathlib.Core.Bool.{cond}
 use mathlib.Core.List.{List, [], _∷_, _++_}
 use lib.Dec.{eqb}
 use Rattle.stream.specs.declared.Reply.{Reply}
-use Rattle.steps.specs.Call.{terms, Call, opening, reserving, arriving, ticking, transmitting, joiningBestEffort}
+use Rattle.steps.specs.Call.{terms, Call, opening, reserving, withdrawing, arriving, ticking, transmitting, joiningBestEffort}
 use Rattle.port.specs.Calls.{called}
 use Rattle.port_laws.specs.Lists.{freshRecord, freshMemory}
 use Rattle.text.specs.Lines.{lineOf}
-use Rattle.capture_file.specs.File.{kindOf, streamOctetOf, numberA, numberB, openKind, reserveKind, arriveKind, bestEffortKind, tickKind, firstOf, chainWithin, mostEvents}
+use Rattle.capture_file.specs.File.{kindOf, streamOctetOf, numberA, numberB, openKind, reserveKind, arriveKind, bestEffortKind, tickKind, withdrawKind, firstOf, chainWithin, mostEvents}
 
--- "open (A = L, B = K); reserve (A = P); arrive (A charge, B tag); best effort (A charge, B tag); tick; transmit", and no other kind passes the checks
+-- "open (A = L, B = K); reserve (A = P); arrive (A charge, B tag); best effort (A charge, B tag); tick; transmit", and a withdrawal; no other kind passes
+-- the checks
 abbrev pub callOf : ℕ → ℕ → ℕ → ℕ → Call
 callOf kind stream a b =
     cond (eqb kind openKind) (opening (terms a b))
     (cond (eqb kind reserveKind) (reserving stream a)
     (cond (eqb kind arriveKind) (arriving stream a b)
     (cond (eqb kind bestEffortKind) (joiningBestEffort a b)
-    (cond (eqb kind tickKind) ticking transmitting))))
+    (cond (eqb kind tickKind) ticking
+    (cond (eqb kind withdrawKind) (withdrawing stream) transmitting)))))
 
 -- the call of record i
 unfoldable pub callAt : List ℕ → ℕ → Call

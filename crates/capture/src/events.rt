@@ -33,6 +33,9 @@ fn call(kind: u8, stream: u8, a: u32, b: u32, port: &mut [u8], memory: &mut [u8]
     if kind == capture_file::TICK {
         return port::quick::tick(port, memory);
     }
+    if kind == capture_file::WITHDRAW {
+        return port::quick::withdraw(port, memory, stream);
+    }
     port::quick::transmit(port, memory)
 }
 

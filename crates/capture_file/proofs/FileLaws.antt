@@ -16,24 +16,24 @@ use Rattle.lists.proofs.Order.{eq-or-not, le-or-lt}
 use Rattle.lists.proofs.TurnLaws.{both}
 
 -- a good record has one of the kinds
-pub kind-known : (f : List ℕ) (i : ℕ) → recordGood f i ≡ true → kindOf f i < 7
+pub kind-known : (f : List ℕ) (i : ℕ) → recordGood f i ≡ true → kindOf f i < 8
 unfolding recordGood
 kind-known f i good = known (kindOf f i) (streamOctetOf f i) (numberA f i) (numberB f i) (both _ _ good .0)
   where
-    apart : (kind n : ℕ) → 7 ≤ kind → n < 7 → eqb kind n ≡ false
+    apart : (kind n : ℕ) → 8 ≤ kind → n < 8 → eqb kind n ≡ false
     apart kind n h k = ne-eqb kind n (λ e. omega (arith, h, k, e))
 
-    known : (kind stream a b : ℕ) → fieldsGood kind stream a b ≡ true → kind < 7
+    known : (kind stream a b : ℕ) → fieldsGood kind stream a b ≡ true → kind < 8
     known kind stream a b e =
         ⊎-elim
-        (λ (other : 7 ≤ kind). (
+        (λ (other : 8 ≤ kind). (
         let none : fieldsGood kind stream a b ≡ false =
         simp
-        (apart kind 1 other (omega arith), apart kind 2 other (omega arith), apart kind 3 other (omega arith), apart kind 4 other (omega arith), apart kind 5 other (omega arith), apart kind 6 other (omega arith)) in
+        (apart kind 1 other (omega arith), apart kind 2 other (omega arith), apart kind 3 other (omega arith), apart kind 4 other (omega arith), apart kind 5 other (omega arith), apart kind 6 other (omega arith), apart kind 7 other (omega arith)) in
         let z : _≡_ {A = ℕ} 0 1 = cc in
         absurd (omega arith)))
-        (λ (one : kind < 7). one)
-        (le-or-lt 7 kind)
+        (λ (one : kind < 8). one)
+        (le-or-lt 8 kind)
 
 -- what is true of a length that will do
 pub length-passed : (f : List ℕ) → lengthGood f ≡ true → (recordOctets ≤ length f) × (length f ≤ mostOctets)

@@ -6,7 +6,7 @@ use lib.ListN.{length}
 use lib.Dec.{leb, ltb, eqb}
 use Rattle.lists.specs.Equal.{octetsEqual}
 use Rattle.capture_file.specs.declared.FileRefusal.{FileRefusal}
-use Rattle.capture_file.specs.File.{recordOctets, recordCount, portCount, letters, lettersOf, firstOf, kindOf, streamOctetOf, nextOf, numberA, numberB, openKind, reserveKind, arriveKind, bestEffortKind, tickKind, transmitKind, bestEffortOctet, endOf, mostEvents}
+use Rattle.capture_file.specs.File.{recordOctets, recordCount, portCount, letters, lettersOf, firstOf, kindOf, streamOctetOf, nextOf, numberA, numberB, openKind, reserveKind, arriveKind, bestEffortKind, tickKind, transmitKind, withdrawKind, bestEffortOctet, endOf, mostEvents}
 
 -- a refusal names "the record index (0 for the whole file or the header)"
 abbrev pub refusedAt : ℕ → ℕ → FileRefusal
@@ -39,11 +39,16 @@ firstGood f q = eqb (firstOf f q) 0 || ltb (firstOf f q) (recordCount f)
 unfoldable pub nextGood : List ℕ → ℕ → Bool
 nextGood f i = eqb (nextOf f i) 0 || (ltb i (nextOf f i) && ltb (nextOf f i) (recordCount f))
 
+-- neither number is used
+abbrev pub bothZero : ℕ → ℕ → Bool
+bothZero a b = eqb a 0 && eqb b 0
+
 -- neither stream octet nor number is used
 abbrev pub allZero : ℕ → ℕ → ℕ → Bool
-allZero stream a b = eqb stream 0 && (eqb a 0 && eqb b 0)
+allZero stream a b = eqb stream 0 && bothZero a b
 
--- "The stream octet is any value in 2 and 3, 255 in 4, else 0. Unused A and B are 0"; there is no other kind
+-- "The stream octet is any value in 2 and 3, 255 in 4, else 0. Unused A and B are 0"; "kind 7, with any stream octet and A and B 0"; there is no other
+-- kind
 abbrev pub fieldsGood : ℕ → ℕ → ℕ → ℕ → Bool
 fieldsGood kind stream a b =
     cond (eqb kind openKind) (eqb stream 0)
@@ -51,7 +56,8 @@ fieldsGood kind stream a b =
     (cond (eqb kind arriveKind) true
     (cond (eqb kind bestEffortKind) (eqb stream bestEffortOctet)
     (cond (eqb kind tickKind) (allZero stream a b)
-    (cond (eqb kind transmitKind) (allZero stream a b) false)))))
+    (cond (eqb kind transmitKind) (allZero stream a b)
+    (cond (eqb kind withdrawKind) (bothZero a b) false))))))
 
 -- 24 "kind, stream octet, unused number or zero octets"
 unfoldable pub recordGood : List ℕ → ℕ → Bool

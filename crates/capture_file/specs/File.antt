@@ -74,6 +74,10 @@ tickKind = 5
 abbrev pub transmitKind : ℕ
 transmitKind = 6
 
+-- a withdrawal: "in captures it is kind 7"
+abbrev pub withdrawKind : ℕ
+withdrawKind = 7
+
 -- the stream octet of best effort
 abbrev pub bestEffortOctet : ℕ
 bestEffortOctet = 255

@@ -26,6 +26,8 @@ pub const TICK: u8 = 5;
 
 pub const TRANSMIT: u8 = 6;
 
+pub const WITHDRAW: u8 = 7;
+
 // The ports of a file.
 pub const PORTS: u8 = 4;
 
@@ -123,6 +125,9 @@ fn fields_good(kind: u8, stream: u8, a: u32, b: u32) -> bool
     }
     if kind == TRANSMIT {
         return all_zero(stream, a, b);
+    }
+    if kind == WITHDRAW {
+        return all_zero(0, a, b);
     }
     false
 }

@@ -7,12 +7,13 @@ ghost use mathlib.Core.Path.{_≡_};
 ghost use Rattle.steps.specs.Call.{terms};
 ghost use Rattle.steps.specs.Outcome.{outcome};
 ghost use Rattle.opening.specs.Opening.{openStep, reserveStep};
+ghost use Rattle.opening.specs.Withdrawing.{withdrawStep};
 ghost use Rattle.arriving.specs.Arriving.{arriveStep};
 ghost use Rattle.ticking.specs.Ticking.{tickStep};
 ghost use Rattle.sending.specs.Sending.{transmitStep};
 ghost use Rattle.best_effort.specs.BestEffort.{bestEffortStep};
 ghost use Rattle.binding.specs.Binding.{bindStep};
-ghost use Rattle.gates.specs.Refusals.{openRefusal, reserveRefusal, arriveRefusal, closedRefusal, bestEffortRefusal};
+ghost use Rattle.gates.specs.Refusals.{openRefusal, reserveRefusal, withdrawRefusal, arriveRefusal, closedRefusal, bestEffortRefusal};
 ghost use Rattle.gates.specs.FrameRefusals.{bindRefusal, frameRefusal};
 ghost use Rattle.gates.specs.Becoming.{frameStep};
 ghost use Rattle.port.specs.Calls.{checked};
@@ -49,6 +50,23 @@ pub extern "C" fn bunnysolder_reserve(
     ensures { λ r. ⌜ outcome (handed r (now (first .exit)) (now (second .exit))) (now (port .exit)) (now (memory .entry)) ≡ checked (λ p. reserveRefusal p stream permitted) (λ p m. reserveStep p m stream permitted) (now (port .entry)) (now (memory .entry)) ⌝ }
 {
     let reply = port::reserve(port, memory, stream, permitted);
+    *first = reply.first;
+    *second = reply.second;
+    reply.refusal
+}
+
+// Withdraw(s).
+#[no_mangle]
+pub extern "C" fn bunnysolder_withdraw(
+    port: &mut [u8],
+    memory: &[u8],
+    stream: u8,
+    first: &mut u32,
+    second: &mut u32,
+) -> u8
+    ensures { λ r. ⌜ outcome (handed r (now (first .exit)) (now (second .exit))) (now (port .exit)) (now (memory .entry)) ≡ checked (λ p. withdrawRefusal p stream) (λ p m. withdrawStep p m stream) (now (port .entry)) (now (memory .entry)) ⌝ }
+{
+    let reply = port::withdraw(port, memory, stream);
     *first = reply.first;
     *second = reply.second;
     reply.refusal

@@ -4,12 +4,13 @@ ghost use mathlib.Core.Path.{_≡_};
 ghost use Rattle.steps.specs.Call.{terms};
 ghost use Rattle.steps.specs.Outcome.{outcome};
 ghost use Rattle.opening.specs.Opening.{openStep, reserveStep};
+ghost use Rattle.opening.specs.Withdrawing.{withdrawStep};
 ghost use Rattle.arriving.specs.Arriving.{arriveStep};
 ghost use Rattle.ticking.specs.Ticking.{tickStep};
 ghost use Rattle.sending.specs.Sending.{transmitStep};
 ghost use Rattle.best_effort.specs.BestEffort.{bestEffortStep};
 ghost use Rattle.binding.specs.Binding.{bindStep};
-ghost use Rattle.gates.specs.Refusals.{openRefusal, reserveRefusal, arriveRefusal, closedRefusal, bestEffortRefusal};
+ghost use Rattle.gates.specs.Refusals.{openRefusal, reserveRefusal, withdrawRefusal, arriveRefusal, closedRefusal, bestEffortRefusal};
 ghost use Rattle.gates.specs.FrameRefusals.{bindRefusal, frameRefusal};
 ghost use Rattle.gates.specs.Becoming.{frameStep};
 ghost use Rattle.port.specs.Quick.{unscanned};
@@ -46,6 +47,23 @@ pub extern "C" fn bunnysolder_reserve_unscanned(
     ensures { λ r. ⌜ outcome (handed r (now (first .exit)) (now (second .exit))) (now (port .exit)) (now (memory .entry)) ≡ unscanned (λ p. reserveRefusal p stream permitted) (λ p m. reserveStep p m stream permitted) (now (port .entry)) (now (memory .entry)) ⌝ }
 {
     let reply = port::quick::reserve(port, memory, stream, permitted);
+    *first = reply.first;
+    *second = reply.second;
+    reply.refusal
+}
+
+// Withdraw(s); nothing is scanned.
+#[no_mangle]
+pub extern "C" fn bunnysolder_withdraw_unscanned(
+    port: &mut [u8],
+    memory: &[u8],
+    stream: u8,
+    first: &mut u32,
+    second: &mut u32,
+) -> u8
+    ensures { λ r. ⌜ outcome (handed r (now (first .exit)) (now (second .exit))) (now (port .exit)) (now (memory .entry)) ≡ unscanned (λ p. withdrawRefusal p stream) (λ p m. withdrawStep p m stream) (now (port .entry)) (now (memory .entry)) ⌝ }
+{
+    let reply = port::quick::withdraw(port, memory, stream);
     *first = reply.first;
     *second = reply.second;
     reply.refusal

@@ -13,7 +13,7 @@ use Rattle.queue.specs.Waiting.{waiting, chargesOf}
 use Rattle.record.specs.Layout.{streamCount, recordLength, memoryLength}
 use Rattle.record.specs.Queues.{queuesAt, lastPlaceAt, bestEffortAt, HasMemory}
 use Rattle.record.specs.Head.{openAt, priorAt, delayAt, linkAt, waitsAt, queueAt}
-use Rattle.record.specs.Entry.{streamAt}
+use Rattle.record.specs.Entry.{streamAt, drainAt}
 use Rattle.ranges.specs.Ranges.{shareOf, linkFits, delayFits}
 use Rattle.record.specs.Reservations.{permittedSum}
 use Rattle.fitness.specs.Clauses.{priorFits, queueFits, queuesFit, streamFits, streamsFit, bindingFits, unlikeEarlier, bindingsFit, frameFits, framesFit, waitsFit, reservationFits, planFits, openFits}
@@ -25,7 +25,7 @@ pub record Fit (p m : List ℕ) : Type 0 where
   pub long : recordLength ≤ length p
   pub prior : priorAt p < queuesAt p
   pub queues : (q : ℕ) → q < queuesAt p + 1 → queueFits (queueAt p q) ≡ true
-  pub streams : (s : ℕ) → s < streamCount → streamFits (lastPlaceAt p) (streamAt p s) ≡ true
+  pub streams : (s : ℕ) → s < streamCount → streamFits (lastPlaceAt p) (streamAt p s) (drainAt p s) ≡ true
   pub bindings : (s : ℕ) → s < streamCount → bindingFits p s (unlikeEarlier p s) ≡ true
   pub frames : (q : ℕ) → q < queuesAt p + 1 → allOf (frameFits (bestEffortAt p) q) (waiting m q (queueAt p q)) ≡ true
   pub waits : waitsAt p ≡ chargesOf (waiting m (bestEffortAt p) (queueAt p (bestEffortAt p)))
@@ -46,7 +46,7 @@ fit-record p m h =
       long = leb-true recordLength (length p) (to-long .0);
       prior = ltb-true (priorAt p) (queuesAt p) (to-long .1);
       queues = λ q b. allTo-at (λ i. queueFits (queueAt p i)) (queuesAt p + 1) q b (to-prior .1);
-      streams = λ s b. allTo-at (λ i. streamFits (lastPlaceAt p) (streamAt p i)) streamCount s b (to-queues .1);
+      streams = λ s b. allTo-at (λ i. streamFits (lastPlaceAt p) (streamAt p i) (drainAt p i)) streamCount s b (to-queues .1);
       bindings = λ s b. allTo-at (λ i. bindingFits p i (unlikeEarlier p i)) streamCount s b (to-streams .1);
       frames = λ q b. allTo-at (λ i. allOf (frameFits (bestEffortAt p) i) (waiting m i (queueAt p i))) (queuesAt p + 1) q b (to-bindings .1);
       waits = eqb-true (waitsAt p) (chargesOf (waiting m (bestEffortAt p) (queueAt p (bestEffortAt p)))) (to-frames .1);

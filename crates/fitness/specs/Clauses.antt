@@ -14,7 +14,7 @@ use Rattle.queue.specs.Waiting.{waiting, chargesOf}
 use Rattle.record.specs.Layout.{streamCount}
 use Rattle.record.specs.Queues.{queuesAt, lastPlaceAt, bestEffortAt}
 use Rattle.record.specs.Head.{openAt, priorAt, delayAt, linkAt, waitsAt, queueAt}
-use Rattle.record.specs.Entry.{streamAt, boundAt, vidAt, addressAt, samePair}
+use Rattle.record.specs.Entry.{streamAt, drainAt, boundAt, vidAt, addressAt, samePair}
 use Rattle.record.specs.Reservations.{permittedSum}
 use Rattle.ranges.specs.Ranges.{within, chargeFits, shareOf, linkFits, delayFits, permittedFits, vidFits}
 
@@ -29,12 +29,13 @@ queueFits q = ltb (q .start) placeCount && leb (q .count) placeCount
 abbrev pub queuesFit : List ℕ → Bool
 queuesFit p = allTo (λ q. queueFits (queueAt p q)) (queuesAt p + 1)
 
--- "a reserved stream with a place that is none of the three or left above P": with any number of queues, none from current to the last
-abbrev pub streamFits : ℕ → Stream → Bool
-streamFits last s = cond (s .reserved) (within currentPlace last (s .place) && leb (s .left) (s .permitted)) true
+-- "a reserved stream with a place that is none of the three or left above P": with any number of queues, none from current to the last; and "a draining
+-- count outside 1 to 4": above the number of queues, one more than the last place (0 is the count of a stream that does not drain)
+abbrev pub streamFits : ℕ → Stream → ℕ → Bool
+streamFits last s drain = cond (s .reserved) (within currentPlace last (s .place) && leb (s .left) (s .permitted) && leb drain (last + 1)) true
 
 abbrev pub streamsFit : List ℕ → Bool
-streamsFit p = allTo (λ s. streamFits (lastPlaceAt p) (streamAt p s)) streamCount
+streamsFit p = allTo (λ s. streamFits (lastPlaceAt p) (streamAt p s) (drainAt p s)) streamCount
 
 -- "a binding that repeats, belongs to an unreserved stream or has a VID outside 1 to 4,094"; `unlike` says that it repeats none before it
 abbrev pub bindingFits : List ℕ → ℕ → Bool → Bool

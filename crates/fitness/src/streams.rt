@@ -10,15 +10,16 @@ ghost use Rattle.fitness.specs.Clauses.{streamFits, streamsFit, reservat
 // The first place, as the ranges take numbers.
 const CURRENT: u32 = stream::CURRENT as u32;
 
-// Whether the stream, if it is reserved, has a place up to the last and at most P left.
-fn stream_fits(last: u8, stream: Stream) -> bool
-    ensures { λ r. ⌜ r ≡ streamFits last stream ⌝ }
+// Whether the stream, if it is reserved, has a place up to the last, at most P left and a draining count of at most the queues.
+fn stream_fits(last: u8, stream: Stream, drain: u8) -> bool
+    ensures { λ r. ⌜ r ≡ streamFits last stream drain ⌝ }
 {
     if !stream.reserved {
         return true;
     }
     let placed = ranges::within(stream.place as u32, CURRENT, last as u32);
-    crate::both(placed, stream.left <= stream.permitted)
+    let fits = crate::both(placed, stream.left <= stream.permitted);
+    crate::both(fits, drain as u16 <= last as u16 + 1)
 }
 
 // Whether every stream has.
@@ -30,7 +31,14 @@ pub(crate) fn fit(port: &[u8]) -> bool
     let mut ok = true;
     let mut s: u8 = 0;
     while s < record::STREAMS {
-        ok = crate::both(stream_fits(last, record::entry::stream_at(port, s)), ok);
+        ok = crate::both(
+            stream_fits(
+                last,
+                record::entry::stream_at(port, s),
+                record::entry::drain(port, s),
+            ),
+            ok,
+        );
         s += 1;
     }
     ok

@@ -9,7 +9,7 @@ use lib.Dec.{leb}
 use borrow.Author.Tests.{leb-false, not-false}
 use Rattle.record.specs.Layout.{streamCount}
 use Rattle.record.specs.Head.{openAt}
-use Rattle.record.specs.Entry.{streamAt, boundAt}
+use Rattle.record.specs.Entry.{streamAt, drainsAt, boundAt}
 use Rattle.ranges.specs.Ranges.{vidFits}
 use Rattle.ranges.proofs.RangeLaws.{within-bounds}
 use Rattle.header.specs.Header.{headerLength, chargeOf, lengthFits}
@@ -28,6 +28,7 @@ use Rattle.gates.proofs.GateLaws.{past}
 pub record BindAllowed (p : List ℕ) (s : ℕ) (address : List ℕ) (vid : ℕ) : Type 0 where
   pub opened : openAt p ≡ true
   pub stream : s < streamCount
+  pub keeps : drainsAt p s ≡ false
   pub reserved : streamAt p s .reserved ≡ true
   pub vid-fits : vidFits vid ≡ true
   pub unbound : boundAt p s ≡ false
@@ -40,19 +41,22 @@ bind-allowed p s address vid e =
     let bound : ℕ = cond (boundAt p s) 10 taken in
     let outside : ℕ = cond (not (vidFits vid)) 9 bound in
     let unreserved : ℕ = cond (not (streamAt p s .reserved)) 12 outside in
-    let a = past (not (openAt p)) 1 (cond (leb streamCount s) 5 unreserved) (omega arith) e in
-    let b = past (leb streamCount s) 5 unreserved (omega arith) (a .1) in
-    let c = past (not (streamAt p s .reserved)) 12 outside (omega arith) (b .1) in
-    let d = past (not (vidFits vid)) 9 bound (omega arith) (c .1) in
-    let f = past (boundAt p s) 10 taken (omega arith) (d .1) in
-    let g = past (isBound (lookup p address vid)) 11 0 (omega arith) (f .1) in
+    let draining : ℕ = cond (drainsAt p s) 25 unreserved in
+    let a = past (not (openAt p)) 1 (cond (leb streamCount s) 5 draining) (omega arith) e in
+    let b = past (leb streamCount s) 5 draining (omega arith) (a .1) in
+    let c = past (drainsAt p s) 25 unreserved (omega arith) (b .1) in
+    let d = past (not (streamAt p s .reserved)) 12 outside (omega arith) (c .1) in
+    let f = past (not (vidFits vid)) 9 bound (omega arith) (d .1) in
+    let g = past (boundAt p s) 10 taken (omega arith) (f .1) in
+    let h = past (isBound (lookup p address vid)) 11 0 (omega arith) (g .1) in
     record {
       opened = not-false (openAt p) (a .0);
       stream = leb-false streamCount s (b .0);
-      reserved = not-false (streamAt p s .reserved) (c .0);
-      vid-fits = not-false (vidFits vid) (d .0);
-      unbound = f .0;
-      free = g .0;
+      keeps = c .0;
+      reserved = not-false (streamAt p s .reserved) (d .0);
+      vid-fits = not-false (vidFits vid) (f .0);
+      unbound = g .0;
+      free = h .0;
     }
 
 pub record FrameAllowed (p f : List ℕ) : Type 0 where

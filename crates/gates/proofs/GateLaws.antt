@@ -10,12 +10,12 @@ use Rattle.queue.specs.Ring.{placeCount}
 use Rattle.record.specs.Layout.{streamCount}
 use Rattle.record.specs.Queues.{bestEffortAt}
 use Rattle.record.specs.Head.{openAt, linkAt, waitsAt, queueAt}
-use Rattle.record.specs.Entry.{streamAt}
+use Rattle.record.specs.Entry.{streamAt, drainsAt}
 use Rattle.ranges.specs.Ranges.{leastCharge, greatestCharge, greatestShare, greatestDelay, chargeFits, shareOf, linkFits, delayFits, permittedFits}
 use Rattle.ranges.proofs.RangeLaws.{within-bounds}
 use Rattle.record.specs.Reservations.{permittedSum}
 use Rattle.steps.specs.Call.{Terms, terms}
-use Rattle.gates.specs.Refusals.{openRefusal, reserveRefusal, arriveRefusal, bestEffortLimit, bestEffortRefusal}
+use Rattle.gates.specs.Refusals.{openRefusal, reserveRefusal, withdrawRefusal, arriveRefusal, bestEffortLimit, bestEffortRefusal}
 
 -- a test that a gate is past does not hold, and the rest refuses nothing either
 pub past : (b : Bool) (n rest : ℕ) → 0 < n → cond b n rest ≡ 0 → (b ≡ false) × (rest ≡ 0)
@@ -39,6 +39,7 @@ open-allowed p t e =
 pub record ReserveAllowed (p : List ℕ) (s permitted : ℕ) : Type 0 where
   pub opened : openAt p ≡ true
   pub stream : s < streamCount
+  pub keeps : drainsAt p s ≡ false
   pub free : streamAt p s .reserved ≡ false
   pub permitted-fits : permittedFits permitted ≡ true
   pub share : permittedSum p + permitted ≤ shareOf (linkAt p)
@@ -49,22 +50,48 @@ reserve-allowed p s permitted e =
     let above : ℕ = cond (ltb (shareOf (linkAt p)) (permittedSum p + permitted)) 8 0 in
     let below : ℕ = cond (not (permittedFits permitted)) 7 above in
     let taken : ℕ = cond (streamAt p s .reserved) 6 below in
-    let a = past (not (openAt p)) 1 (cond (leb streamCount s) 5 taken) (omega arith) e in
-    let b = past (leb streamCount s) 5 taken (omega arith) (a .1) in
-    let c = past (streamAt p s .reserved) 6 below (omega arith) (b .1) in
-    let d = past (not (permittedFits permitted)) 7 above (omega arith) (c .1) in
-    let f = past (ltb (shareOf (linkAt p)) (permittedSum p + permitted)) 8 0 (omega arith) (d .1) in
+    let draining : ℕ = cond (drainsAt p s) 25 taken in
+    let a = past (not (openAt p)) 1 (cond (leb streamCount s) 5 draining) (omega arith) e in
+    let b = past (leb streamCount s) 5 draining (omega arith) (a .1) in
+    let c = past (drainsAt p s) 25 taken (omega arith) (b .1) in
+    let d = past (streamAt p s .reserved) 6 below (omega arith) (c .1) in
+    let f = past (not (permittedFits permitted)) 7 above (omega arith) (d .1) in
+    let g = past (ltb (shareOf (linkAt p)) (permittedSum p + permitted)) 8 0 (omega arith) (f .1) in
     record {
       opened = not-false (openAt p) (a .0);
       stream = leb-false streamCount s (b .0);
-      free = c .0;
-      permitted-fits = not-false (permittedFits permitted) (d .0);
-      share = ltb-false (shareOf (linkAt p)) (permittedSum p + permitted) (f .0);
+      keeps = c .0;
+      free = d .0;
+      permitted-fits = not-false (permittedFits permitted) (f .0);
+      share = ltb-false (shareOf (linkAt p)) (permittedSum p + permitted) (g .0);
+    }
+
+pub record WithdrawAllowed (p : List ℕ) (s : ℕ) : Type 0 where
+  pub opened : openAt p ≡ true
+  pub stream : s < streamCount
+  pub keeps : drainsAt p s ≡ false
+  pub reserved : streamAt p s .reserved ≡ true
+
+pub withdraw-allowed : (p : List ℕ) (s : ℕ) → withdrawRefusal p s ≡ 0 → WithdrawAllowed p s
+unfolding withdrawRefusal
+withdraw-allowed p s e =
+    let unreserved : ℕ = cond (not (streamAt p s .reserved)) 12 0 in
+    let draining : ℕ = cond (drainsAt p s) 25 unreserved in
+    let a = past (not (openAt p)) 1 (cond (leb streamCount s) 5 draining) (omega arith) e in
+    let b = past (leb streamCount s) 5 draining (omega arith) (a .1) in
+    let c = past (drainsAt p s) 25 unreserved (omega arith) (b .1) in
+    let d = past (not (streamAt p s .reserved)) 12 0 (omega arith) (c .1) in
+    record {
+      opened = not-false (openAt p) (a .0);
+      stream = leb-false streamCount s (b .0);
+      keeps = c .0;
+      reserved = not-false (streamAt p s .reserved) (d .0);
     }
 
 pub record ArriveAllowed (p : List ℕ) (s charge : ℕ) : Type 0 where
   pub opened : openAt p ≡ true
   pub stream : s < streamCount
+  pub keeps : drainsAt p s ≡ false
   pub reserved : streamAt p s .reserved ≡ true
   pub charge-fits : chargeFits charge ≡ true
 
@@ -73,15 +100,18 @@ unfolding arriveRefusal
 arrive-allowed p s charge e =
     let outside : ℕ = cond (not (chargeFits charge)) 13 0 in
     let unreserved : ℕ = cond (not (streamAt p s .reserved)) 12 outside in
-    let a = past (not (openAt p)) 1 (cond (leb streamCount s) 5 unreserved) (omega arith) e in
-    let b = past (leb streamCount s) 5 unreserved (omega arith) (a .1) in
-    let c = past (not (streamAt p s .reserved)) 12 outside (omega arith) (b .1) in
-    let d = past (not (chargeFits charge)) 13 0 (omega arith) (c .1) in
+    let draining : ℕ = cond (drainsAt p s) 25 unreserved in
+    let a = past (not (openAt p)) 1 (cond (leb streamCount s) 5 draining) (omega arith) e in
+    let b = past (leb streamCount s) 5 draining (omega arith) (a .1) in
+    let c = past (drainsAt p s) 25 unreserved (omega arith) (b .1) in
+    let d = past (not (streamAt p s .reserved)) 12 outside (omega arith) (c .1) in
+    let f = past (not (chargeFits charge)) 13 0 (omega arith) (d .1) in
     record {
       opened = not-false (openAt p) (a .0);
       stream = leb-false streamCount s (b .0);
-      reserved = not-false (streamAt p s .reserved) (c .0);
-      charge-fits = not-false (chargeFits charge) (d .0);
+      keeps = c .0;
+      reserved = not-false (streamAt p s .reserved) (d .0);
+      charge-fits = not-false (chargeFits charge) (f .0);
     }
 
 pub record BestEffortAllowed (p : List ℕ) (charge : ℕ) : Type 0 where
@@ -118,6 +148,9 @@ module _ (r : ℕ) (p : List ℕ) (zero : r ≡ 0) where
 
   pub reserve-stream : (s permitted : ℕ) → r ≡ reserveRefusal p s permitted → s < streamCount
   reserve-stream s permitted e = reserve-allowed p s permitted (sym e ∙ zero) .stream
+
+  pub withdraw-stream : (s : ℕ) → r ≡ withdrawRefusal p s → s < streamCount
+  withdraw-stream s e = withdraw-allowed p s (sym e ∙ zero) .stream
 
   module _ (s charge : ℕ) (e : r ≡ arriveRefusal p s charge) where
     pub arrive-stream : s < streamCount

@@ -2,15 +2,16 @@
 use Prim.Native.Nat.{ℕ}
 use mathlib.Core.Path.{_≡_, refl}
 use mathlib.Core.List.{List}
-use Rattle.steps.specs.Call.{Terms, Call, opening, reserving, arriving, ticking, transmitting, joiningBestEffort, binding, framing}
+use Rattle.steps.specs.Call.{Terms, Call, opening, reserving, withdrawing, arriving, ticking, transmitting, joiningBestEffort, binding, framing}
 use Rattle.steps.specs.Outcome.{Outcome, performed}
 use Rattle.opening.specs.Opening.{openStep, reserveStep}
+use Rattle.opening.specs.Withdrawing.{withdrawStep}
 use Rattle.arriving.specs.Arriving.{arriveStep}
 use Rattle.ticking.specs.Ticking.{tickStep}
 use Rattle.sending.specs.Sending.{transmitStep}
 use Rattle.best_effort.specs.BestEffort.{bestEffortStep}
 use Rattle.binding.specs.Binding.{bindStep}
-use Rattle.gates.specs.Refusals.{openRefusal, reserveRefusal, arriveRefusal, closedRefusal, bestEffortRefusal}
+use Rattle.gates.specs.Refusals.{openRefusal, reserveRefusal, withdrawRefusal, arriveRefusal, closedRefusal, bestEffortRefusal}
 use Rattle.gates.specs.FrameRefusals.{bindRefusal, frameRefusal}
 use Rattle.gates.specs.Becoming.{frameStep}
 use Rattle.gates.specs.Table.{refusalOf, stepOf}
@@ -25,6 +26,9 @@ module _ (p m : List ℕ) where
 
   pub reserve-row : (s permitted : ℕ) → row (reserving s permitted) ≡ performed (λ p. reserveRefusal p s permitted) (λ p m. reserveStep p m s permitted) p m
   reserve-row s permitted = refl
+
+  pub withdraw-row : (s : ℕ) → row (withdrawing s) ≡ performed (λ p. withdrawRefusal p s) (λ p m. withdrawStep p m s) p m
+  withdraw-row s = refl
 
   pub arrive-row : (s charge tag : ℕ) → row (arriving s charge tag) ≡ performed (λ p. arriveRefusal p s charge) (λ p m. arriveStep p m s charge tag) p m
   arrive-row s charge tag = refl

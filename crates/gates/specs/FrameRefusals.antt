@@ -5,7 +5,7 @@ use mathlib.Core.List.{List}
 use lib.Dec.{leb}
 use Rattle.record.specs.Layout.{streamCount}
 use Rattle.record.specs.Head.{openAt}
-use Rattle.record.specs.Entry.{streamAt, boundAt}
+use Rattle.record.specs.Entry.{streamAt, drainsAt, boundAt}
 use Rattle.ranges.specs.Ranges.{vidFits}
 use Rattle.header.specs.Header.{lengthFits}
 use Rattle.binding.specs.Finding.{lookup, isBound}
@@ -15,10 +15,11 @@ unfoldable pub bindRefusal : List ℕ → ℕ → List ℕ → ℕ → ℕ
 bindRefusal p s address vid =
     cond (not (openAt p)) 1
     (cond (leb streamCount s) 5
+    (cond (drainsAt p s) 25
     (cond (not (streamAt p s .reserved)) 12
     (cond (not (vidFits vid)) 9
     (cond (boundAt p s) 10
-    (cond (isBound (lookup p address vid)) 11 0)))))
+    (cond (isBound (lookup p address vid)) 11 0))))))
 
 -- Frame: "17 frame outside 60 to 1,518 octets"; then the refusals of the call that it becomes
 unfoldable pub frameRefusal : List ℕ → List ℕ → ℕ

@@ -11,12 +11,13 @@ ghost use Rattle.record.specs.Queues.{HasMemory};
 ghost use Rattle.steps.specs.Call.{terms};
 ghost use Rattle.steps.specs.Outcome.{outcome, performed};
 ghost use Rattle.opening.specs.Opening.{openStep, reserveStep};
+ghost use Rattle.opening.specs.Withdrawing.{withdrawStep};
 ghost use Rattle.arriving.specs.Arriving.{arriveStep};
 ghost use Rattle.ticking.specs.Ticking.{tickStep};
 ghost use Rattle.sending.specs.Sending.{transmitStep};
 ghost use Rattle.best_effort.specs.BestEffort.{bestEffortStep};
 ghost use Rattle.binding.specs.Binding.{bindStep};
-ghost use Rattle.gates.specs.Refusals.{openRefusal, reserveRefusal, arriveRefusal, closedRefusal, bestEffortRefusal};
+ghost use Rattle.gates.specs.Refusals.{openRefusal, reserveRefusal, withdrawRefusal, arriveRefusal, closedRefusal, bestEffortRefusal};
 ghost use Rattle.gates.specs.FrameRefusals.{bindRefusal, frameRefusal};
 ghost use Rattle.gates.specs.Becoming.{frameStep};
 
@@ -42,6 +43,18 @@ pub fn reserve(port: &mut [u8], memory: &[u8], stream: u8, permitted: u32) -> Re
         return steps::refused(refusal);
     }
     opening::reserve(port, stream, permitted as u16)
+}
+
+// Withdraw.
+pub fn withdraw(port: &mut [u8], memory: &[u8], stream: u8) -> Reply
+    requires { ⌜ Whole (now port) ⌝ }
+    ensures { λ r. ⌜ outcome r (now (port .exit)) (now (memory .entry)) ≡ performed (λ p. withdrawRefusal p stream) (λ p m. withdrawStep p m stream) (now (port .entry)) (now (memory .entry)) ⌝ }
+{
+    let refusal = refusals::withdraw(port, stream);
+    if refusal != 0 {
+        return steps::refused(refusal);
+    }
+    opening::withdraw(port, stream)
 }
 
 // Arrive.

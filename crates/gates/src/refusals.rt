@@ -12,10 +12,10 @@ ghost use Rattle.ranges.specs.Ranges.{shareOf};
 ghost use Rattle.record.specs.Reservations.{permittedSum};
 ghost use Rattle.steps.specs.Call.{terms};
 ghost use Rattle.best_effort.specs.BestEffort.{WaitsKept};
-ghost use Rattle.gates.specs.Refusals.{openRefusal, reserveRefusal, arriveRefusal, closedRefusal, bestEffortLimit, bestEffortRefusal};
+ghost use Rattle.gates.specs.Refusals.{openRefusal, reserveRefusal, withdrawRefusal, arriveRefusal, closedRefusal, bestEffortLimit, bestEffortRefusal};
 ghost use Rattle.gates.specs.FrameRefusals.{bindRefusal, frameRefusal};
 
-// Document 01's numbers.
+// The numbers of document 01, and 25 of document 02.
 const CLOSED: u8 = 1;
 
 const OPEN_ALREADY: u8 = 2;
@@ -47,6 +47,8 @@ const BEST_EFFORT_FULL: u8 = 15;
 const LIMIT_EXCEEDED: u8 = 16;
 
 const FRAME_LENGTH: u8 = 17;
+
+const DRAINING: u8 = 25;
 
 // The refusal of Open.
 pub(crate) fn open_port(port: &[u8], link: u32, delay: u32) -> u8
@@ -85,6 +87,9 @@ pub(crate) fn reserve(port: &[u8], stream: u8, permitted: u32) -> u8
     if record::STREAMS <= stream {
         return STREAM_RANGE;
     }
+    if record::entry::drains(port, stream) {
+        return DRAINING;
+    }
     if record::entry::stream_at(port, stream).reserved {
         return RESERVED_ALREADY;
     }
@@ -93,6 +98,26 @@ pub(crate) fn reserve(port: &[u8], stream: u8, permitted: u32) -> u8
     }
     if exceeds_share(port, permitted) {
         return SHARE_EXCEEDED;
+    }
+    0
+}
+
+// The refusal of Withdraw.
+pub(crate) fn withdraw(port: &[u8], stream: u8) -> u8
+    requires { ⌜ Whole (now port) ⌝ }
+    ensures { λ r. ⌜ r ≡ withdrawRefusal (now (port .entry)) stream ⌝ }
+{
+    if !record::head::is_open(port) {
+        return CLOSED;
+    }
+    if record::STREAMS <= stream {
+        return STREAM_RANGE;
+    }
+    if record::entry::drains(port, stream) {
+        return DRAINING;
+    }
+    if !record::entry::stream_at(port, stream).reserved {
+        return NOT_RESERVED;
     }
     0
 }
@@ -107,6 +132,9 @@ pub(crate) fn arrive(port: &[u8], stream: u8, charge: u32) -> u8
     }
     if record::STREAMS <= stream {
         return STREAM_RANGE;
+    }
+    if record::entry::drains(port, stream) {
+        return DRAINING;
     }
     if !record::entry::stream_at(port, stream).reserved {
         return NOT_RESERVED;
@@ -188,6 +216,9 @@ pub(crate) fn bind(port: &[u8], stream: u8, address: &[u8], vid: u32) -> u8
     }
     if record::STREAMS <= stream {
         return STREAM_RANGE;
+    }
+    if record::entry::drains(port, stream) {
+        return DRAINING;
     }
     if !record::entry::stream_at(port, stream).reserved {
         return NOT_RESERVED;

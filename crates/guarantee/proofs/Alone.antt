@@ -1,5 +1,5 @@
 -- What a stream's arrivals reply is decided by the ticks, its own calls and which of its reservations are granted. Assumes nothing.
-use Prim.Native.Nat.{ℕ, suc}
+use Prim.Native.Nat.{ℕ, suc, _+_}
 use mathlib.Core.Bool.{Bool, true, false, _||_, cond}
 use mathlib.Core.Path.{_≡_, refl, sym, ap, ap₂, subst, _∙_}
 use mathlib.Core.Logic.{⊎-elim}
@@ -8,29 +8,34 @@ use borrow.Author.Tests.{eq-eqb, ne-eqb}
 use lib.Dec.{eqb}
 use Rattle.lists.proofs.Order.{eq-or-not}
 use Rattle.stream.specs.declared.Reply.{Reply}
-use Rattle.stream.specs.declared.Stream.{Stream}
 use Rattle.stream.specs.State.{reserveOf}
-use Rattle.stream.specs.Steps.{arriveOf, tickOf}
+use Rattle.stream.specs.Steps.{arriveOf}
 use Rattle.stream.specs.Replies.{refusedBy, replyOf, streamOf}
-use Rattle.port_laws.specs.Counting.{Action, actionOf, toArrive, toReserve, toTick, toTransmit, toBestEffort, toFrame, neither}
+use Rattle.port_laws.specs.Counting.{Action, actionOf, toArrive, toReserve, toWithdraw, toTick, toTransmit, toBestEffort, toFrame, neither}
 use Rattle.guarantee.specs.Events.{Sent, Event, action}
-use Rattle.guarantee.specs.Claims.{isTick, isReserveOf, isArriveOf, remaining, grants, answers, Alike}
-use Rattle.guarantee.proofs.Run.{View, ownRefusal, Quiet, Effect, quiet, refuses-reservation, reserves, refuses-arrival, arrives, ticks, sends, idles, Run}
+use Rattle.guarantee.specs.Claims.{isTick, isReserveOf, isWithdrawOf, isArriveOf, isOwnOf, remaining, grants, answers, Alike}
+use Rattle.guarantee.proofs.Reservation.{Reservation, keeping, withdrawn, ticked, arrivalRefusal, withdrawalRefusal}
+use Rattle.guarantee.proofs.Run.{View, Quiet, Effect, quiet, refuses-reservation, reserves, refuses-withdrawal, withdraws, refuses-arrival, arrives, ticks, sends, idles, Run}
 
 -- what an arrival on the stream replies, and the stream after it
-abbrev pub ownReply : ℕ → ℕ → Stream → ℕ → Reply
-ownReply last s x a = cond (eqb (ownRefusal s x a) 0) (replyOf (arriveOf last x a)) (refusedBy (ownRefusal s x a))
+abbrev pub ownReply : ℕ → ℕ → Reservation → ℕ → Reply
+ownReply last s x a = cond (eqb (arrivalRefusal s x a) 0) (replyOf (arriveOf last (x .stream) a)) (refusedBy (arrivalRefusal s x a))
 
-abbrev pub ownNext : ℕ → ℕ → Stream → ℕ → Stream
-ownNext last s x a = cond (eqb (ownRefusal s x a) 0) (streamOf (arriveOf last x a)) x
+abbrev pub ownNext : ℕ → ℕ → Reservation → ℕ → Reservation
+ownNext last s x a = cond (eqb (arrivalRefusal s x a) 0) (keeping (streamOf (arriveOf last (x .stream) a))) x
+
+-- the stream after a withdrawal of it
+abbrev pub ownWithdrawn : ℕ → ℕ → Reservation → Reservation
+ownWithdrawn last s x = cond (eqb (withdrawalRefusal s x) 0) (withdrawn (last + 1) x) x
 
 -- the replies of the stream's arrivals, by itself: from the actions that remain, the ticks and its own calls, and which of its reservations are granted
-unfoldable pub replyAlone : ℕ → ℕ → Stream → List Action → List Bool → List Reply
+unfoldable pub replyAlone : ℕ → ℕ → Reservation → List Action → List Bool → List Reply
 replyAlone last s x [] gs = []
-replyAlone last s x (toTick ∷ cs) gs = replyAlone last s (tickOf x) cs gs
+replyAlone last s x (toTick ∷ cs) gs = replyAlone last s (ticked x) cs gs
 replyAlone last s x (toTransmit ∷ cs) gs = replyAlone last s x cs gs
 replyAlone last s x (toReserve r permitted ∷ cs) [] = []
-replyAlone last s x (toReserve r permitted ∷ cs) (g ∷ gs) = replyAlone last s (cond g (reserveOf permitted) x) cs gs
+replyAlone last s x (toReserve r permitted ∷ cs) (g ∷ gs) = replyAlone last s (cond g (keeping (reserveOf permitted)) x) cs gs
+replyAlone last s x (toWithdraw r ∷ cs) gs = replyAlone last s (ownWithdrawn last s x) cs gs
 replyAlone last s x (toArrive r charge tag ∷ cs) gs = ownReply last s x charge ∷ replyAlone last s (ownNext last s x charge) cs gs
 replyAlone last s x (toBestEffort charge tag ∷ cs) gs = replyAlone last s x cs gs
 replyAlone last s x (toFrame octets tag ∷ cs) gs = replyAlone last s x cs gs
@@ -38,7 +43,7 @@ replyAlone last s x (neither ∷ cs) gs = replyAlone last s x cs gs
 
 -- whether an action remains, and the actions of the calls that do
 abbrev remains : ℕ → Action → Bool
-remains s c = isTick c || (isReserveOf s c || isArriveOf s c)
+remains s c = isTick c || isOwnOf s c
 
 abbrev pub actionsLeft : ℕ → List Event → List Action
 actionsLeft s [] = []
@@ -54,10 +59,10 @@ left-actions s (e ∷ es) = told (remains s (action e)) (left-actions s es)
     told false same = same
 
 -- a quiet action is struck out
-quiet-foreign : (s : ℕ) (c : Action) → Quiet c → (isTick c ≡ false) × ((isReserveOf s c ≡ false) × (isArriveOf s c ≡ false))
-quiet-foreign s (toBestEffort charge tag) q = (refl, (refl, refl))
-quiet-foreign s (toFrame octets tag) q = (refl, (refl, refl))
-quiet-foreign s neither q = (refl, (refl, refl))
+quiet-foreign : (s : ℕ) (c : Action) → Quiet c → (isTick c ≡ false) × ((isReserveOf s c ≡ false) × ((isWithdrawOf s c ≡ false) × (isArriveOf s c ≡ false)))
+quiet-foreign s (toBestEffort charge tag) q = (refl, (refl, (refl, refl)))
+quiet-foreign s (toFrame octets tag) q = (refl, (refl, (refl, refl)))
+quiet-foreign s neither q = (refl, (refl, (refl, refl)))
 
 -- by whether there is a refusal
 allowed-so : {A : Type 0} (g : ℕ) (y z : A) → g ≡ 0 → cond (eqb g 0) y z ≡ y
@@ -68,7 +73,7 @@ refused-so g y z o = ap (λ (b : Bool). cond b y z) (ne-eqb g 0 o)
 
 module _ (last share n s : ℕ) (v w : View) (r : Reply) (t : Sent) (es : List Event) where
   -- the replies from the view after a call on
-  abbrev AloneAfter : Stream → Type 0
+  abbrev AloneAfter : Reservation → Type 0
   AloneAfter x = answers s es ≡ replyAlone last s x (actionsLeft s es) (grants s es)
 
   -- and from the view before it on, with the call in front of the rest
@@ -83,17 +88,30 @@ module _ (last share n s : ℕ) (v w : View) (r : Reply) (t : Sent) (es : List E
   abbrev Own : ℕ → ℕ → Type 0
   Own a i = (r ≡ ownReply last i (v .stream i) a) × (w .stream i ≡ ownNext last i (v .stream i) a)
 
+  -- stream i after a withdrawal of it
+  abbrev OwnDrain : ℕ → Type 0
+  OwnDrain i = w .stream i ≡ ownWithdrawn last i (v .stream i)
+
   module _ (later : AloneAfter (w .stream s)) where
     kept : w .stream s ≡ v .stream s → AloneAfter (v .stream s)
-    kept same = later ∙ ap (λ (x : Stream). replyAlone last s x (actionsLeft s es) (grants s es)) same
+    kept same = later ∙ ap (λ (x : Reservation). replyAlone last s x (actionsLeft s es) (grants s es)) same
 
     -- a Reserve, the stream's own or another's
-    own-reserve : (i p : ℕ) → (i ≡ s → w .stream s ≡ cond (eqb (r .refusal) 0) (reserveOf p) (v .stream s)) → ((i ≡ s → ⊥) → w .stream s ≡ v .stream s)
+    own-reserve : (i p : ℕ) → (i ≡ s → w .stream s ≡ cond (eqb (r .refusal) 0) (keeping (reserveOf p)) (v .stream s)) → ((i ≡ s → ⊥) → w .stream s ≡ v .stream s)
         → AloneWith (toReserve i p)
     unfolding replyAlone
     own-reserve i p own other =
         ⊎-elim
-        (λ (e : i ≡ s). rw (eq-eqb i s e) (later ∙ ap (λ (x : Stream). replyAlone last s x (actionsLeft s es) (grants s es)) (own e)))
+        (λ (e : i ≡ s). rw (eq-eqb i s e) (later ∙ ap (λ (x : Reservation). replyAlone last s x (actionsLeft s es) (grants s es)) (own e)))
+        (λ (o : i ≡ s → ⊥). rw (ne-eqb i s o) (kept (other o)))
+        (eq-or-not i s)
+
+    -- a Withdraw, the stream's own or another's
+    own-withdraw : (i : ℕ) → (i ≡ s → OwnDrain s) → ((i ≡ s → ⊥) → w .stream s ≡ v .stream s) → AloneWith (toWithdraw i)
+    unfolding replyAlone
+    own-withdraw i own other =
+        ⊎-elim
+        (λ (e : i ≡ s). rw (eq-eqb i s e) (later ∙ ap (λ (x : Reservation). replyAlone last s x (actionsLeft s es) (grants s es)) (own e)))
         (λ (o : i ≡ s → ⊥). rw (ne-eqb i s o) (kept (other o)))
         (eq-or-not i s)
 
@@ -106,17 +124,21 @@ module _ (last share n s : ℕ) (v w : View) (r : Reply) (t : Sent) (es : List E
         ⊎-elim
         (λ (e : i ≡ s). rw (eq-eqb i s e)
         (ap₂ (λ (x : Reply) (xs : List Reply). x ∷ xs) (own e .0)
-        (later ∙ ap (λ (x : Stream). replyAlone last s x (actionsLeft s es) (grants s es)) (own e .1))))
+        (later ∙ ap (λ (x : Reservation). replyAlone last s x (actionsLeft s es) (grants s es)) (own e .1))))
         (λ (o : i ≡ s → ⊥). rw (ne-eqb i s o) (kept (other o)))
         (eq-or-not i s)
 
     alone-with : (c : Action) → Effect last share n v w r t c → AloneWith c
     unfolding replyAlone
-    alone-with c (quiet q e queues streams) = let f = quiet-foreign s c q in rw (f .0, f .1 .0, f .1 .1) (kept (streams s))
-    alone-with c (refuses-reservation {s = i} {permitted = p} not-granted e queues streams) =
-        own-reserve i p (λ same. rw (ne-eqb (r .refusal) 0 not-granted) (streams s)) (λ o. streams s)
+    alone-with c (quiet q e queues streams) = let f = quiet-foreign s c q in rw (f .0, f .1 .0, f .1 .1 .0, f .1 .1 .1) (kept (streams s))
+    alone-with c (refuses-reservation {s = i} {permitted = p} e d) =
+        own-reserve i p (λ same. rw (ap (λ (x : Reply). x .refusal) (d .reply), ne-eqb _ 0 (d .refused)) (d .streams s)) (λ o. d .streams s)
     alone-with c (reserves {s = i} {permitted = p} e d) =
         own-reserve i p (λ same. rw (eq-eqb (r .refusal) 0 (d .accepted)) (rw same at (d .streams .0))) (λ o. d .streams .1 s (λ f. o (sym f)))
+    alone-with c (refuses-withdrawal {s = i} e d) =
+        own-withdraw i (λ same. subst OwnDrain same (d .streams i ∙ sym (refused-so _ _ _ (d .refused)))) (λ o. d .streams s)
+    alone-with c (withdraws {s = i} e d) =
+        own-withdraw i (λ same. subst OwnDrain same (d .streams .0 ∙ sym (allowed-so _ _ _ (d .allowed)))) (λ o. d .streams .1 s (λ f. o (sym f)))
     alone-with c (refuses-arrival {s = i} {charge = a} {tag = tag} e d) =
         own-arrive i a tag
         (λ same. subst (Own a) same (d .reply ∙ sym (refused-so _ _ _ (d .refused)), d .streams i ∙ sym (refused-so _ _ _ (d .refused))))
@@ -125,7 +147,7 @@ module _ (last share n s : ℕ) (v w : View) (r : Reply) (t : Sent) (es : List E
         own-arrive i a tag
         (λ same. subst (Own a) same (d .reply ∙ sym (allowed-so _ _ _ (d .allowed)), d .streams .0 ∙ sym (allowed-so _ _ _ (d .allowed))))
         (λ o. d .streams .1 s (λ f. o (sym f)))
-    alone-with c (ticks e d) = later ∙ ap (λ (x : Stream). replyAlone last s x (actionsLeft s es) (grants s es)) (d .streams s)
+    alone-with c (ticks e d) = later ∙ ap (λ (x : Reservation). replyAlone last s x (actionsLeft s es) (grants s es)) (d .streams s)
     alone-with c (sends k f fs d) = kept (d .streams s)
     alone-with c (idles e i queues streams) = kept (streams s)
 
@@ -139,6 +161,6 @@ alone last share s (e ∷ es) n v (w, effect, run) = alone-with last share n s v
 pub alike : (last share share′ s : ℕ) (es fs : List Event) (v v′ : View) → v .stream s ≡ v′ .stream s → Run last share 0 v es → Run last share′ 0 v′ fs → Alike s es fs
 alike last share share′ s es fs v v′ same run run′ calls granted =
     alone last share s es 0 v run
-    ∙ ap (λ (x : Stream). replyAlone last s x (actionsLeft s es) (grants s es)) same
+    ∙ ap (λ (x : Reservation). replyAlone last s x (actionsLeft s es) (grants s es)) same
     ∙ ap₂ (replyAlone last s (v′ .stream s)) (left-actions s es ∙ ap (map actionOf) calls ∙ sym (left-actions s fs)) granted
     ∙ sym (alone last share′ s fs 0 v′ run′)

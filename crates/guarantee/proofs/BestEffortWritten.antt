@@ -7,13 +7,13 @@ use Rattle.queue.specs.declared.Queue.{Queue}
 use Rattle.record.specs.Layout.{Whole}
 use Rattle.record.specs.Queues.{bestEffortAt}
 use Rattle.record.specs.Head.{priorAt, withWaits, queueAt, withQueue}
-use Rattle.record.specs.Entry.{streamAt}
 use Rattle.record.proofs.QueueLaws.{queues-most}
 use Rattle.record.proofs.HeadPairs.{queue-waits, prior-waits, stream-waits, queue-queue, other-queue, prior-queue, stream-queue}
+use Rattle.record.proofs.DrainPairs.{drain-waits, drain-queue}
 use Rattle.record.proofs.KeepLaws.{Keeps, keeps-both, keeps-queue, keeps-waits}
 use Rattle.steps.specs.Roles.{roleAt}
 use Rattle.steps.proofs.RoleLaws.{role-below}
-use Rattle.guarantee.proofs.Held.{inRole, role-kept}
+use Rattle.guarantee.proofs.Held.{reservationAt, same-reservation, inRole, role-kept}
 
 module _ (p : List ℕ) (x : Queue) (octets : ℕ) where
   abbrev pub written : List ℕ
@@ -31,8 +31,11 @@ module _ (p : List ℕ) (x : Queue) (octets : ℕ) where
   written-other : (q : ℕ) → (q ≡ bestEffortAt p → ⊥) → queueAt written q ≡ queueAt p q
   written-other q o = queue-waits (withQueue p (bestEffortAt p) x) octets q ∙ other-queue p (bestEffortAt p) x q o
 
-  pub written-stream : (s : ℕ) → streamAt written s ≡ streamAt p s
-  written-stream s = stream-waits (withQueue p (bestEffortAt p) x) octets s ∙ stream-queue p (bestEffortAt p) x s (omega (arith, queues-most p))
+  pub written-stream : (s : ℕ) → reservationAt written s ≡ reservationAt p s
+  written-stream s =
+      same-reservation p written s
+      (stream-waits (withQueue p (bestEffortAt p) x) octets s ∙ stream-queue p (bestEffortAt p) x s (omega (arith, queues-most p)))
+      (drain-waits (withQueue p (bestEffortAt p) x) s octets ∙ drain-queue p s (bestEffortAt p) x (omega (arith, queues-most p)))
 
   -- best effort is no role's queue
   pub role-not-best-effort : (role : ℕ) → roleAt p role ≡ bestEffortAt p → ⊥

@@ -1,6 +1,6 @@
--- Which actions are no tick, are no transmit and send nothing, and what is no reserved frame. Assumes nothing.
+-- Which actions are no tick, are no transmit, are no stream's own and send nothing, and what is no reserved frame. Assumes nothing.
 use Prim.Native.Nat.{ℕ}
-use mathlib.Core.Bool.{Bool, false, cond}
+use mathlib.Core.Bool.{Bool, false, _||_, cond}
 use mathlib.Core.Path.{_≡_, refl, ap}
 use mathlib.Core.List.{List}
 use native.Mathlib.Omega.{arith}
@@ -9,10 +9,10 @@ use Rattle.stream.specs.declared.Reply.{Reply}
 use Rattle.steps.specs.Call.{Call, ticking}
 use Rattle.port_laws.specs.Counting.{Action, actionOf, toBestEffort, toFrame, neither}
 use Rattle.guarantee.specs.Events.{Marked, reservedSent, bestEffortSent, none, broughtBy, isTransmit, sentBy}
-use Rattle.guarantee.specs.Claims.{isTick}
+use Rattle.guarantee.specs.Claims.{isTick, isReserveOf, isWithdrawOf, isArriveOf}
 use Rattle.guarantee.proofs.Run.{Quiet}
 
--- a quiet action is no tick and no transmit
+-- a quiet action is no tick, no transmit and no stream's own
 pub quiet-no-tick : (c : Action) → Quiet c → isTick c ≡ false
 quiet-no-tick (toBestEffort charge tag) q = refl
 quiet-no-tick (toFrame octets tag) q = refl
@@ -22,6 +22,16 @@ pub quiet-no-transmit : (c : Action) → Quiet c → isTransmit c ≡ false
 quiet-no-transmit (toBestEffort charge tag) q = refl
 quiet-no-transmit (toFrame octets tag) q = refl
 quiet-no-transmit neither q = refl
+
+pub quiet-no-reserve : (s : ℕ) (c : Action) → Quiet c → isReserveOf s c ≡ false
+quiet-no-reserve s (toBestEffort charge tag) q = refl
+quiet-no-reserve s (toFrame octets tag) q = refl
+quiet-no-reserve s neither q = refl
+
+pub quiet-neither : (s : ℕ) (c : Action) → Quiet c → (isWithdrawOf s c || isArriveOf s c) ≡ false
+quiet-neither s (toBestEffort charge tag) q = refl
+quiet-neither s (toFrame octets tag) q = refl
+quiet-neither s neither q = refl
 
 -- a call that is no transmit sends nothing
 pub sends-none : (earlier : List Call) (c : Call) (shown : Reply) → isTransmit (actionOf c) ≡ false → sentBy earlier c shown ≡ none

@@ -3,7 +3,7 @@ use Prim.Native.Nat.{ℕ}
 use mathlib.Core.Bool.{Bool, true, false}
 use mathlib.Core.Path.{_≡_, refl, sym, ap}
 use mathlib.Core.Logic.{inl, inr}
-use mathlib.Core.List.{List, [], _∷_, map}
+use mathlib.Core.List.{List, [], _∷_, _++_, map}
 use native.Mathlib.Omega.{arith}
 use lib.ListN.{length, getD, replicate, length-append}
 use Rattle.lists.specs.Turns.{allTo}
@@ -13,13 +13,13 @@ use Rattle.stream.specs.declared.Reply.{Reply}
 use Rattle.stream.specs.Replies.{refusedBy}
 use Rattle.header.specs.Header.{chargeOf, lengthFits, taggedFrame}
 use Rattle.binding.specs.Finding.{frameLookup}
-use Rattle.steps.specs.Call.{Call, reserving, arriving, ticking, transmitting, joiningBestEffort, framing}
-use Rattle.port_laws.specs.Counting.{Action, toTick, toTransmit, toReserve, toArrive, toBestEffort, toFrame, neither, actionOf}
+use Rattle.steps.specs.Call.{Call, reserving, withdrawing, arriving, ticking, transmitting, joiningBestEffort, framing}
+use Rattle.port_laws.specs.Counting.{Action, toTick, toTransmit, toReserve, toWithdraw, toArrive, toBestEffort, toFrame, neither, actionOf}
 use Rattle.guarantee.specs.Events.{Sent, reservedSent, bestEffortSent, none, marked, Made, broughtBy, isTransmit, sentBy, Event, eventsAfter, bothRuns}
-use Rattle.guarantee.specs.Claims.{isTick, tickCount, reservedCharge, reservedOctets, Idle, Linked, PurgesNothing, replyOfSent, SaysWhatItSends, AlikeMarked, SameRecord, Sends, isOfferOf, offer, offers, Offered, isReserveOf, isArriveOf, remaining, grants, answers, Alike, NotByHost}
+use Rattle.guarantee.specs.Claims.{isTick, tickCount, reservedCharge, reservedOctets, Idle, Linked, PurgesNothing, replyOfSent, SaysWhatItSends, AlikeMarked, SameRecord, Sends, isOfferOf, offer, offers, Offered, isWithdrawOf, isReserveOf, isArriveOf, remaining, grants, answers, Alike, NotByHost}
 use Rattle.guarantee.specs.Own.{own, ownReplies}
 use Rattle.guarantee.specs.Beyond.{RepliedAlone}
-use Rattle.guarantee.specs.Instances.{replied, markedFrame, quietTick, purgingTick, joinsCurrent, currentFrame, sendsReserved, joinsNext, discardedArrival, tooSmall, epoch, offered, joinsTwice, sendsTwice, grantOf5, allowed, denied, refusalOf6, joinsOther, joinsBestEffort, mixed, tagOf, chargeIn, stacking}
+use Rattle.guarantee.specs.Instances.{replied, markedFrame, quietTick, purgingTick, joinsCurrent, currentFrame, sendsReserved, joinsNext, discardedArrival, tooSmall, epoch, offered, joinsTwice, sendsTwice, grantOf5, allowed, denied, withdrawalOf5, withdrawalRefused, withdrawalOf6, refusalOf6, joinsOther, joinsBestEffort, mixed, tagOf, chargeIn, stacking}
 
 -- the charge and the number of a sent frame
 abbrev chargeSent : Sent → ℕ
@@ -42,12 +42,13 @@ abbrev secondOf : Action → ℕ
 secondOf toTick = 0
 secondOf toTransmit = 0
 secondOf (toReserve s permitted) = permitted
+secondOf (toWithdraw s) = 0
 secondOf (toArrive s charge tag) = charge
 secondOf (toBestEffort charge tag) = charge
 secondOf (toFrame octets tag) = 0
 secondOf neither = 0
 
--- `marked`: a frame's call has the call's number for a tag, and a reservation keeps its P
+-- `marked`: a frame's call has the call's number for a tag, a reservation keeps its P, and a withdrawal its stream
 marked-arrive : tagOf (actionOf (marked 3 (arriving 5 120 7))) ≡ 3
 marked-arrive = refl
 
@@ -62,6 +63,9 @@ marked-charge = refl
 
 marked-reserve : secondOf (actionOf (marked 3 (reserving 5 200))) ≡ 200
 marked-reserve = refl
+
+marked-withdraw : isWithdrawOf 5 (actionOf (marked 3 (withdrawing 5))) ≡ true
+marked-withdraw = refl
 
 -- `made`: of three calls, what the last replies in each run, on the record and on the memory that the calls before it left in that run
 abbrev three : List Call
@@ -120,6 +124,9 @@ brought-unreserved = refl
 brought-frame : numberSent (broughtBy 3 (toFrame [] 7)) ≡ 0
 brought-frame = refl
 
+brought-withdraw : numberSent (broughtBy 3 (toWithdraw 5)) ≡ 0
+brought-withdraw = refl
+
 -- `isTransmit`, of each sort of call that could be taken for one
 tick-no-transmit : isTransmit toTick ≡ false
 tick-no-transmit = refl
@@ -129,6 +136,9 @@ transmit-is = refl
 
 arrive-no-transmit : isTransmit (toArrive 5 120 7) ≡ false
 arrive-no-transmit = refl
+
+withdraw-no-transmit : isTransmit (toWithdraw 5) ≡ false
+withdraw-no-transmit = refl
 
 -- `sentBy`: a Transmit sends the frame of the call whose number it shows, and no other call sends one
 transmit-sends : chargeSent (sentBy three transmitting (record { refusal = 0; first = 5; second = 0 })) ≡ 120
@@ -162,6 +172,9 @@ transmit-no-tick = refl
 
 other-no-tick : isTick neither ≡ false
 other-no-tick = refl
+
+withdraw-no-tick : isTick (toWithdraw 5) ≡ false
+withdraw-no-tick = refl
 
 ticks-counted : tickCount (quietTick ∷ joinsCurrent ∷ joinsNext ∷ quietTick ∷ joinsCurrent ∷ []) ≡ 2
 ticks-counted = refl
@@ -202,6 +215,9 @@ offer-best-effort = refl
 offer-reserve : offer 5 (toReserve 5 200) ≡ 0
 offer-reserve = refl
 
+offer-withdraw : offer 5 (toWithdraw 5) ≡ 0
+offer-withdraw = refl
+
 offers-counted : offers 5 (joinsCurrent ∷ joinsNext ∷ joinsOther ∷ []) ≡ 220
 offers-counted = refl
 
@@ -218,17 +234,39 @@ arrive-of-another = refl
 reserve-no-arrive : isArriveOf 5 (toReserve 5 200) ≡ false
 reserve-no-arrive = refl
 
--- `remaining`: the ticks, the stream's reservations and its arrivals, and no other calls
+-- `isWithdrawOf`, and a withdrawal is neither of the two
+withdraw-is : isWithdrawOf 5 (toWithdraw 5) ≡ true
+withdraw-is = refl
+
+withdraw-of-another : isWithdrawOf 5 (toWithdraw 6) ≡ false
+withdraw-of-another = refl
+
+reserve-no-withdraw : isWithdrawOf 5 (toReserve 5 200) ≡ false
+reserve-no-withdraw = refl
+
+arrive-no-withdraw : isWithdrawOf 5 (toArrive 5 120 7) ≡ false
+arrive-no-withdraw = refl
+
+withdraw-no-reserve : isReserveOf 5 (toWithdraw 5) ≡ false
+withdraw-no-reserve = refl
+
+withdraw-no-arrive : isArriveOf 5 (toWithdraw 5) ≡ false
+withdraw-no-arrive = refl
+
+-- `remaining`: the ticks, the stream's reservations, its withdrawals and its arrivals, and no other calls
 ticks-remain : length (remaining 5 (quietTick ∷ quietTick ∷ [])) ≡ 2
 ticks-remain = refl
 
 reservations-remain : length (remaining 5 (grantOf5 ∷ [])) ≡ 1
 reservations-remain = refl
 
+withdrawals-remain : length (remaining 5 (withdrawalOf5 ∷ withdrawalRefused ∷ [])) ≡ 2
+withdrawals-remain = refl
+
 arrivals-remain : length (remaining 5 (joinsCurrent ∷ joinsNext ∷ discardedArrival ∷ [])) ≡ 3
 arrivals-remain = refl
 
-others-struck-out : length (remaining 5 (refusalOf6 ∷ joinsOther ∷ joinsBestEffort ∷ sendsReserved ∷ [])) ≡ 0
+others-struck-out : length (remaining 5 (refusalOf6 ∷ withdrawalOf6 ∷ joinsOther ∷ joinsBestEffort ∷ sendsReserved ∷ [])) ≡ 0
 others-struck-out = refl
 
 -- `grants`, `answers`
@@ -251,13 +289,16 @@ too-small-no-offer = refl
 reserve-no-offer : isOfferOf 5 (toReserve 5 200) ≡ false
 reserve-no-offer = refl
 
+withdraw-no-offer : isOfferOf 5 (toWithdraw 5) ≡ false
+withdraw-no-offer = refl
+
 own-ticks : length (own 5 (quietTick ∷ quietTick ∷ [])) ≡ 2
 own-ticks = refl
 
 own-charges : map chargeIn (own 5 (joinsCurrent ∷ joinsOther ∷ joinsNext ∷ [])) ≡ 120 ∷ 100 ∷ []
 own-charges = refl
 
-others-left-out : length (own 5 (refusalOf6 ∷ joinsOther ∷ joinsBestEffort ∷ sendsReserved ∷ [])) ≡ 0
+others-left-out : length (own 5 (refusalOf6 ∷ withdrawalOf5 ∷ joinsOther ∷ joinsBestEffort ∷ sendsReserved ∷ [])) ≡ 0
 others-left-out = refl
 
 own-answers : map (λ (r : Reply). r .refusal) (ownReplies 5 (grantOf5 ∷ joinsCurrent ∷ tooSmall ∷ joinsOther ∷ discardedArrival ∷ [])) ≡ 0 ∷ 14 ∷ []
@@ -267,7 +308,7 @@ mixed-own : map chargeIn (own 5 mixed) ≡ 120 ∷ 100 ∷ 0 ∷ 200 ∷ []
 mixed-own = refl
 
 -- all of it in one list
-mixed-counted : (tickCount mixed ≡ 1) × ((reservedOctets mixed ≡ 120) × ((offers 5 mixed ≡ 420) × (length (remaining 5 mixed) ≡ 5)))
+mixed-counted : (tickCount mixed ≡ 1) × ((reservedOctets mixed ≡ 120) × ((offers 5 mixed ≡ 420) × (length (remaining 5 mixed) ≡ 6)))
 mixed-counted = (refl, (refl, (refl, refl)))
 
 -- and what the claims say of one event or one epoch: 516 octets are less than a share of 600, and a transmit of a reserved frame is not idle
@@ -314,11 +355,11 @@ calls-differ calls grant = absurd (omega (arith, ap (λ (cs : List Call). tagOf 
 
 -- where no reservation is granted nothing is said of the stream by itself
 none-granted : (last : ℕ) → RepliedAlone last denied
-none-granted last s permitted [] after g split call is = absurd (omega (arith, ap (λ (es : List Event). getD es 0 quietTick .reply .refusal) split))
-none-granted last s permitted (b ∷ []) after g split call is =
+none-granted last s permitted [] while rest g split call is stays = absurd (omega (arith, ap (λ (es : List Event). getD es 0 quietTick .reply .refusal) split))
+none-granted last s permitted (b ∷ []) while rest g split call is stays =
     absurd (omega (arith, ap (λ (es : List Event). tagOf (actionOf (getD es 1 quietTick .call))) split, ap (λ (c : Call). tagOf (actionOf c)) call))
-none-granted last s permitted (b ∷ c ∷ before) after g split call is =
-    absurd (omega (arith, ap (λ (es : List Event). length es) split, length-append before (g ∷ after)))
+none-granted last s permitted (b ∷ c ∷ before) while rest g split call is stays =
+    absurd (omega (arith, ap (λ (es : List Event). length es) split, length-append before (g ∷ (while ++ rest))))
 
 -- a discard is not the host's fault, nor is a Frame that is too short
 discard-allowed : NotByHost discardedArrival

@@ -21,7 +21,7 @@ use Rattle.guarantee.specs.Events.{Marked, Sent, reservedSent, Event, ac
 use Rattle.guarantee.specs.Claims.{isTick, Tick, PurgesNothing, tickCount, Sends, SentBefore, AllSentBefore}
 use Rattle.lists.proofs.EachLaws.{differ, all-rest, some-before, some-last}
 use Rattle.guarantee.specs.Beyond.{SentByReply}
-use Rattle.guarantee.proofs.Run.{View, queueAfter, Ticks, Effect, quiet, refuses-reservation, reserves, refuses-arrival, arrives, ticks, sends, idles, Run}
+use Rattle.guarantee.proofs.Run.{View, queueAfter, Ticks, Effect, quiet, refuses-reservation, reserves, refuses-withdrawal, withdraws, refuses-arrival, arrives, ticks, sends, idles, Run}
 use Rattle.guarantee.proofs.Room.{Sound, stays-sound}
 use Rattle.guarantee.proofs.Purge.{tick-effect}
 
@@ -51,11 +51,13 @@ sent-first k f g fs w r t sent reply queue (inr h) = inr (rw queue h)
 still-waits : (last share n : ℕ) (v w : View) (r : Reply) (t : Sent) (c : Action) (k : ℕ) (f : Marked) → Effect last share n v w r t c → isTick c ≡ false → Waits k f v
     → SentOrWaits k f w r t
 still-waits last share n v w r t c k f (quiet q e queues streams) no-tick h = inr (rw (queues k) h)
-still-waits last share n v w r t c k f (refuses-reservation not-granted e queues streams) no-tick h = inr (rw (queues k) h)
+still-waits last share n v w r t c k f (refuses-reservation e d) no-tick h = inr (rw (d .queues k) h)
 still-waits last share n v w r t c k f (reserves e d) no-tick h = inr (rw (d .queues k) h)
+still-waits last share n v w r t c k f (refuses-withdrawal e d) no-tick h = inr (rw (d .queues k) h)
+still-waits last share n v w r t c k f (withdraws e d) no-tick h = inr (rw (d .queues k) h)
 still-waits last share n v w r t c k f (refuses-arrival e d) no-tick h = inr (rw (d .queues k) h)
 still-waits last share n v w r t c k f (arrives {s = s} {charge = a} e d) no-tick h =
-    inr (rw (d .queues k) (waits-after k f _ (arriveOf last (v .stream s) a) (v .queue k) h))
+    inr (rw (d .queues k) (waits-after k f _ (arriveOf last (v .stream s .stream) a) (v .queue k) h))
 still-waits last share n v w r t c k f (ticks e d) no-tick h = differ no-tick
 still-waits last share n v w r t c k f (sends j g fs d) no-tick h =
     ⊎-elim
@@ -74,10 +76,10 @@ not-in-prior v w r f d zeros h =
     told (g ∷ fs) z e = absurd (omega arith)
 
 -- a tick counts one
-counts : (e : Event) → isTick (action e) ≡ true → _≡_ {A = ℕ} (cond (isTick (action e)) 1 0) 1
+pub counts : (e : Event) → isTick (action e) ≡ true → _≡_ {A = ℕ} (cond (isTick (action e)) 1 0) 1
 counts e is = ap {B = ℕ} (λ (b : Bool). cond b 1 0) is
 
-counts-not : (e : Event) → isTick (action e) ≡ false → _≡_ {A = ℕ} (cond (isTick (action e)) 1 0) 0
+pub counts-not : (e : Event) → isTick (action e) ≡ false → _≡_ {A = ℕ} (cond (isTick (action e)) 1 0) 0
 counts-not e is = ap {B = ℕ} (λ (b : Bool). cond b 1 0) is
 
 module _ (last share : ℕ) (some : currentPlace ≤ last) where
@@ -142,13 +144,13 @@ module _ (last share n : ℕ) (v w : View) (r : Reply) (t : Sent) (s charge tag 
   abbrev frame : Marked
   frame = record { stream = s; charge = charge; tag = tag; number = n }
 
-  joined-accepted : Sound last share v → (z : Arrival) → arriveOf last (v .stream s) charge ≡ z → r ≡ replyOf z
+  joined-accepted : Sound last share v → (z : Arrival) → arriveOf last (v .stream s .stream) charge ≡ z → r ≡ replyOf z
       → ((k : ℕ) → w .queue k ≡ queueAfter k frame z (v .queue k)) → r .refusal ≡ 0 → Accepted last w r frame
   joined-accepted h (Joined place x) e reply queues no-refusal =
       subst (λ (y : Reply). Accepted last w y frame) (sym reply)
       (record {
-        from-current = omega (arith, joins-onward last (v .stream s) charge place x e, h .fit s .first-place);
-        to-last = joins-within last (v .stream s) charge place x (h .fit s) e;
+        from-current = omega (arith, joins-onward last (v .stream s .stream) charge place x e, h .fit s .first-place);
+        to-last = joins-within last (v .stream s .stream) charge place x (h .fit s) e;
         waits = rw (queues place, eq-eqb place place refl) (some-last (λ x. x ≡ frame) (v .queue place) frame refl);
       })
   joined-accepted h (Discarded x) e reply queues no-refusal = absurd (omega (arith, ap (λ (y : Reply). y .refusal) reply))
@@ -156,7 +158,7 @@ module _ (last share n : ℕ) (v w : View) (r : Reply) (t : Sent) (s charge tag 
   pub accepted : Effect last share n v w r t (toArrive s charge tag) → Sound last share v → r .refusal ≡ 0 → Accepted last w r frame
   accepted (quiet q e queues streams) h no-refusal = absurd q
   accepted (refuses-arrival e d) h no-refusal = absurd (d .refused (ap (λ (x : Reply). x .refusal) (sym (d .reply)) ∙ no-refusal))
-  accepted (arrives e d) h no-refusal = joined-accepted h (arriveOf last (v .stream s) charge) refl (d .reply) (d .queues) no-refusal
+  accepted (arrives e d) h no-refusal = joined-accepted h (arriveOf last (v .stream s .stream) charge) refl (d .reply) (d .queues) no-refusal
 
 -- an accepted frame is sent before the tick of a number above that of the queue that the reply names
 module _ (last share : ℕ) (v : View) (es : List Event) (some : currentPlace ≤ last) (run : Run last share 0 v es) (h : Sound last share v) (purges : All PurgesNothing es)

@@ -1,37 +1,45 @@
 -- What the record and the memory hold of a view: the streams, the queues by their roles, and best effort. Assumes nothing.
 use Prim.Native.Nat.{ℕ, _≤_, _<_}
-use mathlib.Core.Bool.{Bool, true, false, cond}
-use mathlib.Core.Path.{_≡_, refl, sym, ap, _∙_}
+use mathlib.Core.Bool.{Bool, true, false, not, _&&_, cond}
+use mathlib.Core.Path.{_≡_, refl, sym, ap, ap₂, _∙_}
 use mathlib.Core.Logic.{⊎-elim}
 use mathlib.Core.List.{List, []}
-use borrow.Author.Tests.{lt-ltb, le-ltb, lt-leb, le-leb, eq-eqb, ne-eqb}
-use lib.ListN.{length}
+use borrow.Author.Tests.{lt-ltb, le-ltb, lt-leb, le-leb, eq-eqb, ne-eqb, eqb-true, not-false}
 use lib.Dec.{ltb, eqb}
 use Rattle.lists.proofs.TurnLaws.{sumTo-same}
 use Rattle.lists.proofs.Order.{le-or-lt, eq-or-not}
-use Rattle.stream.specs.declared.Stream.{Stream}
 use Rattle.queue.specs.declared.Frame.{Frame}
 use Rattle.queue.specs.Waiting.{waiting}
 use Rattle.record.specs.Layout.{streamCount}
 use Rattle.record.specs.Queues.{queuesAt, bestEffortAt, HasMemory}
 use Rattle.record.specs.Head.{openAt, priorAt, linkAt, queueAt}
-use Rattle.record.specs.Entry.{streamAt}
+use Rattle.record.specs.Entry.{streamAt, drainAt, drainsAt}
 use Rattle.record.specs.Reservations.{permittedOf as reservedP, permittedSum}
 use Rattle.fitness.specs.Fit.{recordFits}
 use Rattle.steps.specs.Roles.{roleAt}
 use Rattle.steps.proofs.RoleLaws.{role-same}
-use Rattle.gates.specs.Refusals.{arriveRefusal}
+use Rattle.ranges.specs.Ranges.{shareOf}
+use Rattle.gates.specs.Refusals.{reserveRefusal, withdrawRefusal, arriveRefusal}
 use Rattle.steps.specs.Call.{Call}
 use Rattle.guarantee.specs.Events.{Marked, reservedSent, bestEffortSent}
-use Rattle.guarantee.proofs.Run.{View, free, permittedOf, ownRefusal}
+use Rattle.guarantee.proofs.Reservation.{Reservation, reservation, free, draining, arrivalRefusal, withdrawalRefusal, reservationRefusal}
+use Rattle.guarantee.proofs.Run.{View, permittedOf}
 use Rattle.guarantee.proofs.Tied.{Tied}
 
--- a stream of the record as it is seen: free where it is not reserved, or is none of the port's
-abbrev pub seen : Stream → Stream
-seen x = cond (x .reserved) x free
+-- a stream of the record with its draining count
+abbrev pub reservationAt : List ℕ → ℕ → Reservation
+reservationAt p s = reservation (streamAt p s) (drainAt p s)
 
-abbrev pub seenAt : List ℕ → ℕ → Stream
-seenAt p s = cond (ltb s streamCount) (seen (streamAt p s)) free
+-- it is as it was where both are
+pub same-reservation : (p q : List ℕ) (s : ℕ) → streamAt q s ≡ streamAt p s → drainAt q s ≡ drainAt p s → reservationAt q s ≡ reservationAt p s
+same-reservation p q s = ap₂ reservation
+
+-- as it is seen: free where it is not reserved, or is none of the port's
+abbrev pub seen : Reservation → Reservation
+seen x = cond (x .stream .reserved) x free
+
+abbrev pub seenAt : List ℕ → ℕ → Reservation
+seenAt p s = cond (ltb s streamCount) (seen (reservationAt p s)) free
 
 -- the frames of the queue in a role
 abbrev pub inRole : List ℕ → List ℕ → ℕ → List Frame
@@ -51,64 +59,99 @@ pub record Holds (all : List Call) (link : ℕ) (p m k : List ℕ) (v : View) (b
   pub waits : Tied all bestEffortSent (waiting m (bestEffortAt p) (queueAt p (bestEffortAt p))) (waiting k (bestEffortAt p) (queueAt p (bestEffortAt p))) best
 
 -- a stream of the port is seen as it is in the record, any other as free
-pub seen-below : (p : List ℕ) (s : ℕ) → s < streamCount → seenAt p s ≡ seen (streamAt p s)
+pub seen-below : (p : List ℕ) (s : ℕ) → s < streamCount → seenAt p s ≡ seen (reservationAt p s)
 seen-below p s b = rw (lt-ltb s streamCount b)
 
 pub seen-above : (p : List ℕ) (s : ℕ) → streamCount ≤ s → seenAt p s ≡ free
 seen-above p s a = rw (le-ltb s streamCount a)
 
 -- the sum of P
-seen-permitted : (x : Stream) → seen x .permitted ≡ reservedP x
-seen-permitted x = told (x .reserved)
+seen-permitted : (x : Reservation) → seen x .stream .permitted ≡ reservedP (x .stream)
+seen-permitted x = told (x .stream .reserved)
   where
-    told : (b : Bool) → cond b x free .permitted ≡ cond b (x .permitted) 0
+    told : (b : Bool) → cond b x free .stream .permitted ≡ cond b (x .stream .permitted) 0
     told true = refl
     told false = refl
 
 pub seen-sum : (p : List ℕ) (v : View) → ((s : ℕ) → v .stream s ≡ seenAt p s) → permittedOf v ≡ permittedSum p
 seen-sum p v streams =
-    sumTo-same _ _ streamCount (λ s b. ap (λ (x : Stream). x .permitted) (streams s ∙ seen-below p s b) ∙ seen-permitted (streamAt p s))
+    sumTo-same _ _ streamCount (λ s b. ap (λ (x : Reservation). x .stream .permitted) (streams s ∙ seen-below p s b) ∙ seen-permitted (reservationAt p s))
 
 -- whether a stream is reserved
-pub seen-reserved : (x : Stream) → seen x .reserved ≡ x .reserved
-seen-reserved x = told (x .reserved) refl
+pub seen-reserved : (x : Reservation) → seen x .stream .reserved ≡ x .stream .reserved
+seen-reserved x = told (x .stream .reserved) refl
   where
-    told : (b : Bool) → x .reserved ≡ b → cond b x free .reserved ≡ b
+    told : (b : Bool) → x .stream .reserved ≡ b → cond b x free .stream .reserved ≡ b
     told true e = e
     told false e = refl
 
-pub seen-as-is : (x : Stream) → x .reserved ≡ true → seen x ≡ x
+pub seen-as-is : (x : Reservation) → x .stream .reserved ≡ true → seen x ≡ x
 seen-as-is x e = rw e
 
-pub seen-free : (x : Stream) → x .reserved ≡ false → seen x ≡ free
+pub seen-free : (x : Reservation) → x .stream .reserved ≡ false → seen x ≡ free
 seen-free x e = rw e
 
--- so the refusals of an arrival are those that its own stream gives
-pub own-refusal : (p : List ℕ) (s a : ℕ) → openAt p ≡ true → arriveRefusal p s a ≡ ownRefusal s (seenAt p s) a
-unfolding arriveRefusal
-own-refusal p s a opened =
-    ⊎-elim
-    (λ (above : streamCount ≤ s). rw (opened, le-leb streamCount s above))
-    (λ (below : s < streamCount). rw (opened, lt-leb streamCount s below, seen-below p s below, seen-reserved (streamAt p s)))
-    (le-or-lt streamCount s)
+-- and whether it drains
+seen-drains : (p : List ℕ) (s : ℕ) → draining (seen (reservationAt p s)) ≡ drainsAt p s
+unfolding drainsAt
+seen-drains p s = told (streamAt p s .reserved)
+  where
+    told : (b : Bool) → draining (cond b (reservationAt p s) free) ≡ (b && not (eqb (drainAt p s) 0))
+    told true = refl
+    told false = refl
+
+-- a reserved stream that does not drain has no ticks to go
+pub drains-none : (p : List ℕ) (s : ℕ) → drainsAt p s ≡ false → streamAt p s .reserved ≡ true → drainAt p s ≡ 0
+unfolding drainsAt
+drains-none p s keeps is = eqb-true (drainAt p s) 0 (not-false (eqb (drainAt p s) 0) (sym (ap (λ (b : Bool). b && not (eqb (drainAt p s) 0)) is) ∙ keeps))
+
+-- so the refusals of an arrival, of a withdrawal and of a reservation are those that the view gives
+module _ (p : List ℕ) (s : ℕ) (opened : openAt p ≡ true) where
+  pub arrival-refusal : (a : ℕ) → arriveRefusal p s a ≡ arrivalRefusal s (seenAt p s) a
+  unfolding arriveRefusal
+  arrival-refusal a =
+      ⊎-elim
+      (λ (above : streamCount ≤ s). rw (opened, le-leb streamCount s above))
+      (λ (below : s < streamCount).
+      rw (opened, lt-leb streamCount s below, seen-below p s below, seen-drains p s, seen-reserved (reservationAt p s)))
+      (le-or-lt streamCount s)
+
+  pub withdrawal-refusal : withdrawRefusal p s ≡ withdrawalRefusal s (seenAt p s)
+  unfolding withdrawRefusal
+  withdrawal-refusal =
+      ⊎-elim
+      (λ (above : streamCount ≤ s). rw (opened, le-leb streamCount s above))
+      (λ (below : s < streamCount).
+      rw (opened, lt-leb streamCount s below, seen-below p s below, seen-drains p s, seen-reserved (reservationAt p s)))
+      (le-or-lt streamCount s)
+
+  pub reservation-refusal : (permitted : ℕ) → reserveRefusal p s permitted ≡ reservationRefusal (shareOf (linkAt p)) (permittedSum p) s (seenAt p s) permitted
+  unfolding reserveRefusal
+  reservation-refusal permitted =
+      ⊎-elim
+      (λ (above : streamCount ≤ s). rw (opened, le-leb streamCount s above))
+      (λ (below : s < streamCount).
+      rw (opened, lt-leb streamCount s below, seen-below p s below, seen-drains p s, seen-reserved (reservationAt p s)))
+      (le-or-lt streamCount s)
 
 -- a role's frames are as they were where its queue is
 pub role-kept : (p q m : List ℕ) (role : ℕ) → priorAt q ≡ priorAt p → queuesAt q ≡ queuesAt p → queueAt q (roleAt p role) ≡ queueAt p (roleAt p role) → inRole q m role ≡ inRole p m role
 role-kept p q m role prior count queue = rw (role-same p q role prior count, queue)
 
 -- the streams of a view with stream s changed
-abbrev pub changed : View → ℕ → Stream → ℕ → Stream
+abbrev pub changed : View → ℕ → Reservation → ℕ → Reservation
 changed v s x i = cond (eqb i s) x (v .stream i)
 
-pub changed-here : (v : View) (s : ℕ) (x : Stream) → changed v s x s ≡ x
+pub changed-here : (v : View) (s : ℕ) (x : Reservation) → changed v s x s ≡ x
 changed-here v s x = rw (eq-eqb s s refl)
 
-pub changed-else : (v : View) (s : ℕ) (x : Stream) (i : ℕ) → (i ≡ s → ⊥) → changed v s x i ≡ v .stream i
+pub changed-else : (v : View) (s : ℕ) (x : Reservation) (i : ℕ) → (i ≡ s → ⊥) → changed v s x i ≡ v .stream i
 changed-else v s x i o = rw (ne-eqb i s o)
 
 -- the record with a reserved stream written is seen so
-pub changed-seen : (p q : List ℕ) (v : View) (s : ℕ) (x : Stream) → s < streamCount → ((i : ℕ) → v .stream i ≡ seenAt p i) → streamAt q s ≡ x → x .reserved ≡ true
-    → ((i : ℕ) → i < streamCount → (i ≡ s → ⊥) → streamAt q i ≡ streamAt p i)
+pub changed-seen : (p q : List ℕ) (v : View) (s : ℕ) (x : Reservation) → s < streamCount → ((i : ℕ) → v .stream i ≡ seenAt p i)
+    → reservationAt q s ≡ x → x .stream .reserved ≡ true
+    → ((i : ℕ) → i < streamCount → (i ≡ s → ⊥) → reservationAt q i ≡ reservationAt p i)
     → (i : ℕ) → changed v s x i ≡ seenAt q i
 changed-seen p q v s x below streams here is others i =
     ⊎-elim
@@ -121,7 +164,7 @@ changed-seen p q v s x below streams here is others i =
     (eq-or-not i s)
 
 -- the record with the same streams is seen the same
-pub same-seen : (p q : List ℕ) (v : View) → ((i : ℕ) → v .stream i ≡ seenAt p i) → ((i : ℕ) → i < streamCount → streamAt q i ≡ streamAt p i)
+pub same-seen : (p q : List ℕ) (v : View) → ((i : ℕ) → v .stream i ≡ seenAt p i) → ((i : ℕ) → i < streamCount → reservationAt q i ≡ reservationAt p i)
     → (i : ℕ) → v .stream i ≡ seenAt q i
 same-seen p q v streams same i =
     streams i ∙

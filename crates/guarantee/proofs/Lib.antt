@@ -1,4 +1,5 @@
 -- Demand 3, proved.
+pub mod Reservation
 pub mod Run
 pub mod CallLaws
 pub mod Room
@@ -7,11 +8,13 @@ pub mod Delay
 pub mod Conforming
 pub mod OwnRun
 pub mod Alone
+pub mod Draining
 pub mod Tied
 pub mod Held
 pub mod BestEffortWritten
 pub mod Next
 pub mod NextReserve
+pub mod NextWithdraw
 pub mod NextBestEffort
 pub mod NextBind
 pub mod NextFrame
@@ -21,3 +24,4 @@ pub mod NextTransmit
 pub mod Play
 pub mod Theorem
 pub mod ClaimCases
+pub mod WithdrawalCases

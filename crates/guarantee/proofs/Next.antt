@@ -31,6 +31,9 @@ use Rattle.guarantee.proofs.Held.{seenAt, inRole, Holds}
 abbrev pub SameLink : List ℕ → List ℕ → Type 0
 SameLink p q = (openAt q ≡ openAt p) × ((linkAt q ≡ linkAt p) × (queuesAt q ≡ queuesAt p))
 
+pub link-both : (j k l : List ℕ) → SameLink j k → SameLink k l → SameLink j l
+link-both j k l a b = (b .0 ∙ a .0, (b .1 .0 ∙ a .1 .0, b .1 .1 ∙ a .1 .1))
+
 pub link-kept : (p q : List ℕ) → Keeps p q → SameLink p q
 link-kept p q keeps = (keeps .opened, (keeps .link, keeps .queues))
 

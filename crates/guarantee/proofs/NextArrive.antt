@@ -1,7 +1,7 @@
 -- Arrive on a port that holds a view: the frame joins its queue, which is never full, or is discarded, or the call is refused. Assumes nothing.
 use Prim.Native.Nat.{ℕ, _≤_, _<_}
 use mathlib.Core.Bool.{true}
-use mathlib.Core.Path.{_≡_, refl, sym, ap, subst, _∙_}
+use mathlib.Core.Path.{_≡_, refl, sym, ap, ap₂, subst, _∙_}
 use mathlib.Core.Logic.{inl, ⊎-elim}
 use mathlib.Core.List.{List, [], _∷_, _++_}
 use native.Mathlib.Omega.{arith}
@@ -22,10 +22,11 @@ use Rattle.lists.proofs.EachLaws.{differ}
 use Rattle.record.specs.Layout.{Whole, streamCount}
 use Rattle.record.specs.Queues.{queuesAt, lastPlaceAt, bestEffortAt, HasMemory}
 use Rattle.record.specs.Head.{priorAt, linkAt, queueAt, withQueue}
-use Rattle.record.specs.Entry.{streamAt}
+use Rattle.record.specs.Entry.{streamAt, drainAt}
 use Rattle.record.proofs.QueueLaws.{queues-least, queues-most, queues-queue}
 use Rattle.record.proofs.HeadPairs.{queue-queue, other-queue, prior-queue, stream-queue}
 use Rattle.record.proofs.EntryPairs.{stream-place, other-place, prior-place, queue-place}
+use Rattle.record.proofs.DrainPairs.{drain-queue, drain-place}
 use Rattle.record.proofs.KeepLaws.{keeps-both, keeps-queue, keeps-place}
 use Rattle.ranges.specs.Ranges.{greatestShare, chargeFits, shareOf}
 use Rattle.ranges.proofs.RangeLaws.{within-bounds}
@@ -42,10 +43,11 @@ use Rattle.port.specs.Calls.{called}
 use Rattle.port_laws.specs.Counting.{toArrive, actionOf}
 use Rattle.port_laws.proofs.GateNumbers.{refusal-own}
 use Rattle.guarantee.specs.Events.{Marked, reservedSent, none, broughtBy, marked}
-use Rattle.guarantee.proofs.Run.{View, octets, ownRefusal, queueAfter, Effect, arrives, refuses-arrival}
+use Rattle.guarantee.proofs.Reservation.{Reservation, reservation, keeping, arrivalRefusal}
+use Rattle.guarantee.proofs.Run.{View, queueAfter, Effect, arrives, refuses-arrival}
 use Rattle.guarantee.proofs.Room.{Sound, octets-most, charged-length, stays-sound}
 use Rattle.guarantee.proofs.Tied.{Tied, plain, numbered, tied-joins, tied-length}
-use Rattle.guarantee.proofs.Held.{Holds, inRole, seen-below, seen-as-is, own-refusal, role-kept, changed, changed-here, changed-else, changed-seen}
+use Rattle.guarantee.proofs.Held.{Holds, inRole, reservationAt, same-reservation, seen-below, seen-as-is, drains-none, arrival-refusal, role-kept, changed, changed-here, changed-else, changed-seen}
 use Rattle.guarantee.proofs.Next.{link-kept, Moved, Next, next-unchanged, by-gate}
 
 -- the step, where the frame joins a queue that has room, and where it is discarded
@@ -86,9 +88,12 @@ module _ (p : List ℕ) (s number : ℕ) (next : Stream) (whole : Whole p) (b : 
   joined-stream : (i : ℕ) → streamAt joinedRecord i ≡ streamAt (moved p s next) i
   joined-stream i = stream-queue (moved p s next) number (joinedQueue (queueAt p number)) i (omega (arith, queues-most p))
 
+  joined-drain : (i : ℕ) → drainAt joinedRecord i ≡ drainAt p i
+  joined-drain i = drain-queue (moved p s next) i number (joinedQueue (queueAt p number)) (omega (arith, queues-most p)) ∙ drain-place p s i (next .place) (next .left)
+
 -- the view after an arrival
 abbrev arrivedView : View → ℕ → Marked → Arrival → View
-arrivedView v s f z = record { queue = λ j. queueAfter j f z (v .queue j); stream = changed v s (streamOf z) }
+arrivedView v s f z = record { queue = λ j. queueAfter j f z (v .queue j); stream = changed v s (keeping (streamOf z)) }
 
 -- a queue that a frame joined, and the others
 after-here : (f : Marked) (place : ℕ) (x : Stream) (fs : List Marked) → queueAfter place f (Joined place x) fs ≡ fs ++ (f ∷ [])
@@ -118,21 +123,26 @@ module _ (all : List Call) (n link : ℕ) (p m k : List ℕ) (v : View) (best : 
   whole = fit-record p m (h .fit) .long
 
   -- the view has the stream as it is in the record
-  seen-held : v .stream s ≡ held
-  seen-held = h .streams s ∙ seen-below p s below ∙ seen-as-is held is-reserved
+  seen-held : v .stream s ≡ reservationAt p s
+  seen-held = h .streams s ∙ seen-below p s below ∙ seen-as-is (reservationAt p s) is-reserved
+
+  -- and it does not drain
+  none-to-go : drainAt p s ≡ 0
+  none-to-go = drains-none p s (arrive-allowed p s a free-of .keeps) is-reserved
 
   -- so the stream's rule answers alike, and the call does to the view what it does
   arrival-effect : (z : Arrival) → arriveOf (lastPlaceAt p) held a ≡ z → Effect (lastPlaceAt p) (shareOf link) n v (arrivedView v s frame z) (replyOf z) none (toArrive s a tag)
   arrival-effect z e =
-      let rule : arriveOf (lastPlaceAt p) (v .stream s) a ≡ z = ap (λ (x : Stream). arriveOf (lastPlaceAt p) x a) seen-held ∙ e in
+      let rule : arriveOf (lastPlaceAt p) (v .stream s .stream) a ≡ z = ap (λ (x : Reservation). arriveOf (lastPlaceAt p) (x .stream) a) seen-held ∙ e in
       arrives refl
       (record {
-        allowed = ap (λ (x : Stream). ownRefusal s x a) (h .streams s) ∙ sym (own-refusal p s a (h .opened)) ∙ free-of;
+        allowed = ap (λ (x : Reservation). arrivalRefusal s x a) (h .streams s) ∙ sym (arrival-refusal p s (h .opened) a) ∙ free-of;
         below = below;
+        keeps = ap (λ (x : Reservation). x .drain) seen-held ∙ none-to-go;
         fits = fits;
         reply = ap replyOf (sym rule);
         queues = λ j. ap (λ (y : Arrival). queueAfter j frame y (v .queue j)) (sym rule);
-        streams = (changed-here v s (streamOf z) ∙ ap streamOf (sym rule), changed-else v s (streamOf z));
+        streams = (changed-here v s (keeping (streamOf z)) ∙ ap (λ (y : Arrival). keeping (streamOf y)) (sym rule), changed-else v s (keeping (streamOf z)));
       })
 
   -- the share is at most the greatest
@@ -143,7 +153,7 @@ module _ (all : List Call) (n link : ℕ) (p m k : List ℕ) (v : View) (best : 
 
   module _ (place : ℕ) (next : Stream) (e : arriveOf (lastPlaceAt p) held a ≡ Joined place next) where
     within-roles : place < queuesAt p
-    within-roles = omega (arith, joins-within (lastPlaceAt p) (v .stream s) a place next (sound .fit s) (ap (λ (x : Stream). arriveOf (lastPlaceAt p) x a) seen-held ∙ e), queues-least p)
+    within-roles = omega (arith, joins-within (lastPlaceAt p) (v .stream s .stream) a place next (sound .fit s) (ap (λ (x : Reservation). arriveOf (lastPlaceAt p) (x .stream) a) seen-held ∙ e), queues-least p)
 
     -- no queue of the share's octets is full, so 20 is not met
     room : queueAt p (roleAt p place) .count < placeCount
@@ -216,10 +226,15 @@ module _ (all : List Call) (n link : ℕ) (p m k : List ℕ) (v : View) (best : 
         record {
           keeps = link-kept _ _ (keeps-both p _ _ (keeps-place p s (next .place) (next .left)) (keeps-queue (moved p s next) number (joinedQueue (queueAt p number)) (omega (arith, role-below p place, queues-most p))));
           streams =
-              changed-seen p after v s next below (h .streams)
+              changed-seen p after v s (keeping next) below (h .streams)
+              (ap₂ reservation
               (joined-stream p s number next whole (role-below p place) s ∙ stream-place p s (next .place) (next .left) whole below ∙ next-held)
+              (joined-drain p s number next whole (role-below p place) s ∙ none-to-go))
               next-reserved
-              (λ i c o. joined-stream p s number next whole (role-below p place) i ∙ other-place p s (next .place) (next .left) i o);
+              (λ i c o.
+              same-reservation p after i
+              (joined-stream p s number next whole (role-below p place) i ∙ other-place p s (next .place) (next .left) i o)
+              (joined-drain p s number next whole (role-below p place) i));
           queues = joined-queues;
           above = λ role c. after-else frame role place next (v .queue role) (λ z. omega (arith, within-roles)) ∙ h .above role c;
           waits = rw (best-effort-kept m (plain frame), best-effort-kept k (numbered frame)) (h .waits);
@@ -261,9 +276,13 @@ module _ (all : List Call) (n link : ℕ) (p m k : List ℕ) (v : View) (best : 
               record {
                 keeps = link-kept _ _ (keeps-place p s (spent .place) (spent .left));
                 streams =
-                    changed-seen p (moved p s spent) v s spent below (h .streams) (stream-place p s (spent .place) (spent .left) whole below ∙ spent-held)
+                    changed-seen p (moved p s spent) v s (keeping spent) below (h .streams)
+                    (ap₂ reservation
+                    (stream-place p s (spent .place) (spent .left) whole below ∙ spent-held)
+                    (drain-place p s s (spent .place) (spent .left) ∙ none-to-go))
                     (ap (λ (x : Stream). x .reserved) (sym spent-held) ∙ is-reserved)
-                    (λ i c o. other-place p s (spent .place) (spent .left) i o);
+                    (λ i c o.
+                    same-reservation p (moved p s spent) i (other-place p s (spent .place) (spent .left) i o) (drain-place p s i (spent .place) (spent .left)));
                 queues = λ role b. rw (spent-role m role, spent-role k role) (h .queues role b);
                 above = h .above;
                 waits = rw (queue-place p s (spent .place) (spent .left) (bestEffortAt p) (omega (arith, queues-most p))) (h .waits);
@@ -285,7 +304,7 @@ module _ (all : List Call) (n link : ℕ) (p m k : List ℕ) (v : View) (best : 
   pub next-arrive : (s a tag : ℕ) → n < length all → getD all n ticking ≡ arriving s a tag
       → Next all all n link p m k v (arriving s a tag) (called (arriving s a tag) p m) (called (marked n (arriving s a tag)) p k)
   next-arrive s a tag counted here =
-      let own : arriveRefusal p s a ≡ ownRefusal s (v .stream s) a = own-refusal p s a (h .opened) ∙ ap (λ (x : Stream). ownRefusal s x a) (sym (h .streams s)) in
+      let own : arriveRefusal p s a ≡ arrivalRefusal s (v .stream s) a = arrival-refusal p s (h .opened) a ∙ ap (λ (x : Reservation). arrivalRefusal s x a) (sym (h .streams s)) in
       by-gate all n link p m k v best h (arriveRefusal p s a) (arriving s a tag) (arriveStep p m s a tag) _
       (λ z.
       next-unchanged all n link p m k v best h (refusedBy (arriveRefusal p s a)) (arriving s a tag) (refusal-own (arriving s a tag) p) refl

@@ -9,6 +9,7 @@ use Rattle.record.specs.Queues.{bestEffortAt}
 use Rattle.record.specs.Entry.{withBinding}
 use Rattle.record.proofs.QueueLaws.{queues-most, queues-binding}
 use Rattle.record.proofs.BindingPairs.{open-binding, prior-binding, link-binding, queue-binding, stream-binding}
+use Rattle.record.proofs.DrainPairs.{drain-binding}
 use Rattle.steps.specs.Roles.{roleAt}
 use Rattle.steps.proofs.RoleLaws.{role-below}
 use Rattle.binding.specs.Binding.{bindStep}
@@ -18,7 +19,7 @@ use Rattle.port.specs.Calls.{called}
 use Rattle.port_laws.proofs.GateNumbers.{refusal-own}
 use Rattle.guarantee.specs.Events.{Marked, marked}
 use Rattle.guarantee.proofs.Run.{View, quiet}
-use Rattle.guarantee.proofs.Held.{Holds, role-kept, same-seen}
+use Rattle.guarantee.proofs.Held.{Holds, same-reservation, role-kept, same-seen}
 use Rattle.guarantee.proofs.Next.{Next, by-quiet-gate}
 
 module _ (all : List Call) (n link : ℕ) (p m k : List ℕ) (v : View) (best : List Marked) (h : Holds all link p m k v best) where
@@ -35,7 +36,7 @@ module _ (all : List Call) (n link : ℕ) (p m k : List ℕ) (v : View) (best : 
         moved =
             record {
               keeps = (open-binding p s address vid, (link-binding p s address vid, same));
-              streams = same-seen p q v (h .streams) (λ i b. stream-binding p s address vid i);
+              streams = same-seen p q v (h .streams) (λ i b. same-reservation p q i (stream-binding p s address vid i) (drain-binding p s i address vid));
               queues = λ role b.
                   let there = queue-binding p s address vid (roleAt p role) (omega (arith, role-below p role, queues-most p)) in
                   rw (role-kept p q m role (prior-binding p s address vid) same there, role-kept p q k role (prior-binding p s address vid) same there) (h .queues role b);

@@ -1,101 +1,158 @@
--- Tick on a port that holds a view: prior is purged, each queue and each stream comes a place nearer. Assumes nothing.
-use Prim.Native.Nat.{ℕ, zero, suc, _≤_, _<_}
+-- Tick on a port that holds a view: prior is purged, each queue and each stream comes a place nearer, and a stream that drains a tick nearer to its
+-- freedom. Assumes nothing.
+use Prim.Native.Nat.{ℕ, zero, suc, _-_, _≤_, _<_}
 use mathlib.Core.Bool.{Bool, true, false, cond}
 use mathlib.Core.Path.{_≡_, refl, sym, ap, ap₂, _∙_}
 use mathlib.Core.Logic.{inl, ⊎-elim}
 use mathlib.Core.List.{List, []}
 use native.Mathlib.Nat.{eq-or-lt-of-le}
 use native.Mathlib.Omega.{arith}
+use borrow.Author.Tests.{eq-eqb, ne-eqb}
 use lib.ListN.{length}
 use Rattle.lists.specs.Turns.{iterate}
 use Rattle.lists.proofs.TurnLaws.{iterate-keeps}
-use Rattle.lists.proofs.Order.{le-or-lt}
+use Rattle.lists.proofs.Order.{le-or-lt, eq-or-not}
 use Rattle.stream.specs.declared.Stream.{Stream}
 use Rattle.stream.specs.Steps.{tickOf}
 use Rattle.stream.specs.Replies.{granted}
 use Rattle.stream.proofs.FitLaws.{tick-moves}
-use Rattle.stream.proofs.TickLaws.{stays-current}
 use Rattle.queue.specs.Ring.{emptyQueue}
 use Rattle.queue.proofs.WaitingLaws.{empty-waits, length-waiting}
 use Rattle.lists.proofs.EachLaws.{differ}
 use Rattle.record.specs.Layout.{Whole, queueRoom, streamCount}
 use Rattle.record.specs.Queues.{queuesAt, bestEffortAt}
 use Rattle.record.specs.Head.{priorAt, withPrior, queueAt, withQueue}
-use Rattle.record.specs.Entry.{streamAt}
-use Rattle.record.proofs.QueueLaws.{queues-least, queues-most}
+use Rattle.record.specs.Entry.{streamAt, withPlace, drainAt, withDrain, dropped}
+use Rattle.record.proofs.QueueLaws.{queues-least, queues-most, queues-dropped}
 use Rattle.record.proofs.HeadPairs.{prior-prior, queue-prior, stream-prior, queue-queue, other-queue, stream-queue}
 use Rattle.record.proofs.EntryPairs.{stream-place, other-place, prior-place, queue-place}
-use Rattle.record.proofs.KeepLaws.{Keeps, keeps-same, keeps-both, keeps-prior, keeps-queue, keeps-place}
+use Rattle.record.proofs.DrainPairs.{drain-drain, other-drain, stream-drain, prior-drain, queue-drain, drain-prior, drain-queue, drain-place}
+use Rattle.record.proofs.DropPairs.{length-dropped, open-dropped, prior-dropped, link-dropped, queue-dropped, stream-dropped, other-stream-dropped, other-drain-dropped}
+use Rattle.record.proofs.KeepLaws.{Keeps, keeps-both, keeps-prior, keeps-queue, keeps-place, keeps-drain}
 use Rattle.fitness.proofs.FitLaws.{fit-record}
 use Rattle.steps.specs.Roles.{roleAt, priorRole, currentRole}
 use Rattle.steps.specs.Moves.{moved}
 use Rattle.steps.proofs.RoleLaws.{role-below, role-nearer, role-wraps, role-apart}
-use Rattle.ticking.specs.Ticking.{tickedAt, tickedRecord, tickStep}
+use Rattle.ticking.specs.Ticking.{drainedAt, tickedAt, tickedRecord, tickStep}
 use Rattle.gates.specs.Refusals.{closedRefusal}
 use Rattle.steps.specs.Call.{Call, ticking}
 use Rattle.port.specs.Calls.{called}
+use Rattle.port_laws.proofs.TurnKeeps.{ticked-keeps}
 use Rattle.port_laws.proofs.GateNumbers.{closed-passes}
 use Rattle.guarantee.specs.Events.{Marked, reservedSent, marked}
-use Rattle.guarantee.proofs.Run.{View, free, octets, ticks}
+use Rattle.guarantee.proofs.Reservation.{Reservation, reservation, ticked, ticked-frees, ticked-moves, ticked-keeping, ticked-free}
+use Rattle.guarantee.proofs.Run.{View, octets, ticks}
 use Rattle.guarantee.proofs.Tied.{Tied, tied-empty, tied-length, tied-octets, tied-octets-shown}
-use Rattle.guarantee.proofs.Held.{Holds, inRole, seen, seenAt, seen-below, seen-above, seen-as-is, seen-free}
-use Rattle.guarantee.proofs.Next.{link-kept, Next, by-gate}
-
--- a stream of the record after the tick: nothing of an unreserved one is written
-abbrev ticked : Stream → Stream
-ticked x = cond (x .reserved) (tickOf x) x
-
--- it is seen as the tick of what was seen
-ticked-seen : (x : Stream) → tickOf (seen x) ≡ seen (ticked x)
-ticked-seen x = told (x .reserved) refl
-  where
-    told : (b : Bool) → x .reserved ≡ b → tickOf (seen x) ≡ seen (ticked x)
-    told true e =
-        ap tickOf (seen-as-is x e)
-        ∙ sym (ap seen (ap (λ (b : Bool). cond b (tickOf x) x) e) ∙ seen-as-is (tickOf x) (ap (λ (y : Stream). y .reserved) (sym (tick-moves x)) ∙ e))
-    told false e = ap tickOf (seen-free x e) ∙ stays-current free (omega arith) ∙ sym (ap seen (ap (λ (b : Bool). cond b (tickOf x) x) e) ∙ seen-free x e)
+use Rattle.guarantee.proofs.Held.{Holds, inRole, reservationAt, same-reservation, seen, seenAt, seen-below, seen-above, seen-as-is, seen-free}
+use Rattle.guarantee.proofs.Next.{SameLink, link-kept, link-both, Next, by-gate}
 
 -- one stream's turn
 module _ (i : ℕ) (l : List ℕ) where
-  turn-keeps : Keeps l (tickedAt i l)
-  turn-keeps = told (streamAt l i .reserved)
-    where
-      told : (b : Bool) → Keeps l (cond b (moved l i (tickOf (streamAt l i))) l)
-      told true = keeps-place l i (tickOf (streamAt l i) .place) (tickOf (streamAt l i) .left)
-      told false = keeps-same l
+  turn-long : length (tickedAt i l) ≡ length l
+  turn-long =
+      ticked-keeps (λ k. length k ≡ length l) i
+      (λ k e. length-dropped k i ∙ e)
+      (λ k e. keeps-drain k i (drainAt k i - 1) .long ∙ e)
+      (λ k place left e. keeps-place k i place left .long ∙ e)
+      l refl
+
+  turn-link : SameLink l (tickedAt i l)
+  turn-link =
+      ticked-keeps (SameLink l) i
+      (λ k h. link-both l k (dropped k i) h (open-dropped k i, (link-dropped k i, queues-dropped k i)))
+      (λ k h. link-both l k _ h (link-kept _ _ (keeps-drain k i (drainAt k i - 1))))
+      (λ k place left h. link-both l k _ h (link-kept _ _ (keeps-place k i place left)))
+      l (refl, (refl, refl))
 
   turn-prior : priorAt (tickedAt i l) ≡ priorAt l
-  turn-prior = told (streamAt l i .reserved)
-    where
-      told : (b : Bool) → priorAt (cond b (moved l i (tickOf (streamAt l i))) l) ≡ priorAt l
-      told true = prior-place l i (tickOf (streamAt l i) .place) (tickOf (streamAt l i) .left)
-      told false = refl
+  turn-prior =
+      ticked-keeps (λ k. priorAt k ≡ priorAt l) i
+      (λ k e. prior-dropped k i ∙ e)
+      (λ k e. prior-drain k i (drainAt k i - 1) ∙ e)
+      (λ k place left e. prior-place k i place left ∙ e)
+      l refl
 
   turn-queue : (q : ℕ) → q < queueRoom → queueAt (tickedAt i l) q ≡ queueAt l q
-  turn-queue q b = told (streamAt l i .reserved)
-    where
-      told : (c : Bool) → queueAt (cond c (moved l i (tickOf (streamAt l i))) l) q ≡ queueAt l q
-      told true = queue-place l i (tickOf (streamAt l i) .place) (tickOf (streamAt l i) .left) q b
-      told false = refl
+  turn-queue q b =
+      ticked-keeps (λ k. queueAt k q ≡ queueAt l q) i
+      (λ k e. queue-dropped k i q b ∙ e)
+      (λ k e. queue-drain k i (drainAt k i - 1) q b ∙ e)
+      (λ k place left e. queue-place k i place left q b ∙ e)
+      l refl
 
-  turn-here : Whole l → i < streamCount → streamAt (tickedAt i l) i ≡ ticked (streamAt l i)
-  turn-here whole b = told (streamAt l i .reserved)
-    where
-      told : (c : Bool) → streamAt (cond c (moved l i (tickOf (streamAt l i))) l) i ≡ cond c (tickOf (streamAt l i)) (streamAt l i)
-      told true = stream-place l i (tickOf (streamAt l i) .place) (tickOf (streamAt l i) .left) whole b ∙ tick-moves (streamAt l i)
-      told false = refl
+  -- no other stream
+  turn-else : (s : ℕ) → (s ≡ i → ⊥) → reservationAt (tickedAt i l) s ≡ reservationAt l s
+  turn-else s o =
+      ticked-keeps (λ k. reservationAt k s ≡ reservationAt l s) i
+      (λ k e. same-reservation k (dropped k i) s (other-stream-dropped k i s o) (other-drain-dropped k i s o) ∙ e)
+      (λ k e. same-reservation k (withDrain k i (drainAt k i - 1)) s (stream-drain k i (drainAt k i - 1) s) (other-drain k i (drainAt k i - 1) s o) ∙ e)
+      (λ k place left e. same-reservation k (withPlace k i place left) s (other-place k i place left s o) (drain-place k i s place left) ∙ e)
+      l refl
 
-  turn-else : (s : ℕ) → (s ≡ i → ⊥) → streamAt (tickedAt i l) s ≡ streamAt l s
-  turn-else s o = told (streamAt l i .reserved)
-    where
-      told : (c : Bool) → streamAt (cond c (moved l i (tickOf (streamAt l i))) l) s ≡ streamAt l s
-      told true = other-place l i (tickOf (streamAt l i) .place) (tickOf (streamAt l i) .left) s o
-      told false = refl
+-- a reserved stream drains, if it does, by its count
+module _ (i : ℕ) (l : List ℕ) (x : Reservation) (whole : Whole l) (b : i < streamCount) (same : reservationAt l i ≡ reservation (tickOf (x .stream)) (x .drain))
+    (is : x .stream .reserved ≡ true) where
+  -- the tick has moved it
+  moved-reserved : streamAt l i .reserved ≡ true
+  moved-reserved =
+      ap (λ (y : Reservation). y .stream .reserved) same ∙ ap (λ (y : Stream). y .reserved) (sym (tick-moves (x .stream))) ∙ is
+
+  count : drainAt l i ≡ x .drain
+  count = ap (λ (y : Reservation). y .drain) same
+
+  -- and does no more to one that does not drain
+  drains-never : x .drain ≡ 0 → seen (reservationAt (drainedAt i l) i) ≡ ticked x
+  unfolding drainedAt
+  drains-never none =
+      rw (eq-eqb (drainAt l i) 0 (count ∙ none))
+      (seen-as-is (reservationAt l i) moved-reserved ∙ same ∙ ap (reservation (tickOf (x .stream))) none ∙ sym (ticked-keeping x none))
+
+  -- frees one at its last tick
+  drains-last : x .drain ≡ 1 → seen (reservationAt (drainedAt i l) i) ≡ ticked x
+  unfolding drainedAt
+  drains-last one =
+      rw (ne-eqb (drainAt l i) 0 (λ e. omega (arith, count, one)), eq-eqb (drainAt l i) 1 (count ∙ one))
+      (seen-free (reservationAt (dropped l i) i) (stream-dropped l i whole b) ∙ sym (ticked-frees x one))
+
+  -- and counts one less for any other
+  drains-on : (x .drain ≡ 0 → ⊥) → (x .drain ≡ 1 → ⊥) → seen (reservationAt (drainedAt i l) i) ≡ ticked x
+  unfolding drainedAt
+  drains-on some more =
+      rw (ne-eqb (drainAt l i) 0 (λ e. some (sym count ∙ e)), ne-eqb (drainAt l i) 1 (λ e. more (sym count ∙ e)))
+      (seen-as-is (reservationAt (withDrain l i (drainAt l i - 1)) i) (ap (λ (y : Stream). y .reserved) (stream-drain l i (drainAt l i - 1) i) ∙ moved-reserved)
+      ∙ ap₂ reservation
+      (stream-drain l i (drainAt l i - 1) i ∙ ap (λ (y : Reservation). y .stream) same)
+      (drain-drain l i (drainAt l i - 1) whole b ∙ ap (λ (ticks : ℕ). ticks - 1) count)
+      ∙ sym (ticked-moves x more))
+
+  drains-so : seen (reservationAt (drainedAt i l) i) ≡ ticked x
+  drains-so =
+      ⊎-elim
+      drains-never
+      (λ (some : x .drain ≡ 0 → ⊥). ⊎-elim drains-last (λ (more : x .drain ≡ 1 → ⊥). drains-on some more) (eq-or-not (x .drain) 1))
+      (eq-or-not (x .drain) 0)
+
+-- a stream is seen after its turn as the tick of what was seen; nothing of an unreserved one is written
+turn-here : (i : ℕ) (l : List ℕ) → Whole l → i < streamCount → seen (reservationAt (tickedAt i l) i) ≡ ticked (seen (reservationAt l i))
+turn-here i l whole b = told (streamAt l i .reserved) refl
+  where
+    told : (c : Bool) → streamAt l i .reserved ≡ c
+        → seen (reservationAt (cond c (drainedAt i (moved l i (tickOf (streamAt l i)))) l) i) ≡ ticked (seen (reservationAt l i))
+    told true e =
+        let x = tickOf (streamAt l i) in
+        drains-so i (moved l i x) (reservationAt l i) (omega (arith, keeps-place l i (x .place) (x .left) .long)) b
+        (ap₂ reservation (stream-place l i (x .place) (x .left) whole b ∙ tick-moves (streamAt l i)) (drain-place l i i (x .place) (x .left)))
+        e
+        ∙ ap ticked (sym (seen-as-is (reservationAt l i) e))
+    told false e = seen-free (reservationAt l i) e ∙ sym ticked-free ∙ ap ticked (sym (seen-free (reservationAt l i) e))
 
 -- all turns
 module _ (l : List ℕ) (whole : Whole l) where
-  turns-keep : (n : ℕ) → Keeps l (iterate tickedAt n l)
-  turns-keep n = iterate-keeps (λ k. Keeps l k) tickedAt n l (λ i k h. keeps-both l k (tickedAt i k) h (turn-keeps i k)) (keeps-same l)
+  turns-long : (n : ℕ) → length (iterate tickedAt n l) ≡ length l
+  turns-long n = iterate-keeps (λ k. length k ≡ length l) tickedAt n l (λ i k h. turn-long i k ∙ h) refl
+
+  turns-link : (n : ℕ) → SameLink l (iterate tickedAt n l)
+  turns-link n = iterate-keeps (SameLink l) tickedAt n l (λ i k h. link-both l k (tickedAt i k) h (turn-link i k)) (refl, (refl, refl))
 
   turns-prior : (n : ℕ) → priorAt (iterate tickedAt n l) ≡ priorAt l
   turns-prior n = iterate-keeps (λ k. priorAt k ≡ priorAt l) tickedAt n l (λ i k h. turn-prior i k ∙ h) refl
@@ -104,20 +161,20 @@ module _ (l : List ℕ) (whole : Whole l) where
   turns-queue n q b = iterate-keeps (λ k. queueAt k q ≡ queueAt l q) tickedAt n l (λ i k h. turn-queue i k q b ∙ h) refl
 
   -- a stream whose turn is still to come is as it was
-  turns-before : (n s : ℕ) → n ≤ s → streamAt (iterate tickedAt n l) s ≡ streamAt l s
+  turns-before : (n s : ℕ) → n ≤ s → reservationAt (iterate tickedAt n l) s ≡ reservationAt l s
   unfolding iterate
   turns-before zero s b = refl
   turns-before (suc n) s b = turn-else n (iterate tickedAt n l) s (λ e. omega arith) ∙ turns-before n s (omega arith)
 
-  turns-after : (n s : ℕ) → s < n → n ≤ streamCount → streamAt (iterate tickedAt n l) s ≡ ticked (streamAt l s)
+  turns-after : (n s : ℕ) → s < n → n ≤ streamCount → seen (reservationAt (iterate tickedAt n l) s) ≡ ticked (seen (reservationAt l s))
   unfolding iterate
   turns-after zero s b c = absurd (omega arith)
   turns-after (suc n) s b c =
       ⊎-elim
       (λ (e : s ≡ n).
       rw e
-      (turn-here n (iterate tickedAt n l) (omega (arith, turns-keep n .long)) (omega arith) ∙ ap ticked (turns-before n n (omega arith))))
-      (λ (z : s < n). turn-else n (iterate tickedAt n l) s (λ e. omega arith) ∙ turns-after n s z (omega arith))
+      (turn-here n (iterate tickedAt n l) (omega (arith, turns-long n)) (omega arith) ∙ ap (λ (x : Reservation). ticked (seen x)) (turns-before n n (omega arith))))
+      (λ (z : s < n). ap seen (turn-else n (iterate tickedAt n l) s (λ e. omega arith)) ∙ turns-after n s z (omega arith))
       (eq-or-lt-of-le (omega arith))
 
 module _ (p : List ℕ) (whole : Whole p) where
@@ -133,9 +190,9 @@ module _ (p : List ℕ) (whole : Whole p) where
   turned-whole : Whole turned
   turned-whole = omega (arith, turned-keeps .long)
 
-  ticked-keeps : Keeps p (tickedRecord p)
+  ticked-link : SameLink p (tickedRecord p)
   unfolding tickedRecord
-  ticked-keeps = keeps-both p turned _ turned-keeps (turns-keep turned turned-whole streamCount)
+  ticked-link = link-both p turned _ (link-kept _ _ turned-keeps) (turns-link turned turned-whole streamCount)
 
   ticked-prior : priorAt (tickedRecord p) ≡ roleAt p currentRole
   unfolding tickedRecord
@@ -146,7 +203,7 @@ module _ (p : List ℕ) (whole : Whole p) where
 
   -- so each queue has the role before its own
   ticked-role : (role : ℕ) → roleAt (tickedRecord p) role ≡ roleAt p (suc role)
-  ticked-role role = role-nearer p (tickedRecord p) role ticked-prior (ticked-keeps .queues)
+  ticked-role role = role-nearer p (tickedRecord p) role ticked-prior (ticked-link .1 .1)
 
   ticked-purged : queueAt (tickedRecord p) (roleAt p priorRole) ≡ emptyQueue
   unfolding tickedRecord
@@ -162,13 +219,15 @@ module _ (p : List ℕ) (whole : Whole p) where
       ∙ queue-prior (withQueue p (roleAt p priorRole) emptyQueue) (roleAt p currentRole) q
       ∙ other-queue p (roleAt p priorRole) emptyQueue q o
 
-  ticked-stream : (s : ℕ) → s < streamCount → streamAt (tickedRecord p) s ≡ ticked (streamAt p s)
+  ticked-stream : (s : ℕ) → s < streamCount → seen (reservationAt (tickedRecord p) s) ≡ ticked (seen (reservationAt p s))
   unfolding tickedRecord
   ticked-stream s b =
+      let q = withQueue p (roleAt p priorRole) emptyQueue in
       turns-after turned turned-whole streamCount s b (omega arith)
-      ∙ ap ticked
-      (stream-prior (withQueue p (roleAt p priorRole) emptyQueue) (roleAt p currentRole) s
-      ∙ stream-queue p (roleAt p priorRole) emptyQueue s (omega (arith, role-below p priorRole, queues-most p)))
+      ∙ ap (λ (x : Reservation). ticked (seen x))
+      (same-reservation p turned s
+      (stream-prior q (roleAt p currentRole) s ∙ stream-queue p (roleAt p priorRole) emptyQueue s (omega (arith, role-below p priorRole, queues-most p)))
+      (drain-prior q s (roleAt p currentRole) ∙ drain-queue p s (roleAt p priorRole) emptyQueue (omega (arith, role-below p priorRole, queues-most p))))
 
   -- the frames of each role but last are those of the role after it
   ticked-frames : (l : List ℕ) (role : ℕ) → suc role < queuesAt p → inRole (tickedRecord p) l role ≡ inRole p l (suc role)
@@ -181,7 +240,7 @@ module _ (p : List ℕ) (whole : Whole p) where
 
 module _ (all : List Call) (n link : ℕ) (p m k : List ℕ) (v : View) (best : List Marked) (h : Holds all link p m k v best) where
   abbrev tickedView : View
-  tickedView = record { queue = λ role. v .queue (suc role); stream = λ s. tickOf (v .stream s) }
+  tickedView = record { queue = λ role. v .queue (suc role); stream = λ s. ticked (v .stream s) }
 
   whole : Whole p
   whole = fit-record p m (h .fit) .long
@@ -194,13 +253,12 @@ module _ (all : List Call) (n link : ℕ) (p m k : List ℕ) (v : View) (best : 
       (λ (c : suc role < queuesAt p). rw (ticked-frames p whole m role c, ticked-frames p whole k role c) (h .queues (suc role) c))
       (eq-or-lt-of-le b)
 
-  tick-streams : (s : ℕ) → tickOf (v .stream s) ≡ seenAt (tickedRecord p) s
+  tick-streams : (s : ℕ) → ticked (v .stream s) ≡ seenAt (tickedRecord p) s
   tick-streams s =
-      ap tickOf (h .streams s) ∙
+      ap ticked (h .streams s) ∙
       ⊎-elim
-      (λ (above : streamCount ≤ s). ap tickOf (seen-above p s above) ∙ stays-current free (omega arith) ∙ sym (seen-above (tickedRecord p) s above))
-      (λ (b : s < streamCount).
-      ap tickOf (seen-below p s b) ∙ ticked-seen (streamAt p s) ∙ ap seen (sym (ticked-stream p whole s b)) ∙ sym (seen-below (tickedRecord p) s b))
+      (λ (above : streamCount ≤ s). ap ticked (seen-above p s above) ∙ ticked-free ∙ sym (seen-above (tickedRecord p) s above))
+      (λ (b : s < streamCount). ap ticked (seen-below p s b) ∙ sym (ticked-stream p whole s b) ∙ sym (seen-below (tickedRecord p) s b))
       (le-or-lt streamCount s)
 
   tick-waits : queueAt (tickedRecord p) (bestEffortAt p) ≡ queueAt p (bestEffortAt p)
@@ -235,7 +293,7 @@ module _ (all : List Call) (n link : ℕ) (p m k : List ℕ) (v : View) (best : 
         same = refl;
         moved =
             record {
-              keeps = link-kept _ _ (ticked-keeps p whole);
+              keeps = ticked-link p whole;
               streams = tick-streams;
               queues = tick-queues;
               above = λ role b. h .above (suc role) (omega arith);

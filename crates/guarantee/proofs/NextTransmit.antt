@@ -20,6 +20,7 @@ use Rattle.record.specs.Queues.{queuesAt, bestEffortAt}
 use Rattle.record.specs.Head.{waitsAt, queueAt, withQueue}
 use Rattle.record.proofs.QueueLaws.{queues-least, queues-most, queues-queue}
 use Rattle.record.proofs.HeadPairs.{queue-queue, other-queue, prior-queue, stream-queue}
+use Rattle.record.proofs.DrainPairs.{drain-queue}
 use Rattle.record.proofs.KeepLaws.{keeps-queue}
 use Rattle.fitness.proofs.FitLaws.{fit-record}
 use Rattle.steps.specs.Outcome.{outcome}
@@ -39,7 +40,7 @@ use Rattle.guarantee.proofs.Run.{View, sends as sends-frame, idles}
 use Rattle.guarantee.proofs.CallLaws.{not-reserved, none-reserved}
 use Rattle.guarantee.proofs.Tied.{Tied, Oldest, oldest, tied-length}
 use Rattle.guarantee.proofs.BestEffortWritten.{written, written-keeps, written-here, written-stream, written-role}
-use Rattle.guarantee.proofs.Held.{Holds, inRole, role-kept, same-seen}
+use Rattle.guarantee.proofs.Held.{Holds, inRole, same-reservation, role-kept, same-seen}
 use Rattle.guarantee.proofs.Next.{link-kept, Next, unmoved, by-gate}
 
 module _ (all : List Call) (n link : ℕ) (p m k : List ℕ) (v : View) (best : List Marked) (h : Holds all link p m k v best) where
@@ -130,7 +131,7 @@ module _ (all : List Call) (n link : ℕ) (p m k : List ℕ) (v : View) (best : 
           moved =
               record {
                 keeps = link-kept _ _ (keeps-queue p number (sentQueue there) number-below);
-                streams = same-seen p after v (h .streams) (λ i c. stream-queue p number (sentQueue there) i number-below);
+                streams = same-seen p after v (h .streams) (λ i c. same-reservation p after i (stream-queue p number (sentQueue there) i number-below) (drain-queue p i number (sentQueue there) number-below));
                 queues = sent-queues;
                 above = λ j c. sent-else j (λ e. omega arith) ∙ h .above j c;
                 waits = rw (other-queue p number (sentQueue there) (bestEffortAt p) (λ e. omega (arith, role-below p role, queues-most p))) (h .waits);

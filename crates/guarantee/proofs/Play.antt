@@ -17,7 +17,7 @@ use Rattle.steps.specs.Outcome.{Outcome}
 use Rattle.binding.specs.declared.Lookup.{Lookup}
 use Rattle.binding.specs.declared.Lookup.the-variants.{Bound, Unbound}
 use Rattle.binding.specs.Finding.{frameLookup}
-use Rattle.steps.specs.Call.{Call, opening, reserving, arriving, ticking, transmitting, joiningBestEffort, binding, framing}
+use Rattle.steps.specs.Call.{Call, opening, reserving, withdrawing, arriving, ticking, transmitting, joiningBestEffort, binding, framing}
 use Rattle.gates.specs.Becoming.{becoming}
 use Rattle.port.specs.Calls.{called}
 use Rattle.port.specs.Quick.{quicklyCalled}
@@ -36,6 +36,7 @@ use Rattle.guarantee.proofs.Tied.{tied-later}
 use Rattle.guarantee.proofs.Held.{Holds, inRole}
 use Rattle.guarantee.proofs.Next.{Moved, Next}
 use Rattle.guarantee.proofs.NextReserve.{next-reserve, next-open}
+use Rattle.guarantee.proofs.NextWithdraw.{next-withdraw}
 use Rattle.guarantee.proofs.NextBestEffort.{next-best-effort}
 use Rattle.guarantee.proofs.NextBind.{next-bind}
 use Rattle.guarantee.proofs.NextFrame.{next-refused-frame}
@@ -159,6 +160,9 @@ module _ (earlier : List Call) (link : ℕ) (p m k : List ℕ) (v : View) where
     next-call (reserving s permitted) =
         no-sender (reserving s permitted) _ _ _ refl
         (next-reserve (withCall earlier (reserving s permitted)) (length earlier) link p m k v best (held (reserving s permitted)) s permitted)
+    next-call (withdrawing s) =
+        no-sender (withdrawing s) _ _ _ refl
+        (next-withdraw (withCall earlier (withdrawing s)) (length earlier) link p m k v best (held (withdrawing s)) s)
     next-call (arriving s charge tag) = next-arriving s charge tag
     next-call ticking = no-sender ticking _ _ _ refl (next-tick (withCall earlier ticking) (length earlier) link p m k v best (held ticking))
     next-call transmitting = sender transmitting _ _ (next-transmit earlier (length earlier) link p m k v best h first)

@@ -16,14 +16,14 @@ use Rattle.stream.specs.State.{currentPlace, StreamFit}
 use Rattle.stream.specs.Steps.{arriveOf}
 use Rattle.stream.specs.Replies.{granted}
 use Rattle.stream.proofs.FitLaws.{joins-onward}
-use Rattle.port_laws.specs.Counting.{Action, toArrive, toReserve}
+use Rattle.port_laws.specs.Counting.{Action, toArrive, toReserve, toWithdraw}
 use Rattle.ranges.specs.Ranges.{leastCharge}
 use Rattle.guarantee.specs.Events.{Marked, Sent, reservedSent, none, isTransmit, Event, action}
 use Rattle.guarantee.specs.Claims.{isTick, Tick, NoTick, reservedCharge, reservedOctets, Idle, Linked, LinkCondition, PurgesNothing}
 use Rattle.lists.proofs.TurnLaws.{sumOf-snoc}
 use Rattle.lists.proofs.EachLaws.{differ, some-not-none, all-snoc, some-snoc}
 use Rattle.guarantee.proofs.CallLaws.{quiet-no-tick, quiet-no-transmit}
-use Rattle.guarantee.proofs.Run.{View, octets, queueAfter, Ticks, Effect, quiet, refuses-reservation, reserves, refuses-arrival, arrives, ticks, sends, idles, Run}
+use Rattle.guarantee.proofs.Run.{View, octets, queueAfter, Ticks, Effect, quiet, refuses-reservation, reserves, refuses-withdrawal, withdraws, refuses-arrival, arrives, ticks, sends, idles, Run}
 use Rattle.guarantee.proofs.Room.{Charged, Sound, octets-most, few-octets, stays-sound}
 
 -- no frame joins prior
@@ -50,13 +50,14 @@ kept-leaves v w t c same nothing other =
 
 leaves : (last share n : ℕ) (v w : View) (r : Reply) (t : Sent) (c : Action) → Effect last share n v w r t c → Sound last share v → isTick c ≡ false → Leaves v w t c
 leaves last share n v w r t c (quiet q e queues streams) h no-tick = kept-leaves v w t c (queues 0) e (quiet-no-transmit c q)
-leaves last share n v w r t c (refuses-reservation {s = s} {permitted = p} not-granted e queues streams) h no-tick =
-    kept-leaves v w t (toReserve s p) (queues 0) e refl
+leaves last share n v w r t c (refuses-reservation {s = s} {permitted = p} e d) h no-tick = kept-leaves v w t (toReserve s p) (d .queues 0) e refl
 leaves last share n v w r t c (reserves {s = s} {permitted = p} e d) h no-tick = kept-leaves v w t (toReserve s p) (d .queues 0) e refl
+leaves last share n v w r t c (refuses-withdrawal {s = s} e d) h no-tick = kept-leaves v w t (toWithdraw s) (d .queues 0) e refl
+leaves last share n v w r t c (withdraws {s = s} e d) h no-tick = kept-leaves v w t (toWithdraw s) (d .queues 0) e refl
 leaves last share n v w r t c (refuses-arrival {s = s} {charge = a} {tag = tag} e d) h no-tick =
     kept-leaves v w t (toArrive s a tag) (d .queues 0) e refl
 leaves last share n v w r t c (arrives {s = s} {charge = a} {tag = tag} e d) h no-tick =
-    kept-leaves v w t (toArrive s a tag) (d .queues 0 ∙ prior-keeps last (v .stream s) a _ (v .queue 0) (h .fit s)) e refl
+    kept-leaves v w t (toArrive s a tag) (d .queues 0 ∙ prior-keeps last (v .stream s .stream) a _ (v .queue 0) (h .fit s)) e refl
 leaves last share n v w r t c (ticks e d) h no-tick = differ no-tick
 leaves last share n v w r t c (sends zero f fs d) h no-tick =
     record {
@@ -74,8 +75,10 @@ leaves last share n v w r t c (idles e i queues streams) h no-tick =
 -- a tick purges what is in prior
 pub tick-effect : (last share n : ℕ) (v w : View) (r : Reply) (t : Sent) (c : Action) → Effect last share n v w r t c → isTick c ≡ true → Ticks v w r
 tick-effect last share n v w r t c (quiet q e queues streams) tick = differ (sym tick ∙ quiet-no-tick c q)
-tick-effect last share n v w r t c (refuses-reservation not-granted e queues streams) tick = differ (sym tick)
+tick-effect last share n v w r t c (refuses-reservation e d) tick = differ (sym tick)
 tick-effect last share n v w r t c (reserves e d) tick = differ (sym tick)
+tick-effect last share n v w r t c (refuses-withdrawal e d) tick = differ (sym tick)
+tick-effect last share n v w r t c (withdraws e d) tick = differ (sym tick)
 tick-effect last share n v w r t c (refuses-arrival e d) tick = differ (sym tick)
 tick-effect last share n v w r t c (arrives e d) tick = differ (sym tick)
 tick-effect last share n v w r t c (ticks e d) tick = d

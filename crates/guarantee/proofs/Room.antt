@@ -10,23 +10,23 @@ use Rattle.lists.specs.Each.{All}
 use Rattle.lists.specs.Turns.{sumTo}
 use Rattle.lists.proofs.TurnLaws.{sumTo-same, sumTo-le, sumTo-change, sumOf-snoc}
 use Rattle.lists.proofs.Order.{eq-or-not}
-use Rattle.stream.specs.declared.Stream.{Stream}
 use Rattle.stream.specs.declared.Reply.{Reply}
 use Rattle.stream.specs.declared.Arrival.{Arrival}
 use Rattle.stream.specs.declared.Arrival.the-variants.{Joined, Discarded}
 use Rattle.stream.specs.State.{currentPlace, reserveOf, StreamFit}
-use Rattle.stream.specs.Steps.{arriveOf, tickOf}
+use Rattle.stream.specs.Steps.{arriveOf}
 use Rattle.stream.specs.Replies.{streamOf}
 use Rattle.stream.specs.Alone.{octetsAt}
-use Rattle.stream.proofs.FitLaws.{fit-arrive, fit-tick, fit-reserve, permitted-arrive, permitted-tick}
-use Rattle.stream.proofs.Used.{used, used-most, used-arrive, used-tick}
+use Rattle.stream.proofs.FitLaws.{fit-arrive, fit-reserve, permitted-arrive}
+use Rattle.stream.proofs.Used.{used-arrive}
 use Rattle.record.specs.Layout.{streamCount}
 use Rattle.ranges.specs.Ranges.{leastCharge, greatestCharge}
 use Rattle.ranges.proofs.RangeLaws.{within-bounds}
 use Rattle.port_laws.specs.Counting.{Action}
 use Rattle.guarantee.specs.Events.{Marked, Sent}
 use Rattle.lists.proofs.EachLaws.{all-snoc}
-use Rattle.guarantee.proofs.Run.{View, free, octets, permittedOf, SameQueues, SameStreams, OneQueue, OneStream, queueAfter, Effect, quiet, refuses-reservation, reserves, refuses-arrival, arrives, ticks, sends, idles}
+use Rattle.guarantee.proofs.Reservation.{Reservation, keeping, free, withdrawn, fit-ticked, permitted-ticked, usedBy, used-keeping, used-by-most, used-withdrawn, used-nearer}
+use Rattle.guarantee.proofs.Run.{View, octets, permittedOf, SameQueues, SameStreams, OneQueue, OneStream, queueAfter, Effect, quiet, refuses-reservation, reserves, refuses-withdrawal, withdraws, refuses-arrival, arrives, ticks, sends, idles}
 
 -- a frame's charge is at least the least charge
 abbrev pub Charged : Marked → Type 0
@@ -34,11 +34,11 @@ Charged f = leastCharge ≤ f .charge
 
 -- what the streams have used of the queue in role k
 abbrev pub usedOf : View → ℕ → ℕ
-usedOf v k = sumTo (λ s. used k (v .stream s)) streamCount
+usedOf v k = sumTo (λ s. usedBy k (v .stream s)) streamCount
 
 -- what holds of a port from its opening on
 pub record Sound (last share : ℕ) (v : View) : Type 0 where
-  pub fit : (s : ℕ) → StreamFit last (v .stream s)
+  pub fit : (s : ℕ) → StreamFit last (v .stream s .stream)
   pub within-share : permittedOf v ≤ share
   pub room : (k : ℕ) → octets (v .queue k) ≤ usedOf v k
   pub charged : (k : ℕ) → All Charged (v .queue k)
@@ -46,7 +46,7 @@ pub record Sound (last share : ℕ) (v : View) : Type 0 where
 -- the octets in a queue are at most the share
 pub octets-most : (last share : ℕ) (v : View) → Sound last share v → (k : ℕ) → octets (v .queue k) ≤ share
 octets-most last share v h k =
-    omega (arith, h .room k, h .within-share, sumTo-le (λ s. used k (v .stream s)) (λ s. v .stream s .permitted) streamCount (λ s. used-most k (v .stream s)))
+    omega (arith, h .room k, h .within-share, sumTo-le (λ s. usedBy k (v .stream s)) (λ s. v .stream s .stream .permitted) streamCount (λ s. used-by-most k (v .stream s)))
 
 -- so many frames are at least so many least charges
 pub charged-length : (fs : List Marked) → All Charged fs → leastCharge * length fs ≤ octets fs
@@ -79,8 +79,8 @@ module _ (last share : ℕ) (v w : View) (h : Sound last share v) where
   -- where the streams are as they were, and no queue has more in it
   shorter-sound : SameStreams v w → ((k : ℕ) → octets (w .queue k) ≤ octets (v .queue k)) → ((k : ℕ) → All Charged (w .queue k)) → Sound last share w
   shorter-sound streams less charged =
-      let permitted : permittedOf w ≡ permittedOf v = sumTo-same _ _ streamCount (λ s b. ap (λ (x : Stream). x .permitted) (streams s)) in
-      let same : (k : ℕ) → usedOf w k ≡ usedOf v k = λ k. sumTo-same _ _ streamCount (λ s b. ap (used k) (streams s)) in
+      let permitted : permittedOf w ≡ permittedOf v = sumTo-same _ _ streamCount (λ s b. ap (λ (x : Reservation). x .stream .permitted) (streams s)) in
+      let same : (k : ℕ) → usedOf w k ≡ usedOf v k = λ k. sumTo-same _ _ streamCount (λ s b. ap (usedBy k) (streams s)) in
       record {
         fit = λ s. rw (streams s) (h .fit s);
         within-share = omega (arith, permitted, h .within-share);
@@ -108,14 +108,14 @@ module _ (last share : ℕ) (v w : View) (h : Sound last share v) where
       (eq-or-not j k))
 
   -- where one stream changes, and what joins each queue it has used
-  module _ (s : ℕ) (x : Stream) (below : s < streamCount) (one : OneStream v w s x) (fits : StreamFit last x) where
-    sum-change : (g : Stream → ℕ) → sumTo (λ i. g (w .stream i)) streamCount + g (v .stream s) ≡ sumTo (λ i. g (v .stream i)) streamCount + g x
+  module _ (s : ℕ) (x : Reservation) (below : s < streamCount) (one : OneStream v w s x) (fits : StreamFit last (x .stream)) where
+    sum-change : (g : Reservation → ℕ) → sumTo (λ i. g (w .stream i)) streamCount + g (v .stream s) ≡ sumTo (λ i. g (v .stream i)) streamCount + g x
     sum-change g =
         sumTo-change (λ i. g (w .stream i)) (λ i. g (v .stream i)) streamCount s below (λ i o. ap g (one .1 i o))
-        ∙ ap (λ (y : Stream). sumTo (λ i. g (v .stream i)) streamCount + g y) (one .0)
+        ∙ ap (λ (y : Reservation). sumTo (λ i. g (v .stream i)) streamCount + g y) (one .0)
 
-    changed-sound : permittedOf v + x .permitted ≤ share + v .stream s .permitted
-        → ((k : ℕ) → octets (w .queue k) + used k (v .stream s) ≤ octets (v .queue k) + used k x)
+    changed-sound : permittedOf v + x .stream .permitted ≤ share + v .stream s .stream .permitted
+        → ((k : ℕ) → octets (w .queue k) + usedBy k (v .stream s) ≤ octets (v .queue k) + usedBy k x)
         → ((k : ℕ) → All Charged (w .queue k))
         → Sound last share w
     changed-sound permitted more charged =
@@ -125,44 +125,54 @@ module _ (last share : ℕ) (v w : View) (h : Sound last share v) where
               (λ (e : r ≡ s). rw (e, one .0) fits)
               (λ (o : r ≡ s → ⊥). rw (one .1 r o) (h .fit r))
               (eq-or-not r s);
-          within-share = omega (arith, permitted, sum-change (λ y. y .permitted));
-          room = λ k. omega (arith, more k, h .room k, sum-change (used k));
+          within-share = omega (arith, permitted, sum-change (λ y. y .stream .permitted));
+          room = λ k. omega (arith, more k, h .room k, sum-change (usedBy k));
           charged = charged;
         }
-
--- a tick brings each queue a place nearer, and a stream has used no less of it
-used-nearer : (last k : ℕ) (x : Stream) → StreamFit last x → used (suc k) x ≤ used k (tickOf x)
-used-nearer last k x f = let one-less : suc k - 1 ≡ k = omega arith in rw one-less at (used-tick last (suc k) x f)
 
 -- a call leaves a sound port sound
 pub stays-sound : (last share n : ℕ) (v w : View) (r : Reply) (t : Sent) (c : Action) → currentPlace ≤ last → Effect last share n v w r t c
     → Sound last share v → Sound last share w
 stays-sound last share n v w r t c some (quiet q e queues streams) h = same-sound last share v w h queues streams
-stays-sound last share n v w r t c some (refuses-reservation not-granted e queues streams) h = same-sound last share v w h queues streams
+stays-sound last share n v w r t c some (refuses-reservation e d) h = same-sound last share v w h (d .queues) (d .streams)
 stays-sound last share n v w r t c some (reserves {s = s} {permitted = p} e d) h =
-    changed-sound last share v w h s (reserveOf p) (d .below) (d .streams) (fit-reserve last p some)
+    changed-sound last share v w h s (keeping (reserveOf p)) (d .below) (d .streams) (fit-reserve last p some)
     (rw (d .was-free) (omega (arith, d .within-share)))
-    (λ k. rw (d .queues k, d .was-free) (omega (arith, used-most k free)))
+    (λ k. rw (d .queues k, d .was-free) (omega (arith, used-by-most k free)))
+    (λ k. rw (d .queues k) (h .charged k))
+stays-sound last share n v w r t c some (refuses-withdrawal e d) h = same-sound last share v w h (d .queues) (d .streams)
+stays-sound last share n v w r t c some (withdraws {s = s} e d) h =
+    let x = v .stream s in
+    changed-sound last share v w h s (withdrawn (last + 1) x) (d .below) (d .streams) (h .fit s)
+    (omega (arith, h .within-share))
+    (λ k. rw (d .queues k) (omega (arith, used-withdrawn last k x (h .fit s) (d .keeps))))
     (λ k. rw (d .queues k) (h .charged k))
 stays-sound last share n v w r t c some (refuses-arrival e d) h = same-sound last share v w h (d .queues) (d .streams)
 stays-sound last share n v w r t c some (arrives {s = s} {charge = a} {tag = tag} e d) h =
-    let x = v .stream s in
+    let x = v .stream s .stream in
     let f : Marked = record { stream = s; charge = a; tag = tag; number = n } in
-    changed-sound last share v w h s (streamOf (arriveOf last x a)) (d .below) (d .streams) (fit-arrive last x a (h .fit s))
+    changed-sound last share v w h s (keeping (streamOf (arriveOf last x a))) (d .below) (d .streams) (fit-arrive last x a (h .fit s))
     (omega (arith, permitted-arrive last x a, h .within-share))
-    (λ k. rw (d .queues k) (omega (arith, after-octets k f (arriveOf last x a) (v .queue k), used-arrive last k x a (h .fit s))))
+    (λ k. rw (d .queues k)
+    (omega (
+      arith,
+      after-octets k f (arriveOf last x a) (v .queue k),
+      used-keeping k (v .stream s) (d .keeps),
+      used-keeping k (keeping (streamOf (arriveOf last x a))) refl,
+      used-arrive last k x a (h .fit s),
+    )))
     (λ k. rw (d .queues k) (after-charged k f (arriveOf last x a) (v .queue k) (h .charged k) (within-bounds leastCharge greatestCharge a (d .fits) .0)))
 stays-sound last share n v w r t c some (ticks e d) h =
-    let permitted : permittedOf w ≡ permittedOf v =
-    sumTo-same _ _ streamCount (λ s b. ap (λ (x : Stream). x .permitted) (d .streams s) ∙ permitted-tick (v .stream s)) in
+    let permitted : permittedOf w ≤ permittedOf v =
+    sumTo-le (λ s. w .stream s .stream .permitted) (λ s. v .stream s .stream .permitted) streamCount (λ s. rw (d .streams s) (permitted-ticked (v .stream s))) in
     record {
-      fit = λ s. rw (d .streams s) (fit-tick last (v .stream s) (h .fit s));
+      fit = λ s. rw (d .streams s) (fit-ticked (v .stream s) last some (h .fit s));
       within-share = omega (arith, permitted, h .within-share);
       room = λ k. rw (d .queues k)
           (omega (
             arith,
             h .room (suc k),
-            sumTo-le (λ s. used (suc k) (v .stream s)) (λ s. used k (w .stream s)) streamCount
+            sumTo-le (λ s. usedBy (suc k) (v .stream s)) (λ s. usedBy k (w .stream s)) streamCount
                 (λ s. rw (d .streams s) (used-nearer last k (v .stream s) (h .fit s))),
           ));
       charged = λ k. rw (d .queues k) (h .charged (suc k));

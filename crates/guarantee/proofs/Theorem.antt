@@ -15,7 +15,6 @@ use Rattle.queue.proofs.WaitingLaws.{empty-waits}
 use Rattle.record.specs.Layout.{Whole, streamCount}
 use Rattle.record.specs.Queues.{queuesAt, lastPlaceAt, bestEffortAt, HasMemory}
 use Rattle.record.specs.Head.{queueAt}
-use Rattle.record.specs.Entry.{streamAt}
 use Rattle.record.proofs.QueueLaws.{queues-least, queues-same}
 use Rattle.ranges.specs.Ranges.{leastCharge, shareOf}
 use Rattle.fitness.specs.Fit.{recordFits, lentRefusal}
@@ -36,15 +35,18 @@ use Rattle.guarantee.specs.Events.{reservedSent, bestEffortSent, Made, m
 use Rattle.guarantee.specs.Claims.{LinkCondition}
 use Rattle.guarantee.specs.Demand3.{CallList, queuesIn, eventsIn, LinkHolds, Promised, Demand3}
 use Rattle.guarantee.specs.Beyond.{SentByReply, RepliedAlone}
-use Rattle.guarantee.proofs.Run.{View, free, octets, quiet, Run}
+use Rattle.guarantee.specs.Withdrawal.{WithdrawalHolds}
+use Rattle.guarantee.proofs.Reservation.{free}
+use Rattle.guarantee.proofs.Run.{View, octets, quiet, Run}
 use Rattle.guarantee.proofs.Room.{Sound}
 use Rattle.guarantee.proofs.Purge.{no-purge}
 use Rattle.guarantee.proofs.Delay.{sent-by-reply, all-sent}
 use Rattle.guarantee.proofs.Conforming.{prompt}
 use Rattle.guarantee.proofs.OwnRun.{replied-alone}
 use Rattle.guarantee.proofs.Alone.{alike}
+use Rattle.guarantee.proofs.Draining.{withdrawal-holds}
 use Rattle.guarantee.proofs.Tied.{tied-empty}
-use Rattle.guarantee.proofs.Held.{Holds, seenAt, seen-below, seen-above, seen-free}
+use Rattle.guarantee.proofs.Held.{Holds, reservationAt, seenAt, seen-below, seen-above, seen-free}
 use Rattle.guarantee.proofs.Play.{Plays, one, plays, quick-plays}
 
 -- a port as Open leaves it: no frame waits, no stream is reserved
@@ -112,7 +114,7 @@ module _ (p m : List ℕ) (t : Terms) (is : called (opening t) p m .reply .refus
       seen-opened s =
           ⊎-elim
           (λ (above : streamCount ≤ s). seen-above after s above)
-          (λ (b : s < streamCount). seen-below after s b ∙ seen-free (streamAt after s) (opened-stream p t whole s b))
+          (λ (b : s < streamCount). seen-below after s b ∙ seen-free (reservationAt after s) (opened-stream p t whole s b))
           (le-or-lt streamCount s)
 
 -- the events after the Open, from the port that it leaves
@@ -197,6 +199,12 @@ sent-as-replied l link =
 -- and to a stream's own offers a port replies what the stream replies by itself
 pub replied-as-alone : (l : CallList) → RepliedAlone (queuesIn l - 1) (eventsIn l)
 replied-as-alone l = replied-alone (last l) (shareOf (l .terms .link)) emptyView (eventsIn l) (omega (arith, queues-least (l .port))) (run l) (opened-sound l)
+
+-- and a withdrawn stream drains until the tick whose number is that of the queues, and its number is free from that tick on
+pub withdrawals : (l : CallList) → WithdrawalHolds (queuesIn l) (eventsIn l)
+withdrawals l =
+    subst (λ (queues : ℕ). WithdrawalHolds queues (eventsIn l)) (omega (arith, queues-least (l .port)))
+    (withdrawal-holds (last l) (shareOf (l .terms .link)) emptyView (eventsIn l) (omega (arith, queues-least (l .port))) (run l) (opened-sound l))
 
 -- the quick calls, which do not scan the record, are these calls in every such list
 pub quick-events : (l : CallList) → events quicklyCalled (opening (l .terms) ∷ l .later) (l .port) (l .memory) ≡ eventsIn l

@@ -3,11 +3,12 @@ use Prim.Native.Nat.{ℕ, _+_}
 use mathlib.Core.Path.{_≡_}
 use mathlib.Core.List.{List, _∷_, _++_}
 use lib.ListN.{length}
+use Rattle.lists.specs.Each.{All}
 use Rattle.stream.specs.State.{reserveOf}
 use Rattle.stream.specs.Alone.{replies}
 use Rattle.steps.specs.Call.{reserving, arriving}
 use Rattle.guarantee.specs.Events.{Event}
-use Rattle.guarantee.specs.Claims.{SentBefore}
+use Rattle.guarantee.specs.Claims.{SentBefore, Stays}
 use Rattle.guarantee.specs.Own.{own, ownReplies}
 
 -- a frame whose reply names queue k is sent before tick k + 1 after it
@@ -17,10 +18,10 @@ SentByReply es =
     → e .call ≡ arriving s charge tag → e .reply .refusal ≡ 0
     → SentBefore (e .reply .first + 1) (record { stream = s; charge = charge; tag = tag; number = length before }) after
 
--- with or without the link condition, the replies to a stream's own offers, from its grant on, are those of the stream by itself, in a port with this last
--- place: nothing that is sent on other streams is in them
+-- with or without the link condition, the replies to a stream's own offers, from its grant to its withdrawal, are those of the stream by itself, in a port
+-- with this last place: nothing that is sent on other streams is in them
 abbrev pub RepliedAlone : ℕ → List Event → Type 0
 RepliedAlone last es =
-    (s permitted : ℕ) (before after : List Event) (g : Event) → es ≡ before ++ (g ∷ after)
-    → g .call ≡ reserving s permitted → g .reply .refusal ≡ 0
-    → ownReplies s after ≡ replies last (reserveOf permitted) (own s after)
+    (s permitted : ℕ) (before while rest : List Event) (g : Event) → es ≡ before ++ (g ∷ (while ++ rest))
+    → g .call ≡ reserving s permitted → g .reply .refusal ≡ 0 → All (Stays s) while
+    → ownReplies s while ≡ replies last (reserveOf permitted) (own s while)

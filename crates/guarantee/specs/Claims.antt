@@ -14,7 +14,7 @@ use Rattle.stream.specs.State.{currentPlace}
 use Rattle.sending.specs.Sending.{nothing}
 use Rattle.ranges.specs.Ranges.{chargeFits}
 use Rattle.steps.specs.Call.{Call, reserving, arriving}
-use Rattle.port_laws.specs.Counting.{Action, toTick, toTransmit, toReserve, toArrive, toBestEffort, toFrame, neither}
+use Rattle.port_laws.specs.Counting.{Action, toTick, toTransmit, toReserve, toWithdraw, toArrive, toBestEffort, toFrame, neither}
 use Rattle.guarantee.specs.Events.{Marked, Sent, reservedSent, bestEffortSent, none, isTransmit, Made, Event, action}
 
 -- whether an action is a Tick, and how many of the events are
@@ -22,6 +22,7 @@ abbrev pub isTick : Action → Bool
 isTick toTick = true
 isTick toTransmit = false
 isTick (toReserve r permitted) = false
+isTick (toWithdraw r) = false
 isTick (toArrive r charge tag) = false
 isTick (toBestEffort charge tag) = false
 isTick (toFrame octets tag) = false
@@ -107,6 +108,7 @@ abbrev pub isOfferOf : ℕ → Action → Bool
 isOfferOf s toTick = false
 isOfferOf s toTransmit = false
 isOfferOf s (toReserve r permitted) = false
+isOfferOf s (toWithdraw r) = false
 isOfferOf s (toArrive r charge tag) = eqb r s && chargeFits charge
 isOfferOf s (toBestEffort charge tag) = false
 isOfferOf s (toFrame octets tag) = false
@@ -117,6 +119,7 @@ abbrev pub offer : ℕ → Action → ℕ
 offer s toTick = 0
 offer s toTransmit = 0
 offer s (toReserve r permitted) = 0
+offer s (toWithdraw r) = 0
 offer s (toArrive r charge tag) = cond (isOfferOf s (toArrive r charge tag)) charge 0
 offer s (toBestEffort charge tag) = 0
 offer s (toFrame octets tag) = 0
@@ -139,21 +142,37 @@ OffersWithin s permitted es =
 abbrev pub Prompt : Marked → Event → List Event → Type 0
 Prompt f e after = (e .reply .refusal ≡ 0) × ((e .reply .first ≡ currentPlace) × SentBefore 2 f after)
 
--- the stream's offers are within P from its grant on for as long as `while` lasts, and each frame that it offers meanwhile is prompt; a stream that
--- never offers more is the case of an empty `rest`
+-- whether an action is a withdrawal of the stream, and an event that is none which is granted
+abbrev pub isWithdrawOf : ℕ → Action → Bool
+isWithdrawOf s toTick = false
+isWithdrawOf s toTransmit = false
+isWithdrawOf s (toReserve r permitted) = false
+isWithdrawOf s (toWithdraw r) = eqb r s
+isWithdrawOf s (toArrive r charge tag) = false
+isWithdrawOf s (toBestEffort charge tag) = false
+isWithdrawOf s (toFrame octets tag) = false
+isWithdrawOf s neither = false
+
+abbrev pub Stays : ℕ → Event → Type 0
+Stays s e = isWithdrawOf s (action e) ≡ true → e .reply .refusal ≡ 0 → ⊥
+
+-- the stream's offers are within P from its grant on for as long as `while` lasts, in which it is not withdrawn: "its 'each frame' runs from a grant to
+-- the withdrawal"; each frame that it offers meanwhile is prompt, also where its second tick comes after the withdrawal. A stream that never offers more
+-- and is never withdrawn is the case of an empty `rest`
 abbrev pub ConformingPrompt : List Event → Type 0
 ConformingPrompt es =
     (s permitted : ℕ) (before while rest : List Event) (g : Event) → es ≡ before ++ (g ∷ (while ++ rest))
-    → g .call ≡ reserving s permitted → g .reply .refusal ≡ 0 → OffersWithin s permitted while
+    → g .call ≡ reserving s permitted → g .reply .refusal ≡ 0 → OffersWithin s permitted while → All (Stays s) while
     → (earlier later : List Event) (e : Event) (charge tag : ℕ) → while ≡ earlier ++ (e ∷ later)
     → e .call ≡ arriving s charge tag → chargeFits charge ≡ true
     → Prompt (record { stream = s; charge = charge; tag = tag; number = length before + 1 + length earlier }) e (later ++ rest)
 
--- "A stream's own calls are the Reserves and Arrives that name it"
+-- "A stream's own calls are the Reserves and Arrives that name it", and its withdrawals: lists have "withdrawals in [them] and a stream's own calls"
 abbrev pub isReserveOf : ℕ → Action → Bool
 isReserveOf s toTick = false
 isReserveOf s toTransmit = false
 isReserveOf s (toReserve r permitted) = eqb r s
+isReserveOf s (toWithdraw r) = false
 isReserveOf s (toArrive r charge tag) = false
 isReserveOf s (toBestEffort charge tag) = false
 isReserveOf s (toFrame octets tag) = false
@@ -163,15 +182,19 @@ abbrev pub isArriveOf : ℕ → Action → Bool
 isArriveOf s toTick = false
 isArriveOf s toTransmit = false
 isArriveOf s (toReserve r permitted) = false
+isArriveOf s (toWithdraw r) = false
 isArriveOf s (toArrive r charge tag) = eqb r s
 isArriveOf s (toBestEffort charge tag) = false
 isArriveOf s (toFrame octets tag) = false
 isArriveOf s neither = false
 
+abbrev pub isOwnOf : ℕ → Action → Bool
+isOwnOf s c = isReserveOf s c || (isWithdrawOf s c || isArriveOf s c)
+
 -- the ticks and the stream's own calls, "once all others are struck out"
 abbrev pub remaining : ℕ → List Event → List Call
 remaining s [] = []
-remaining s (e ∷ es) = cond (isTick (action e) || (isReserveOf s (action e) || isArriveOf s (action e))) (e .call ∷ remaining s es) (remaining s es)
+remaining s (e ∷ es) = cond (isTick (action e) || isOwnOf s (action e)) (e .call ∷ remaining s es) (remaining s es)
 
 -- "which of its reservations are granted"
 abbrev pub grants : ℕ → List Event → List Bool

@@ -7,7 +7,7 @@ use Rattle.stream.specs.declared.Reply.{Reply}
 use Rattle.queue.specs.Place.{bestEffortStream}
 use Rattle.steps.specs.Call.{Call, arriving, ticking, joiningBestEffort, framing}
 use Rattle.steps.specs.Outcome.{Outcome}
-use Rattle.port_laws.specs.Counting.{Action, toTick, toTransmit, toReserve, toArrive, toBestEffort, toFrame, neither, actionOf, countsAs}
+use Rattle.port_laws.specs.Counting.{Action, toTick, toTransmit, toReserve, toWithdraw, toArrive, toBestEffort, toFrame, neither, actionOf, countsAs}
 
 -- a frame, "marked with its call's number in the list, so equal tags do no harm"
 pub record Marked : Type 0 where
@@ -27,6 +27,7 @@ abbrev pub markedBy : ℕ → Call → Action → Call
 markedBy n c toTick = c
 markedBy n c toTransmit = c
 markedBy n c (toReserve s permitted) = c
+markedBy n c (toWithdraw s) = c
 markedBy n c (toArrive s charge tag) = arriving s charge n
 markedBy n c (toBestEffort charge tag) = joiningBestEffort charge n
 markedBy n c (toFrame octets tag) = framing octets n
@@ -56,6 +57,7 @@ abbrev pub broughtBy : ℕ → Action → Sent
 broughtBy n toTick = none
 broughtBy n toTransmit = none
 broughtBy n (toReserve s permitted) = none
+broughtBy n (toWithdraw s) = none
 broughtBy n (toArrive s charge tag) = reservedSent (record { stream = s; charge = charge; tag = tag; number = n })
 broughtBy n (toBestEffort charge tag) = bestEffortSent (record { stream = bestEffortStream; charge = charge; tag = tag; number = n })
 broughtBy n (toFrame octets tag) = none
@@ -66,6 +68,7 @@ abbrev pub isTransmit : Action → Bool
 isTransmit toTick = false
 isTransmit toTransmit = true
 isTransmit (toReserve s permitted) = false
+isTransmit (toWithdraw s) = false
 isTransmit (toArrive s charge tag) = false
 isTransmit (toBestEffort charge tag) = false
 isTransmit (toFrame octets tag) = false

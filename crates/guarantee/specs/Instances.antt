@@ -1,15 +1,17 @@
 -- Events and calls, written out: no port is run on them. They show what the definitions of the claims count (`ClaimCases`), and that a wrong claim is
 -- false.
-use Prim.Native.Nat.{ℕ}
-use mathlib.Core.List.{List, [], _∷_}
+use Prim.Native.Nat.{ℕ, _≤_}
+use mathlib.Core.List.{List, [], _∷_, _++_}
+use native.Mathlib.Omega.{arith}
 use lib.ListN.{getD}
 use Rattle.stream.specs.declared.Reply.{Reply}
 use Rattle.stream.specs.Replies.{granted, refusedBy}
 use Rattle.stream.specs.Alone.{StreamEvent, arrival, tick}
-use Rattle.steps.specs.Call.{Call, reserving, arriving, ticking, transmitting, joiningBestEffort}
+use Rattle.steps.specs.Call.{Call, reserving, withdrawing, arriving, ticking, transmitting, joiningBestEffort}
 use Rattle.steps.specs.Outcome.{Outcome, outcome}
-use Rattle.port_laws.specs.Counting.{Action, toTick, toTransmit, toReserve, toArrive, toBestEffort, toFrame, neither, actionOf}
+use Rattle.port_laws.specs.Counting.{Action, toTick, toTransmit, toReserve, toWithdraw, toArrive, toBestEffort, toFrame, neither, actionOf}
 use Rattle.guarantee.specs.Events.{Marked, Sent, reservedSent, bestEffortSent, none, Made, Event}
+use Rattle.guarantee.specs.Claims.{offers}
 
 -- an event that sends nothing, the frame of a call, and a transmit that sends something, as it is replied, and as it is replied where each tag is its
 -- call's number
@@ -92,6 +94,54 @@ denied = replied (reserving 5 200) (refusedBy 8) ∷ replied (arriving 5 120 7) 
 abbrev pub tooSmall : Event
 tooSmall = replied (arriving 5 83 7) (refusedBy 13)
 
+-- a withdrawal that is granted,
+-- one that is refused since the stream drains,
+-- and one of another stream
+abbrev pub withdrawalOf5 : Event
+withdrawalOf5 = replied (withdrawing 5) (granted 0 0)
+
+abbrev pub withdrawalRefused : Event
+withdrawalRefused = replied (withdrawing 5) (refusedBy 25)
+
+abbrev pub withdrawalOf6 : Event
+withdrawalOf6 = replied (withdrawing 6) (granted 0 0)
+
+-- an arrival on a stream that drains,
+-- and one on a stream that is not reserved
+abbrev pub drainingArrival : Event
+drainingArrival = replied (arriving 5 120 7) (refusedBy 25)
+
+abbrev pub freeArrival : Event
+freeArrival = replied (arriving 5 120 7) (refusedBy 12)
+
+-- a grant, and an arrival after the withdrawal:
+-- what follows that,
+-- and all of it
+abbrev pub afterGrant : List Event
+afterGrant = withdrawalOf5 ∷ drainingArrival ∷ []
+
+abbrev pub withdrawnSoon : List Event
+withdrawnSoon = grantOf5 ∷ afterGrant
+
+-- a withdrawal after which the stream's arrival is accepted, before any tick,
+-- one after which it drains, after one tick,
+-- and one after which it does not, after one tick
+abbrev pub acceptedStill : List Event
+acceptedStill = withdrawalOf5 ∷ joinsCurrent ∷ []
+
+abbrev pub drainingYet : List Event
+drainingYet = withdrawalOf5 ∷ quietTick ∷ drainingArrival ∷ []
+
+abbrev pub freeSoon : List Event
+freeSoon = withdrawalOf5 ∷ quietTick ∷ freeArrival ∷ []
+
+-- a part of a list offers no more
+-- than the whole list
+pub part-offers : (s : ℕ) (before between after : List Event) → offers s between ≤ offers s (before ++ (between ++ after))
+part-offers s [] [] after = omega arith
+part-offers s [] (e ∷ between) after = omega (arith, part-offers s [] between after)
+part-offers s (e ∷ before) between after = omega (arith, part-offers s before between after)
+
 -- calls of others: a reservation that is refused, an arrival,
 -- and a frame of best effort
 abbrev pub refusalOf6 : Event
@@ -114,7 +164,7 @@ sendsNothing = sentEvent none (granted 254 0) (granted 254 0)
 -- events of every sort,
 -- in some order
 abbrev pub mixed : List Event
-mixed = grantOf5 ∷ joinsCurrent ∷ refusalOf6 ∷ joinsNext ∷ joinsOther ∷ joinsBestEffort ∷ quietTick ∷ sendsReserved ∷ sendsBestEffort ∷ sendsNothing ∷ discardedArrival ∷ []
+mixed = grantOf5 ∷ joinsCurrent ∷ refusalOf6 ∷ joinsNext ∷ joinsOther ∷ joinsBestEffort ∷ quietTick ∷ sendsReserved ∷ sendsBestEffort ∷ sendsNothing ∷ discardedArrival ∷ withdrawalOf5 ∷ []
 
 -- the tag of a call that brings a frame,
 -- and 0 of any other
@@ -122,6 +172,7 @@ abbrev pub tagOf : Action → ℕ
 tagOf toTick = 0
 tagOf toTransmit = 0
 tagOf (toReserve s permitted) = 0
+tagOf (toWithdraw s) = 0
 tagOf (toArrive s charge tag) = tag
 tagOf (toBestEffort charge tag) = tag
 tagOf (toFrame octets tag) = tag

@@ -4,4 +4,5 @@ pub mod Claims
 pub mod Demand3
 pub mod Own
 pub mod Beyond
+pub mod Withdrawal
 pub mod Instances

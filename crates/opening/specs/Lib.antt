@@ -1,2 +1,3 @@
--- The steps of Open(L, K) and Reserve(s, P): document 01, "Steps".
+-- The steps of Open(L, K), Reserve(s, P) and Withdraw(s): document 01, "Steps", and document 02, CR 1.
 pub mod Opening
+pub mod Withdrawing

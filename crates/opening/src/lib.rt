@@ -1,4 +1,4 @@
-// The steps of Open and Reserve, in the octets that the host lends. The definitions are in specs/.
+// The steps of Open, Reserve and Withdraw, in the octets that the host lends. The definitions are in specs/.
 use queue::Queue;
 use stream::Reply;
 use stream::Stream;
@@ -9,6 +9,7 @@ ghost use Rattle.record.specs.Layout.{Whole, streamCount};
 ghost use Rattle.ranges.specs.Ranges.{shareOf};
 ghost use Rattle.steps.specs.Call.{terms};
 ghost use Rattle.opening.specs.Opening.{openedHead, allEmptied, allDropped, openedRecord, freeShare, reservedRecord};
+ghost use Rattle.opening.specs.Withdrawing.{withdrawnRecord};
 
 // Writes the head of an open port.
 fn open_head(port: &mut [u8], link: u16, delay: u8)
@@ -78,4 +79,14 @@ pub fn reserve(port: &mut [u8], stream: u8, permitted: u16) -> Reply
 {
     record::entry::put_stream(port, stream, Stream::reserve(permitted));
     steps::granted(free_share(port), 0)
+}
+
+// Withdraw(s).
+pub fn withdraw(port: &mut [u8], stream: u8) -> Reply
+    requires { ⌜ Whole (now port) × (stream < streamCount) ⌝ }
+    ensures { λ r. ⌜ (r ≡ granted 0 0) × (now (port .exit) ≡ withdrawnRecord (now (port .entry)) stream) ⌝ }
+{
+    let queues = record::head::queues(port);
+    record::entry::put_drain(port, stream, queues);
+    steps::granted(0, 0)
 }

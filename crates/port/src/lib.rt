@@ -1,5 +1,5 @@
-// The calls of a port, over the record and the memory that the host lends: Open, Reserve, Arrive, Tick, Transmit, Best effort, Bind and
-// Frame, each with all of document 01's checks. None asks anything of its caller. The definitions are in specs/.
+// The calls of a port, over the record and the memory that the host lends: Open, Reserve, Withdraw, Arrive, Tick, Transmit, Best effort, Bind
+// and Frame, each with all of its checks. None asks anything of its caller. The definitions are in specs/.
 pub mod quick;
 
 use stream::Reply;
@@ -7,12 +7,13 @@ ghost use mathlib.Core.Path.{_≡_};
 ghost use Rattle.steps.specs.Call.{terms};
 ghost use Rattle.steps.specs.Outcome.{outcome};
 ghost use Rattle.opening.specs.Opening.{openStep, reserveStep};
+ghost use Rattle.opening.specs.Withdrawing.{withdrawStep};
 ghost use Rattle.arriving.specs.Arriving.{arriveStep};
 ghost use Rattle.ticking.specs.Ticking.{tickStep};
 ghost use Rattle.sending.specs.Sending.{transmitStep};
 ghost use Rattle.best_effort.specs.BestEffort.{bestEffortStep};
 ghost use Rattle.binding.specs.Binding.{bindStep};
-ghost use Rattle.gates.specs.Refusals.{openRefusal, reserveRefusal, arriveRefusal, closedRefusal, bestEffortRefusal};
+ghost use Rattle.gates.specs.Refusals.{openRefusal, reserveRefusal, withdrawRefusal, arriveRefusal, closedRefusal, bestEffortRefusal};
 ghost use Rattle.gates.specs.FrameRefusals.{bindRefusal, frameRefusal};
 ghost use Rattle.gates.specs.Becoming.{frameStep};
 ghost use Rattle.port.specs.Calls.{checked};
@@ -37,6 +38,17 @@ pub fn reserve(port: &mut [u8], memory: &[u8], stream: u8, permitted: u32) -> Re
         return steps::refused(refusal);
     }
     gates::reserve(port, memory, stream, permitted)
+}
+
+// Withdraw(s).
+pub fn withdraw(port: &mut [u8], memory: &[u8], stream: u8) -> Reply
+    ensures { λ r. ⌜ outcome r (now (port .exit)) (now (memory .entry)) ≡ checked (λ p. withdrawRefusal p stream) (λ p m. withdrawStep p m stream) (now (port .entry)) (now (memory .entry)) ⌝ }
+{
+    let refusal = fitness::refusal(port, memory);
+    if refusal != 0 {
+        return steps::refused(refusal);
+    }
+    gates::withdraw(port, memory, stream)
 }
 
 // Arrive(s, a, tag).

@@ -4,12 +4,13 @@ ghost use mathlib.Core.Path.{_≡_};
 ghost use Rattle.steps.specs.Call.{terms};
 ghost use Rattle.steps.specs.Outcome.{outcome};
 ghost use Rattle.opening.specs.Opening.{openStep, reserveStep};
+ghost use Rattle.opening.specs.Withdrawing.{withdrawStep};
 ghost use Rattle.arriving.specs.Arriving.{arriveStep};
 ghost use Rattle.ticking.specs.Ticking.{tickStep};
 ghost use Rattle.sending.specs.Sending.{transmitStep};
 ghost use Rattle.best_effort.specs.BestEffort.{bestEffortStep};
 ghost use Rattle.binding.specs.Binding.{bindStep};
-ghost use Rattle.gates.specs.Refusals.{openRefusal, reserveRefusal, arriveRefusal, closedRefusal, bestEffortRefusal};
+ghost use Rattle.gates.specs.Refusals.{openRefusal, reserveRefusal, withdrawRefusal, arriveRefusal, closedRefusal, bestEffortRefusal};
 ghost use Rattle.gates.specs.FrameRefusals.{bindRefusal, frameRefusal};
 ghost use Rattle.gates.specs.Becoming.{frameStep};
 ghost use Rattle.port.specs.Quick.{lengthRefusal, unscanned};
@@ -47,6 +48,17 @@ pub fn reserve(port: &mut [u8], memory: &[u8], stream: u8, permitted: u32) -> Re
         return steps::refused(refusal);
     }
     gates::reserve(port, memory, stream, permitted)
+}
+
+// Withdraw(s).
+pub fn withdraw(port: &mut [u8], memory: &[u8], stream: u8) -> Reply
+    ensures { λ r. ⌜ outcome r (now (port .exit)) (now (memory .entry)) ≡ unscanned (λ p. withdrawRefusal p stream) (λ p m. withdrawStep p m stream) (now (port .entry)) (now (memory .entry)) ⌝ }
+{
+    let refusal = lengths(port, memory);
+    if refusal != 0 {
+        return steps::refused(refusal);
+    }
+    gates::withdraw(port, memory, stream)
 }
 
 // Arrive(s, a, tag).

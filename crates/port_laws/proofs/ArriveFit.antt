@@ -21,7 +21,7 @@ use Rattle.queue.proofs.WaitingLaws.{joins-elsewhere}
 use Rattle.record.specs.Layout.{streamCount}
 use Rattle.record.specs.Queues.{queuesAt, lastPlaceAt, bestEffortAt, HasMemory}
 use Rattle.record.specs.Head.{queueAt}
-use Rattle.record.specs.Entry.{streamAt}
+use Rattle.record.specs.Entry.{streamAt, drainAt}
 use Rattle.record.proofs.KeepLaws.{keeps-place}
 use Rattle.ranges.specs.Ranges.{chargeFits}
 use Rattle.fitness.specs.Clauses.{frameFits}
@@ -70,5 +70,6 @@ arrive-fits p m s a tag room h b reserved charge =
     record-fit (arriveStep p m s a tag .port) (arriveStep p m s a tag .memory)
     (arrived-fits p m fit room (record { stream = s; charge = a; tag = tag }) b charge s (replyOf r) r
     (fits-moved p m fit s (streamOf r)
-    (λ c. fit-arrive (lastPlaceAt p) (streamAt p s) a (stream-fit (lastPlaceAt p) (streamAt p s) reserved (fit .streams s b)))
+    (λ c. fit-arrive (lastPlaceAt p) (streamAt p s) a (stream-fit (lastPlaceAt p) (streamAt p s) (drainAt p s) reserved (fit .streams s b)))
+    reserved
     (permitted-arrive (lastPlaceAt p) (streamAt p s) a)))

@@ -13,6 +13,7 @@ use Rattle.record.specs.Queues.{bestEffortAt}
 use Rattle.record.specs.Entry.{streamAt, boundAt, vidAt, addressAt, samePair, withBinding}
 use Rattle.record.proofs.QueueLaws.{queues-most, queues-binding}
 use Rattle.record.proofs.BindingPairs.{length-binding, open-binding, prior-binding, delay-binding, link-binding, waits-binding, queue-binding, stream-binding, bound-binding, vid-binding, address-binding, other-bound-binding, other-vid-binding, other-address-binding}
+use Rattle.record.proofs.DrainPairs.{drain-binding}
 use Rattle.record.proofs.PairLaws.{pair-back}
 use Rattle.ranges.specs.Ranges.{vidFits}
 use Rattle.fitness.specs.Clauses.{bindingFits, unlikeEarlier}
@@ -28,7 +29,7 @@ another true same e = ap not e
 another false same e = refl
 
 -- a binding is fit where its stream is not bound, and where it is and fits
-if-bound : (bound reserved vid unlike : Bool) → (bound ≡ true → (reserved && vid && unlike) ≡ true) → cond bound (reserved && vid && unlike) true ≡ true
+pub if-bound : (bound reserved vid unlike : Bool) → (bound ≡ true → (reserved && vid && unlike) ≡ true) → cond bound (reserved && vid && unlike) true ≡ true
 if-bound true reserved vid unlike h = h refl
 if-bound false reserved vid unlike h = refl
 
@@ -98,7 +99,7 @@ bind-fits p m s address vid h below reserved range free =
       long = omega (arith, length-binding p s address vid, fit .long);
       prior = omega (arith, prior-binding p s address vid, same, fit .prior);
       queues = λ q c. rw (queue-binding p s address vid q (omega (arith, queues-most k))) (fit .queues q (omega (arith, same)));
-      streams = λ t c. rw (same, stream-binding p s address vid t) (fit .streams t c);
+      streams = λ t c. rw (same, stream-binding p s address vid t, drain-binding p s t address vid) (fit .streams t c);
       bindings = bindings-fit p m fit s address vid below free reserved range;
       frames = λ q c. rw (same, queue-binding p s address vid q (omega (arith, queues-most k))) (fit .frames q (omega (arith, same)));
       waits = rw (same, waits-binding p s address vid, queue-binding p s address vid (bestEffortAt p) (omega (arith, queues-most p))) (fit .waits);

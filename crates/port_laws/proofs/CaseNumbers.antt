@@ -13,7 +13,7 @@ use Rattle.stream.specs.Replies.{refusedBy}
 use Rattle.stream.specs.Alone.{StreamEvent, arrival, tick, replies}
 use Rattle.ranges.specs.Ranges.{shareOf}
 use Rattle.header.specs.Header.{chargeOf}
-use Rattle.steps.specs.Call.{Call, opening, reserving, arriving, ticking, transmitting, joiningBestEffort, binding, framing}
+use Rattle.steps.specs.Call.{Call, opening, reserving, withdrawing, arriving, ticking, transmitting, joiningBestEffort, binding, framing}
 use Rattle.port_laws.specs.Cases.{Case, c1, c2, c4, c5, sample, c7, c8, c9, c10, c12, caseTagged, framesCase}
 
 -- the reply that is expected to call number n of a case, and the rule's reply to arrival number n of a stream with P = 200
@@ -27,6 +27,7 @@ byRule es n = getD (replies (leastQueues - 1) (reserveOf 200) es) n (refusedBy 9
 abbrev tagOf : Call → ℕ
 tagOf (opening t) = 0
 tagOf (reserving s permitted) = 0
+tagOf (withdrawing s) = 0
 tagOf (arriving s charge tag) = tag
 tagOf ticking = 0
 tagOf transmitting = 0

@@ -10,16 +10,16 @@ use Rattle.queue.specs.Ring.{joinedMemory, frontOf}
 use Rattle.queue.specs.Waiting.{waiting}
 use Rattle.record.specs.Queues.{queuesAt}
 use Rattle.record.specs.Head.{openAt, withOpen, priorAt, withPrior, delayAt, withDelay, linkAt, withLink, waitsAt, withWaits, queueAt, withQueue}
-use Rattle.record.specs.Entry.{streamAt, withStream, withPlace, boundAt, vidAt, dropped}
+use Rattle.record.specs.Entry.{streamAt, withStream, withPlace, drainAt, withDrain, drainsAt, boundAt, vidAt, dropped}
 use Rattle.fitness.specs.Fit.{recordFits, lentRefusal}
 use Rattle.steps.specs.Roles.{roleAt}
 use Rattle.opening.specs.Opening.{openedRecord}
 use Rattle.arriving.specs.Arriving.{arriveStep}
-use Rattle.ticking.specs.Ticking.{tickedRecord, tickStep}
+use Rattle.ticking.specs.Ticking.{drainedAt, tickedRecord, tickStep}
 use Rattle.sending.specs.Sending.{transmitStep}
 use Rattle.best_effort.specs.BestEffort.{bestEffortStep}
 use Rattle.gates.specs.Refusals.{openRefusal, reserveRefusal, arriveRefusal, closedRefusal, bestEffortRefusal}
 
 pub cases-hold : map repliesTo cases ≡ map (λ c. c .expected) cases
-unfolding allTo sumTo listTo iterate twoOf fourOf attempt arriveOf tickOf frameAt withFrame joinedMemory frontOf waiting openAt withOpen priorAt withPrior delayAt withDelay linkAt withLink waitsAt withWaits queueAt queuesAt withQueue streamAt withStream withPlace boundAt vidAt dropped recordFits lentRefusal roleAt openedRecord arriveStep tickedRecord tickStep transmitStep bestEffortStep openRefusal reserveRefusal arriveRefusal closedRefusal bestEffortRefusal
+unfolding allTo sumTo listTo iterate twoOf fourOf attempt arriveOf tickOf frameAt withFrame joinedMemory frontOf waiting openAt withOpen priorAt withPrior delayAt withDelay linkAt withLink waitsAt withWaits queueAt queuesAt withQueue streamAt withStream withPlace drainAt withDrain drainsAt boundAt vidAt dropped recordFits lentRefusal roleAt openedRecord arriveStep drainedAt tickedRecord tickStep transmitStep bestEffortStep openRefusal reserveRefusal arriveRefusal closedRefusal bestEffortRefusal
 cases-hold = refl

@@ -13,10 +13,10 @@ use Rattle.record.specs.Head.{openAt}
 use Rattle.record.specs.Entry.{boundAt, vidAt, addressAt, withBinding}
 use Rattle.header.specs.Header.{chargeOf, lengthFits, taggedFrame, vidOf}
 use Rattle.binding.specs.Finding.{lookupFrom, lookup, frameLookup}
-use Rattle.steps.specs.Call.{terms, Call, opening, reserving, arriving, ticking, transmitting, joiningBestEffort, binding, framing}
+use Rattle.steps.specs.Call.{terms, Call, opening, reserving, withdrawing, arriving, ticking, transmitting, joiningBestEffort, binding, framing}
 use Rattle.steps.specs.Outcome.{Outcome, outcome}
 use Rattle.port_laws.specs.Lists.{replies, freshRecord, freshMemory}
-use Rattle.port_laws.specs.Counting.{Action, toTick, toTransmit, toReserve, toArrive, toBestEffort, toFrame, neither, actionOf, countsAs}
+use Rattle.port_laws.specs.Counting.{Action, toTick, toTransmit, toReserve, toWithdraw, toArrive, toBestEffort, toFrame, neither, actionOf, countsAs}
 use Rattle.port_laws.specs.Cases.{caseAddress, caseTagged}
 
 -- an action's sort as a number, its stream, and its P or charge
@@ -24,6 +24,7 @@ abbrev sortOf : Action → ℕ
 sortOf toTick = 1
 sortOf toTransmit = 2
 sortOf (toReserve s permitted) = 3
+sortOf (toWithdraw s) = 7
 sortOf (toArrive s charge tag) = 4
 sortOf (toBestEffort charge tag) = 5
 sortOf (toFrame octets tag) = 6
@@ -33,6 +34,7 @@ abbrev streamOf : Action → ℕ
 streamOf toTick = 0
 streamOf toTransmit = 0
 streamOf (toReserve s permitted) = s
+streamOf (toWithdraw s) = s
 streamOf (toArrive s charge tag) = s
 streamOf (toBestEffort charge tag) = 0
 streamOf (toFrame octets tag) = 0
@@ -42,6 +44,7 @@ abbrev octetsOf : Action → ℕ
 octetsOf toTick = 0
 octetsOf toTransmit = 0
 octetsOf (toReserve s permitted) = permitted
+octetsOf (toWithdraw s) = 0
 octetsOf (toArrive s charge tag) = charge
 octetsOf (toBestEffort charge tag) = charge
 octetsOf (toFrame octets tag) = length octets
@@ -53,6 +56,12 @@ tick-action = refl
 
 transmit-action : sortOf (actionOf transmitting) ≡ 2
 transmit-action = refl
+
+withdraw-action : sortOf (actionOf (withdrawing 5)) ≡ 7
+withdraw-action = refl
+
+withdraw-stream : streamOf (actionOf (withdrawing 5)) ≡ 5
+withdraw-stream = refl
 
 open-action : sortOf (actionOf (opening (terms 2142 1))) ≡ 0
 open-action = refl

@@ -7,9 +7,9 @@ use Rattle.octets.specs.Numbers.{twoOf, fourOf}
 use Rattle.queue.specs.Waiting.{waiting}
 use Rattle.record.specs.Queues.{queuesAt}
 use Rattle.record.specs.Head.{openAt, priorAt, delayAt, linkAt, waitsAt, queueAt}
-use Rattle.record.specs.Entry.{streamAt, boundAt, vidAt}
+use Rattle.record.specs.Entry.{streamAt, drainAt, boundAt, vidAt}
 use Rattle.fitness.specs.Fit.{recordFits}
 
 pub fresh-fits : recordFits freshRecord freshMemory ≡ true
-unfolding allTo sumTo listTo twoOf fourOf waiting openAt priorAt delayAt linkAt waitsAt queueAt queuesAt streamAt boundAt vidAt recordFits
+unfolding allTo sumTo listTo twoOf fourOf waiting openAt priorAt delayAt linkAt waitsAt queueAt queuesAt streamAt drainAt boundAt vidAt recordFits
 fresh-fits = refl

@@ -11,11 +11,12 @@ use Rattle.queue.specs.Ring.{emptyQueue}
 use Rattle.record.specs.Layout.{Whole, streamCount}
 use Rattle.record.specs.Queues.{queuesAt}
 use Rattle.record.specs.Head.{openAt, withOpen, priorAt, withPrior, delayAt, withDelay, linkAt, withLink, waitsAt, queueAt, withQueue}
-use Rattle.record.specs.Entry.{streamAt, boundAt, dropped}
+use Rattle.record.specs.Entry.{streamAt, drainAt, boundAt, dropped}
 use Rattle.record.proofs.QueueLaws.{queues-most, queues-open, queues-delay, queues-link, queues-queue, queues-dropped}
 use Rattle.record.proofs.HeadPairs.{prior-prior, waits-waits, prior-waits, queue-queue, other-queue, prior-queue, waits-queue}
 use Rattle.record.proofs.KeepLaws.{keeps-prior, keeps-waits}
-use Rattle.record.proofs.OpenPairs.{length-open, open-open, length-delay, delay-delay, open-delay, prior-delay, length-link, link-link, open-link, prior-link, delay-link, length-queue, open-queue, delay-queue, link-queue, length-dropped, open-dropped, prior-dropped, delay-dropped, link-dropped, waits-dropped, queue-dropped, stream-dropped, bound-dropped, other-stream-dropped, other-bound-dropped}
+use Rattle.record.proofs.OpenPairs.{length-open, open-open, length-delay, delay-delay, open-delay, prior-delay, length-link, link-link, open-link, prior-link, delay-link, length-queue, open-queue, delay-queue, link-queue}
+use Rattle.record.proofs.DropPairs.{length-dropped, open-dropped, prior-dropped, delay-dropped, link-dropped, waits-dropped, queue-dropped, stream-dropped, drain-dropped, bound-dropped, other-stream-dropped, other-drain-dropped, other-bound-dropped}
 use Rattle.record.specs.Reservations.{permittedOf, permittedSum}
 use Rattle.steps.specs.Call.{Terms}
 use Rattle.opening.specs.Opening.{openedHead, allEmptied, allDropped, openedRecord}
@@ -84,19 +85,21 @@ emptied l q b whole =
     (λ r i k h g w c. other-queue k i emptyQueue r (λ e. omega arith) ∙ g (omega (arith, length-queue k i emptyQueue, w)) c)
     q b whole b
 
--- and after each turn of dropping, its stream is neither reserved nor bound
+-- and after each turn of dropping, its stream is neither reserved nor bound, and its draining is ended
 abbrev Free : ℕ → List ℕ → Type 0
-Free s l = Whole l → s < streamCount → (streamAt l s .reserved ≡ false) × (boundAt l s ≡ false)
+Free s l = Whole l → s < streamCount → (streamAt l s .reserved ≡ false) × ((boundAt l s ≡ false) × (drainAt l s ≡ 0))
 
 freed : (l : List ℕ) (s : ℕ) → s < streamCount → Free s (allDropped l)
 freed l s b =
     iterate-each Free (λ t k. dropped k t) streamCount l
     (λ t k w c.
     let whole : Whole k = omega (arith, length-dropped k t, w) in
-    (stream-dropped k t whole c, bound-dropped k t whole c))
+    (stream-dropped k t whole c, (bound-dropped k t whole c, drain-dropped k t whole c)))
     (λ t i k h g w c.
-    let free = g (omega (arith, length-dropped k i, w)) c in
-    (ap (λ (x : Stream). x .reserved) (other-stream-dropped k i t (λ e. omega arith)) ∙ free .0, other-bound-dropped k i t (λ e. omega arith) ∙ free .1))
+    let free = g (omega (arith, length-dropped k i, w)) c in (
+      ap (λ (x : Stream). x .reserved) (other-stream-dropped k i t (λ e. omega arith)) ∙ free .0,
+      (other-bound-dropped k i t (λ e. omega arith) ∙ free .1 .0, other-drain-dropped k i t (λ e. omega arith) ∙ free .1 .1),
+    ))
     s b
 
 module _ (p : List ℕ) (t : Terms) (h : Whole p) where
@@ -146,7 +149,12 @@ module _ (p : List ℕ) (t : Terms) (h : Whole p) where
 
   pub opened-bound : (s : ℕ) → s < streamCount → boundAt (openedRecord p t) s ≡ false
   unfolding openedRecord
-  opened-bound s b = freed (allEmptied (openedHead p t)) s b opened-whole b .1
+  opened-bound s b = freed (allEmptied (openedHead p t)) s b opened-whole b .1 .0
+
+  -- "Open ends all draining"
+  pub opened-drain : (s : ℕ) → s < streamCount → drainAt (openedRecord p t) s ≡ 0
+  unfolding openedRecord
+  opened-drain s b = freed (allEmptied (openedHead p t)) s b opened-whole b .1 .1
 
   -- so R is 0
   pub opened-sum : permittedSum (openedRecord p t) ≡ 0

@@ -2,18 +2,21 @@
 use Prim.Native.Nat.{ℕ, _+_, _≤_, _<_}
 use mathlib.Core.Path.{_≡_, refl, ap, _∙_}
 use mathlib.Core.Bool.{Bool, true, false, cond}
+use mathlib.Core.Logic.{⊎-elim}
 use mathlib.Core.List.{List}
 use native.Mathlib.Omega.{arith}
+use Rattle.lists.proofs.Order.{eq-or-not}
 use Rattle.lists.proofs.TurnLaws.{sumTo-change}
 use Rattle.stream.specs.State.{reserveOf}
 use Rattle.stream.proofs.FitLaws.{fit-reserve}
 use Rattle.record.specs.Layout.{Whole, streamCount}
 use Rattle.record.specs.Queues.{lastPlaceAt, bestEffortAt}
 use Rattle.record.specs.Head.{openAt, linkAt}
-use Rattle.record.specs.Entry.{streamAt}
+use Rattle.record.specs.Entry.{streamAt, drainAt}
 use Rattle.record.proofs.QueueLaws.{queues-least, queues-most}
 use Rattle.record.proofs.EntryPairs.{stream-stream, other-stream, stream-cases, prior-stream, waits-stream, queue-stream}
 use Rattle.record.proofs.KeepLaws.{keeps-stream}
+use Rattle.record.proofs.DrainPairs.{drain-stream, other-drain-stream}
 use Rattle.ranges.specs.Ranges.{shareOf, linkFits, delayFits, permittedFits}
 use Rattle.record.specs.Reservations.{permittedOf, permittedSum}
 use Rattle.fitness.specs.Clauses.{streamFits, reservationFits}
@@ -59,12 +62,20 @@ reserve-fits p m s permitted h opened b free least share =
     let k = reservedRecord p s permitted in
     let keeps = keeps-stream p s x in
     let same = keeps .queues in
+    let stream-fits : (t : ℕ) → t < streamCount → streamFits (lastPlaceAt p) (streamAt k t) (drainAt k t) ≡ true =
+    λ t c.
+    ⊎-elim
+    (λ (e : t ≡ s).
+    rw (e, stream-stream p s x (fit .long) b, drain-stream p s x (fit .long) b)
+    (fit-stream (lastPlaceAt p) x 0 (fit-reserve (lastPlaceAt p) permitted (omega (arith, queues-least p))) (omega arith)))
+    (λ (o : t ≡ s → ⊥). rw (other-stream p s x t o, other-drain-stream p s x t o) (fit .streams t c))
+    (eq-or-not t s) in
     record-fit k m
     (record {
       long = omega (arith, keeps .long, fit .long);
       prior = omega (arith, prior-stream p s x, same, fit .prior);
       queues = λ q c. rw (queue-stream p s x q (omega (arith, queues-most k))) (fit .queues q (omega (arith, same)));
-      streams = λ t c. rw same (stream-cases p s x (λ y. streamFits (lastPlaceAt p) y ≡ true) t (fit .long) c (λ e. fit-stream (lastPlaceAt p) x (fit-reserve (lastPlaceAt p) permitted (omega (arith, queues-least p)))) (λ o. fit .streams t c));
+      streams = λ t c. rw same (stream-fits t c);
       bindings = bindings-stay p k m fit keeps (λ t c r. stream-cases p s x (λ y. y .reserved ≡ true) t (fit .long) c (λ e. refl) (λ o. r));
       frames = λ q c. rw (same, queue-stream p s x q (omega (arith, queues-most k))) (fit .frames q (omega (arith, same)));
       waits = rw (same, waits-stream p s x, queue-stream p s x (bestEffortAt p) (omega (arith, queues-most p))) (fit .waits);

@@ -1,5 +1,5 @@
 -- No call changes the length of its record or memory. Assumes nothing.
-use Prim.Native.Nat.{ℕ, _+_}
+use Prim.Native.Nat.{ℕ, _+_, _-_}
 use mathlib.Core.Path.{_≡_, refl, _∙_}
 use mathlib.Core.Bool.{Bool, true, false, cond}
 use mathlib.Core.List.{List}
@@ -10,20 +10,21 @@ use Rattle.stream.specs.declared.Reply.{Reply}
 use Rattle.stream.specs.declared.Arrival.{Arrival}
 use Rattle.stream.specs.declared.Arrival.the-variants.{Joined, Discarded}
 use Rattle.stream.specs.State.{reserveOf}
-use Rattle.stream.specs.Steps.{arriveOf, tickOf}
+use Rattle.stream.specs.Steps.{arriveOf}
 use Rattle.stream.specs.Replies.{replyOf}
 use Rattle.queue.specs.declared.Frame.{Frame}
 use Rattle.queue.specs.Ring.{placeCount, joinedQueue, sentQueue, emptyQueue}
 use Rattle.queue.proofs.WaitingLaws.{joins-length}
 use Rattle.record.specs.Layout.{streamCount}
-use Rattle.record.specs.Queues.{lastPlaceAt, bestEffortAt}
+use Rattle.record.specs.Queues.{queuesAt, lastPlaceAt, bestEffortAt}
 use Rattle.record.specs.Head.{waitsAt, queueAt, withPrior, withQueue}
-use Rattle.record.specs.Entry.{streamAt}
-use Rattle.record.proofs.KeepLaws.{keeps-prior, keeps-waits, keeps-place, keeps-stream}
+use Rattle.record.specs.Entry.{streamAt, drainAt}
+use Rattle.record.proofs.KeepLaws.{keeps-prior, keeps-waits, keeps-place, keeps-stream, keeps-drain}
+use Rattle.record.proofs.DropPairs.{length-dropped}
 use Rattle.record.proofs.OpenPairs.{length-queue}
 use Rattle.record.proofs.BindingPairs.{length-binding}
 use Rattle.fitness.specs.Fit.{lentRefusal}
-use Rattle.steps.specs.Call.{Call, opening, reserving, arriving, ticking, transmitting, joiningBestEffort, binding, framing}
+use Rattle.steps.specs.Call.{Call, opening, reserving, withdrawing, arriving, ticking, transmitting, joiningBestEffort, binding, framing}
 use Rattle.steps.specs.Outcome.{Outcome, refused}
 use Rattle.steps.specs.Roles.{roleAt, priorRole, currentRole}
 use Rattle.steps.specs.Moves.{moved}
@@ -40,19 +41,21 @@ use Rattle.gates.specs.Becoming.{becomes}
 use Rattle.gates.specs.Table.{refusalOf, stepOf}
 use Rattle.port.specs.Calls.{called}
 use Rattle.port_laws.proofs.OpenLaws.{length-opened}
+use Rattle.port_laws.proofs.TurnKeeps.{ticked-keeps}
 
 -- what is true of both is true of whichever a test chooses
-either : (G : Outcome → Type 0) (b : Bool) (x y : Outcome) → G x → G y → G (cond b x y)
+pub either : (G : Outcome → Type 0) (b : Bool) (x y : Outcome) → G x → G y → G (cond b x y)
 either G true x y g h = g
 either G false x y g h = h
 
 -- a stream's tick
 ticked-length : (s : ℕ) (l : List ℕ) → length (tickedAt s l) ≡ length l
-ticked-length s l = told (streamAt l s .reserved)
-  where
-    told : (b : Bool) → length (cond b (moved l s (tickOf (streamAt l s))) l) ≡ length l
-    told true = keeps-place l s _ _ .long
-    told false = refl
+ticked-length s l =
+    ticked-keeps (λ k. length k ≡ length l) s
+    (λ k e. length-dropped k s ∙ e)
+    (λ k e. keeps-drain k s (drainAt k s - 1) .long ∙ e)
+    (λ k place left e. keeps-place k s place left .long ∙ e)
+    l refl
 
 module _ (p m : List ℕ) where
   -- record and memory are as long as p and m
@@ -109,6 +112,7 @@ module _ (p m : List ℕ) where
   step-length : (c : Call) → AsLong (stepOf c p m)
   step-length (opening t) = (length-opened p t, refl)
   step-length (reserving s permitted) = (keeps-stream p s (reserveOf permitted) .long, refl)
+  step-length (withdrawing s) = (keeps-drain p s (queuesAt p) .long, refl)
   step-length (arriving s charge tag) = arrive-length s charge tag
   step-length ticking = tick-length
   step-length transmitting = transmit-length

@@ -8,7 +8,7 @@ use Rattle.lists.proofs.Order.{eq-or-not}
 use Rattle.record.specs.Queues.{HasMemory}
 use Rattle.fitness.specs.Fit.{recordFits, lentRefusal}
 use Rattle.fitness.proofs.FitLaws.{fit-record, lent-fit}
-use Rattle.steps.specs.Call.{Terms, Call, opening, reserving, arriving, ticking, transmitting, joiningBestEffort, binding, framing}
+use Rattle.steps.specs.Call.{Terms, Call, opening, reserving, withdrawing, arriving, ticking, transmitting, joiningBestEffort, binding, framing}
 use Rattle.steps.specs.Outcome.{Outcome, gated, performed}
 use Rattle.steps.proofs.OutcomeLaws.{grants, refuses, let-through}
 use Rattle.opening.specs.Opening.{openStep}
@@ -22,7 +22,7 @@ use Rattle.binding.specs.Finding.{frameLookup}
 use Rattle.gates.specs.Refusals.{openRefusal, arriveRefusal, bestEffortRefusal}
 use Rattle.gates.specs.Becoming.{becomes}
 use Rattle.gates.specs.Table.{refusalOf, stepOf}
-use Rattle.gates.proofs.GateLaws.{open-allowed, reserve-allowed, arrive-allowed, best-effort-allowed}
+use Rattle.gates.proofs.GateLaws.{open-allowed, reserve-allowed, withdraw-allowed, arrive-allowed, best-effort-allowed}
 use Rattle.gates.proofs.FrameGateLaws.{bind-allowed}
 use Rattle.port.specs.Calls.{called}
 use Rattle.port.specs.Quick.{lengthRefusal, quicklyCalled}
@@ -30,6 +30,7 @@ use Rattle.port.proofs.LengthLaws.{long-enough}
 use Rattle.port_laws.specs.Lists.{replies}
 use Rattle.port_laws.proofs.OpenFit.{open-fits}
 use Rattle.port_laws.proofs.ReserveFit.{reserve-fits}
+use Rattle.port_laws.proofs.WithdrawFit.{withdraw-fits}
 use Rattle.port_laws.proofs.ArriveFit.{arrive-fits}
 use Rattle.port_laws.proofs.TickFit.{tick-fits}
 use Rattle.port_laws.proofs.SendFit.{transmit-fits}
@@ -68,6 +69,7 @@ module _ (p m : List ℕ) (fit : recordFits p m ≡ true) (room : HasMemory p m)
   step-fits (reserving s permitted) e =
       let a = reserve-allowed p s permitted e in
       reserve-fits p m s permitted fit (a .opened) (a .stream) (a .free) (a .permitted-fits) (a .share)
+  step-fits (withdrawing s) e = withdraw-fits p m s fit (withdraw-allowed p s e .reserved)
   step-fits (arriving s charge tag) e = arrived-fits s charge tag e
   step-fits ticking e = tick-fits p m fit
   step-fits transmitting e = transmit-fits p m fit

@@ -1,5 +1,5 @@
 -- A tick keeps a record fit. Assumes nothing.
-use Prim.Native.Nat.{ℕ}
+use Prim.Native.Nat.{ℕ, _-_}
 use mathlib.Core.Path.{_≡_, refl, ap}
 use mathlib.Core.Bool.{Bool, true, false, cond}
 use mathlib.Core.List.{List}
@@ -13,27 +13,38 @@ use Rattle.queue.proofs.WaitingLaws.{empty-waits}
 use Rattle.record.specs.Layout.{streamCount}
 use Rattle.record.specs.Queues.{lastPlaceAt, bestEffortAt}
 use Rattle.record.specs.Head.{withPrior, withQueue}
-use Rattle.record.specs.Entry.{streamAt}
+use Rattle.record.specs.Entry.{streamAt, drainAt}
 use Rattle.record.proofs.QueueLaws.{queues-queue}
 use Rattle.fitness.specs.Clauses.{frameFits}
 use Rattle.fitness.specs.Fit.{recordFits}
 use Rattle.fitness.proofs.FitLaws.{Fit, fit-record, record-fit}
-use Rattle.fitness.proofs.TestLaws.{stream-fit}
+use Rattle.fitness.proofs.TestLaws.{stream-fit, lower-fits}
 use Rattle.steps.specs.Roles.{roleAt, priorRole, currentRole}
 use Rattle.steps.specs.Moves.{moved}
-use Rattle.ticking.specs.Ticking.{tickedAt, tickedRecord}
+use Rattle.ticking.specs.Ticking.{drainedAt, tickedAt, tickedRecord}
 use Rattle.steps.proofs.RoleLaws.{role-below}
-use Rattle.port_laws.proofs.WriteFit.{fits-prior, fits-moved, fits-queue}
+use Rattle.port_laws.proofs.WriteFit.{fits-prior, fits-moved, fits-drain, fits-queue}
+use Rattle.port_laws.proofs.DropFit.{fits-dropped}
+use Rattle.port_laws.proofs.TurnKeeps.{drained-keeps}
+
+-- a stream that drains, if it does
+drained-fits : (m : List ℕ) (s : ℕ) (l : List ℕ) → Fit l m → Fit (drainedAt s l) m
+drained-fits m s =
+    drained-keeps (λ l. Fit l m) s
+    (λ l fit. fits-dropped l m fit s)
+    (λ l fit. fits-drain l m fit s (drainAt l s - 1) (λ b. lower-fits (lastPlaceAt l) (streamAt l s) (drainAt l s) (drainAt l s - 1) (omega arith) (fit .streams s b)))
 
 -- one stream's tick
 ticked-fits : (m : List ℕ) (s : ℕ) (l : List ℕ) → Fit l m → Fit (tickedAt s l) m
 ticked-fits m s l fit = told (streamAt l s .reserved) refl
   where
-    told : (b : Bool) → streamAt l s .reserved ≡ b → Fit (cond b (moved l s (tickOf (streamAt l s))) l) m
+    told : (b : Bool) → streamAt l s .reserved ≡ b → Fit (cond b (drainedAt s (moved l s (tickOf (streamAt l s)))) l) m
     told true e =
-        fits-moved l m fit s (tickOf (streamAt l s))
-        (λ b. fit-tick (lastPlaceAt l) (streamAt l s) (stream-fit (lastPlaceAt l) (streamAt l s) e (fit .streams s b)))
-        (permitted-tick (streamAt l s))
+        drained-fits m s (moved l s (tickOf (streamAt l s)))
+        (fits-moved l m fit s (tickOf (streamAt l s))
+        (λ b. fit-tick (lastPlaceAt l) (streamAt l s) (stream-fit (lastPlaceAt l) (streamAt l s) (drainAt l s) e (fit .streams s b)))
+        e
+        (permitted-tick (streamAt l s)))
     told false e = fit
 
 -- the purge, the roles, and every stream

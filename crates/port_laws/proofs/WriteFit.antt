@@ -1,5 +1,5 @@
 -- A fit record stays fit where a field of it is written with what is fit there. Assumes nothing.
-use Prim.Native.Nat.{ℕ, _+_, _<_}
+use Prim.Native.Nat.{ℕ, _+_, _≤_, _<_}
 use mathlib.Core.Path.{_≡_, refl, sym, ap, ap₂, _∙_}
 use mathlib.Core.Bool.{Bool, true, false, _&&_, cond}
 use mathlib.Core.List.{List}
@@ -17,16 +17,17 @@ use Rattle.queue.proofs.WaitingLaws.{joins}
 use Rattle.record.specs.Layout.{streamCount}
 use Rattle.record.specs.Queues.{queuesAt, lastPlaceAt, bestEffortAt, HasMemory}
 use Rattle.record.specs.Head.{openAt, priorAt, withPrior, delayAt, linkAt, waitsAt, withWaits, queueAt, withQueue}
-use Rattle.record.specs.Entry.{streamAt, withPlace, boundAt, vidAt}
+use Rattle.record.specs.Entry.{streamAt, withPlace, drainAt, withDrain, boundAt, vidAt}
 use Rattle.record.proofs.QueueLaws.{queues-most}
 use Rattle.record.proofs.HeadPairs.{prior-prior, waits-prior, queue-prior, stream-prior, waits-waits, prior-waits, queue-waits, stream-waits, queue-queue, other-queue, queue-cases, prior-queue, waits-queue, stream-queue}
 use Rattle.record.proofs.EntryPairs.{place-cases, prior-place, waits-place, queue-place}
-use Rattle.record.proofs.KeepLaws.{Keeps, keeps-both, keeps-prior, keeps-waits, keeps-queue, keeps-place}
+use Rattle.record.proofs.KeepLaws.{Keeps, keeps-both, keeps-prior, keeps-waits, keeps-queue, keeps-place, keeps-drain}
+use Rattle.record.proofs.DrainPairs.{stream-drain, prior-drain, waits-drain, queue-drain, drain-cases, drain-prior, drain-waits, drain-queue, drain-place}
 use Rattle.ranges.specs.Ranges.{vidFits}
 use Rattle.record.specs.Reservations.{permittedOf, permittedSum}
 use Rattle.fitness.specs.Clauses.{queueFits, streamFits, bindingFits, unlikeEarlier, frameFits, reservationFits, openFits}
 use Rattle.fitness.proofs.FitLaws.{Fit}
-use Rattle.fitness.proofs.TestLaws.{queue-bounds, bounds-queue, fit-stream}
+use Rattle.fitness.proofs.TestLaws.{queue-bounds, bounds-queue, drain-fit, fit-stream}
 use Rattle.steps.specs.Moves.{moved}
 
 -- a binding stays fit where its stream is still reserved
@@ -67,10 +68,10 @@ plan-stays p k same opened link delay plan =
     rw (opened, link, delay, each, sum) plan
 
 module _ (p k m n : List ℕ) (fit : Fit p m) (keeps : Keeps p k) (same : SameReservations p k) where
-  -- where the reservations and all that `Keeps` names are kept, fitness is that of prior, the queues, the places and W
+  -- where the reservations and all that `Keeps` names are kept, fitness is that of prior, the queues, the places and counts of the streams, and W
   kept-fits : priorAt k < queuesAt p
       → ((q : ℕ) → q < queuesAt p + 1 → FitQueue (bestEffortAt p) n q (queueAt k q))
-      → ((s : ℕ) → s < streamCount → streamFits (lastPlaceAt p) (streamAt k s) ≡ true)
+      → ((s : ℕ) → s < streamCount → streamFits (lastPlaceAt p) (streamAt k s) (drainAt k s) ≡ true)
       → waitsAt k ≡ chargesOf (waiting n (bestEffortAt p) (queueAt k (bestEffortAt p)))
       → Fit k n
   kept-fits prior queues streams waits =
@@ -92,11 +93,11 @@ module _ (p m : List ℕ) (fit : Fit p m) where
       kept-fits p (withPrior p number) m m fit (keeps-prior p number) (λ s b. same-stream _ _ (stream-prior p number s))
       (omega (arith, prior-prior p number (fit .long)))
       (λ q b. rw (queue-prior p number q) (fit .queues q b, fit .frames q b))
-      (λ s b. rw (stream-prior p number s) (fit .streams s b))
+      (λ s b. rw (stream-prior p number s, drain-prior p s number) (fit .streams s b))
       (rw (waits-prior p number, queue-prior p number (bestEffortAt p)) (fit .waits))
 
   -- a stream's place and left written
-  pub fits-place : (s place left : ℕ) → (s < streamCount → streamFits (lastPlaceAt p) (atPlace (streamAt p s) place left) ≡ true) → Fit (withPlace p s place left) m
+  pub fits-place : (s place left : ℕ) → (s < streamCount → streamFits (lastPlaceAt p) (atPlace (streamAt p s) place left) (drainAt p s) ≡ true) → Fit (withPlace p s place left) m
   fits-place s place left h =
       let k = withPlace p s place left in
       kept-fits p k m m fit (keeps-place p s place left)
@@ -104,16 +105,33 @@ module _ (p m : List ℕ) (fit : Fit p m) where
       (λ x. (x .reserved ≡ streamAt p t .reserved) × (x .permitted ≡ streamAt p t .permitted)) t (fit .long) b (λ e. (refl, refl)) (λ o. (refl, refl)))
       (omega (arith, prior-place p s place left, fit .prior))
       (λ q b. rw (queue-place p s place left q (omega (arith, queues-most p))) (fit .queues q b, fit .frames q b))
-      (λ t b. place-cases p s place left (λ x. streamFits (lastPlaceAt p) x ≡ true) t (fit .long) b
+      (λ t b. rw (drain-place p s t place left)
+      (place-cases p s place left (λ x. streamFits (lastPlaceAt p) x (drainAt p t) ≡ true) t (fit .long) b
       (λ e. rw e (h (omega arith)))
-      (λ o. fit .streams t b))
+      (λ o. fit .streams t b)))
       (rw (waits-place p s place left, queue-place p s place left (bestEffortAt p) (omega (arith, queues-most p))) (fit .waits))
 
-  -- a stream moved, with its P, to a place and left that are fit
-  pub fits-moved : (s : ℕ) (next : Stream) → (s < streamCount → StreamFit (lastPlaceAt p) next) → next .permitted ≡ streamAt p s .permitted → Fit (moved p s next) m
-  fits-moved s next h e =
+  -- a reserved stream moved, with its P, to a place and left that are fit
+  pub fits-moved : (s : ℕ) (next : Stream) → (s < streamCount → StreamFit (lastPlaceAt p) next) → streamAt p s .reserved ≡ true
+      → next .permitted ≡ streamAt p s .permitted
+      → Fit (moved p s next) m
+  fits-moved s next h reserved e =
       fits-place s (next .place) (next .left)
-      (λ b. fit-stream (lastPlaceAt p) (atPlace (streamAt p s) (next .place) (next .left)) (omega (arith, h b .first-place, h b .last-place, h b .left-within, e)))
+      (λ b. fit-stream (lastPlaceAt p) (atPlace (streamAt p s) (next .place) (next .left)) (drainAt p s)
+      (omega (arith, h b .first-place, h b .last-place, h b .left-within, e))
+      (drain-fit (lastPlaceAt p) (streamAt p s) (drainAt p s) reserved (fit .streams s b)))
+
+  -- a stream's draining count written
+  pub fits-drain : (s ticks : ℕ) → (s < streamCount → streamFits (lastPlaceAt p) (streamAt p s) ticks ≡ true) → Fit (withDrain p s ticks) m
+  fits-drain s ticks h =
+      kept-fits p (withDrain p s ticks) m m fit (keeps-drain p s ticks) (λ t b. same-stream _ _ (stream-drain p s ticks t))
+      (omega (arith, prior-drain p s ticks, fit .prior))
+      (λ q b. rw (queue-drain p s ticks q (omega (arith, queues-most p))) (fit .queues q b, fit .frames q b))
+      (λ t b. rw (stream-drain p s ticks t)
+      (drain-cases p s ticks (λ n. streamFits (lastPlaceAt p) (streamAt p t) n ≡ true) t (fit .long) b
+      (λ e. rw e (h (omega arith)))
+      (λ o. fit .streams t b)))
+      (rw (waits-drain p s ticks, queue-drain p s ticks (bestEffortAt p) (omega (arith, queues-most p))) (fit .waits))
 
   -- a queue written, where the memory after it (n) has what m has in every other queue
   module _ (n : List ℕ) (q : ℕ) (x : Queue) (waits : FitQueue (bestEffortAt p) n q x) (others : (r : ℕ) (y : Queue) → (r ≡ q → ⊥) → waiting n r y ≡ waiting m r y) where
@@ -128,7 +146,7 @@ module _ (p m : List ℕ) (fit : Fit p m) where
         kept-fits p (withQueue p q x) m n fit (keeps-queue p q x (omega (arith, queues-most p))) (λ s b. same-stream _ _ (stream-queue p q x s (omega (arith, queues-most p))))
         (omega (arith, prior-queue p q x, fit .prior))
         (queues-fit (omega arith))
-        (λ s b. rw (stream-queue p q x s (omega (arith, queues-most p))) (fit .streams s b))
+        (λ s b. rw (stream-queue p q x s (omega (arith, queues-most p)), drain-queue p s q x (omega (arith, queues-most p))) (fit .streams s b))
         (waits-queue p q x
         ∙ fit .waits
         ∙ ap chargesOf (sym (others (bestEffortAt p) (queueAt p (bestEffortAt p)) (λ e. omega arith)))
@@ -156,7 +174,7 @@ module _ (p m : List ℕ) (fit : Fit p m) where
       (λ s b. same-stream _ _ (stream-waits k octets s ∙ stream-queue p best x s (omega (arith, queues-most p))))
       (omega (arith, prior-waits k octets, prior-queue p best x, fit .prior))
       (λ q b. rw (queue-waits k octets q) (queues-fit n best x waits others (omega arith) q b))
-      (λ s b. rw (stream-waits k octets s, stream-queue p best x s (omega (arith, queues-most p))) (fit .streams s b))
+      (λ s b. rw (stream-waits k octets s, drain-waits k s octets, stream-queue p best x s (omega (arith, queues-most p)), drain-queue p s best x (omega (arith, queues-most p))) (fit .streams s b))
       (waits-waits k octets (omega (arith, keeps .long, fit .long))
       ∙ sum
       ∙ ap (λ (y : Queue). chargesOf (waiting n (bestEffortAt p) y)) (sym (queue-waits k octets best ∙ queue-queue p best x (fit .long) (omega (arith, queues-most p)))))

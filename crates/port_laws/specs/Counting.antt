@@ -3,16 +3,17 @@ use Prim.Native.Nat.{ℕ}
 use mathlib.Core.Bool.{cond}
 use mathlib.Core.List.{List}
 use Rattle.header.specs.Header.{lengthFits}
-use Rattle.steps.specs.Call.{Call, opening, reserving, arriving, ticking, transmitting, joiningBestEffort, binding, framing}
+use Rattle.steps.specs.Call.{Call, opening, reserving, withdrawing, arriving, ticking, transmitting, joiningBestEffort, binding, framing}
 use Rattle.binding.specs.Finding.{frameLookup}
 use Rattle.gates.specs.Becoming.{becoming}
 
--- the view: a tick, a transmit, a reservation of s with P, an arrival on s, a frame for best effort, a Frame by its octets, or a call that touches
+-- the view: a tick, a transmit, a reservation of s with P, a withdrawal of s, an arrival on s, a frame for best effort, a Frame by its octets, or a call that touches
 -- neither the queues nor a stream's reservation
 pub data Action : Type 0 where
   toTick : Action
   toTransmit : Action
   toReserve : ℕ → ℕ → Action
+  toWithdraw : ℕ → Action
   toArrive : ℕ → ℕ → ℕ → Action
   toBestEffort : ℕ → ℕ → Action
   toFrame : List ℕ → ℕ → Action
@@ -22,6 +23,7 @@ pub data Action : Type 0 where
 abbrev pub actionOf : Call → Action
 actionOf (opening t) = neither
 actionOf (reserving s permitted) = toReserve s permitted
+actionOf (withdrawing s) = toWithdraw s
 actionOf (arriving s charge tag) = toArrive s charge tag
 actionOf ticking = toTick
 actionOf transmitting = toTransmit
@@ -36,6 +38,7 @@ abbrev pub countsBy : List ℕ → Call → Action → Call
 countsBy p c toTick = c
 countsBy p c toTransmit = c
 countsBy p c (toReserve s permitted) = c
+countsBy p c (toWithdraw s) = c
 countsBy p c (toArrive s charge tag) = c
 countsBy p c (toBestEffort charge tag) = c
 countsBy p c (toFrame octets tag) = cond (lengthFits octets) (becoming octets tag (frameLookup p octets)) c

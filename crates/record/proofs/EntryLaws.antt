@@ -11,8 +11,8 @@ use Rattle.lists.proofs.WindowLaws.{get-get, put-append}
 use Rattle.octets.specs.Numbers.{twoOf, twoOctets, fourOf, fourOctets}
 use Rattle.octets.proofs.NumberLaws.{Octets, two-again, four-again}
 use Rattle.stream.specs.declared.Stream.{Stream}
-use Rattle.record.specs.Layout.{entryOffset, placeOffset, leftOffset, permittedOffset, streamLength, boundOffset, pairOffset, addressOffset}
-use Rattle.record.specs.Entry.{placeOctets, streamAt, withStream, withPlace, withBinding}
+use Rattle.record.specs.Layout.{entryOffset, placeOffset, leftOffset, permittedOffset, streamLength, drainOffset, boundOffset, pairOffset, addressOffset}
+use Rattle.record.specs.Entry.{placeOctets, streamAt, withStream, withPlace, withBinding, dropped}
 
 -- the fields read one by one are the reservation read
 pub stream-read : (l : List ℕ) (s : ℕ)
@@ -35,19 +35,6 @@ pub place-written : (l : List ℕ) (s place left : ℕ)
 unfolding withPlace
 place-written l s place left = ap (λ (i : ℕ). put (set l (entryOffset s + placeOffset) place) i (twoOctets left)) (omega arith)
 
--- the mark, then place and left, then P written are the reservation written
-pub stream-written : (l : List ℕ) (s : ℕ) (x : Stream)
-    → put
-    (withPlace (put l (entryOffset s) (cond (x .reserved) 1 0 ∷ [])) s (x .place) (x .left))
-    (entryOffset s + permittedOffset)
-    (twoOctets (x .permitted))
-    ≡ withStream l s x
-unfolding withPlace withStream
-stream-written l s x =
-    ap (λ (i : ℕ). put (put (set l (entryOffset s) (cond (x .reserved) 1 0)) (entryOffset s + placeOffset) (placeOctets (x .place) (x .left))) i (twoOctets (x .permitted)))
-    (omega arith)
-    ∙ sym (put-append (set l (entryOffset s) (cond (x .reserved) 1 0)) (entryOffset s + placeOffset) (placeOctets (x .place) (x .left)) (twoOctets (x .permitted)))
-
 -- four writes, each where the one before it ends, are one
 four-writes : (l : List ℕ) (i j k n : ℕ) (vs ws xs ys : List ℕ) → i + length vs ≡ j → j + length ws ≡ k → k + length xs ≡ n
     → put (put (put (put l i vs) j ws) k xs) n ys ≡ put l i (vs ++ (ws ++ (xs ++ ys)))
@@ -58,6 +45,27 @@ four-writes l i j k n vs ws xs ys a b c =
     ∙ sym (put-append (put l i vs) j ws (xs ++ ys))
     ∙ ap (λ (at : ℕ). put (put l i vs) at (ws ++ (xs ++ ys))) (sym a)
     ∙ sym (put-append l i vs (ws ++ (xs ++ ys)))
+
+-- the mark, then place and left, then P, then the draining count written are the reservation written
+pub stream-written : (l : List ℕ) (s : ℕ) (x : Stream)
+    → put
+    (put
+    (withPlace (put l (entryOffset s) (cond (x .reserved) 1 0 ∷ [])) s (x .place) (x .left))
+    (entryOffset s + permittedOffset)
+    (twoOctets (x .permitted)))
+    (entryOffset s + drainOffset)
+    (0 ∷ [])
+    ≡ withStream l s x
+unfolding withPlace withStream
+stream-written l s x =
+    four-writes l (entryOffset s) (entryOffset s + placeOffset) (entryOffset s + permittedOffset) (entryOffset s + drainOffset)
+    (cond (x .reserved) 1 0 ∷ []) (placeOctets (x .place) (x .left)) (twoOctets (x .permitted)) (0 ∷ []) (omega arith) (omega arith) (omega arith)
+
+-- the mark of the reservation, then the draining count, then the mark of the binding written are the stream dropped
+pub dropped-written : (l : List ℕ) (s : ℕ)
+    → put (put (put l (entryOffset s) (0 ∷ [])) (entryOffset s + drainOffset) (0 ∷ [])) (entryOffset s + boundOffset) (0 ∷ []) ≡ dropped l s
+unfolding dropped
+dropped-written l s = ap (λ (i : ℕ). put (put (put l (entryOffset s) (0 ∷ [])) (entryOffset s + drainOffset) (0 ∷ [])) i (0 ∷ [])) (omega arith)
 
 -- the mark, the VID, and the address in two parts written are the binding written, where the address is of octets
 pub binding-written : (l : List ℕ) (s : ℕ) (address : List ℕ) (vid : ℕ) → Octets address

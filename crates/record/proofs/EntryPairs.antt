@@ -4,7 +4,7 @@ use Prim.Native.Nat.{ℕ, _+_, _<_}
 use mathlib.Core.Bool.{Bool, true, false, cond}
 use mathlib.Core.Path.{_≡_, refl, sym, ap, subst, _∙_}
 use mathlib.Core.Logic.{⊎-elim}
-use mathlib.Core.List.{List}
+use mathlib.Core.List.{List, [], _∷_, _++_}
 use native.Mathlib.Omega.{arith}
 use lib.ListN.{getD}
 use lib.Dec.{eqb}
@@ -32,23 +32,28 @@ stream-octets x = rw (flag-octet (x .reserved), two-octets (x .permitted), two-o
 module _ (l : List ℕ) (s : ℕ) (x : Stream) where
   pub stream-stream : Whole l → s < streamCount → streamAt (withStream l s x) s ≡ x
   unfolding streamAt withStream
-  stream-stream h b = ap entryStream (get-put l (entryOffset s) (streamOctets x) (omega arith)) ∙ stream-octets x
+  stream-stream h b =
+      ap entryStream
+      (ap (λ (i : ℕ). get (withStream l s x) i streamLength) (omega arith)
+      ∙ sym (get-get (withStream l s x) (entryOffset s) (streamLength + 1) 0 streamLength (omega arith))
+      ∙ ap (λ (o : List ℕ). get o 0 streamLength) (get-put l (entryOffset s) (streamOctets x ++ (0 ∷ [])) (omega arith)))
+      ∙ stream-octets x
 
   pub other-stream : (t : ℕ) → (t ≡ s → ⊥) → streamAt (withStream l s x) t ≡ streamAt l t
   unfolding streamAt withStream
-  other-stream t other = ap entryStream (get-apart l (entryOffset s) (streamOctets x) (entryOffset t) streamLength (λ k a b c d. other (omega arith)))
+  other-stream t other = ap entryStream (get-apart l (entryOffset s) (streamOctets x ++ (0 ∷ [])) (entryOffset t) streamLength (λ k a b c d. other (omega arith)))
 
   pub prior-stream : priorAt (withStream l s x) ≡ priorAt l
   unfolding priorAt withStream
-  prior-stream = ap octetOf (get-apart l (entryOffset s) (streamOctets x) priorOffset 1 (λ k a b c d. omega arith))
+  prior-stream = ap octetOf (get-apart l (entryOffset s) (streamOctets x ++ (0 ∷ [])) priorOffset 1 (λ k a b c d. omega arith))
 
   pub waits-stream : waitsAt (withStream l s x) ≡ waitsAt l
   unfolding waitsAt withStream
-  waits-stream = ap fourOf (get-apart l (entryOffset s) (streamOctets x) waitsOffset 4 (λ k a b c d. omega arith))
+  waits-stream = ap fourOf (get-apart l (entryOffset s) (streamOctets x ++ (0 ∷ [])) waitsOffset 4 (λ k a b c d. omega arith))
 
   pub queue-stream : (q : ℕ) → q < queueRoom → queueAt (withStream l s x) q ≡ queueAt l q
   unfolding queueAt withStream
-  queue-stream q h = ap queueOf (get-apart l (entryOffset s) (streamOctets x) (queueOffset q) queueLength (λ k a b c d. omega arith))
+  queue-stream q h = ap queueOf (get-apart l (entryOffset s) (streamOctets x ++ (0 ∷ [])) (queueOffset q) queueLength (λ k a b c d. omega arith))
 
   -- whatever holds of what was written and of what was there holds of what is read
   pub stream-cases : (G : Stream → Type 0) (t : ℕ) → Whole l → t < streamCount → (t ≡ s → G x) → ((t ≡ s → ⊥) → G (streamAt l t)) → G (streamAt (withStream l s x) t)

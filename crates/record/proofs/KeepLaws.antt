@@ -2,7 +2,7 @@
 -- the bindings. Assumes nothing.
 use Prim.Native.Nat.{ℕ, _+_, _-_, _<_}
 use mathlib.Core.Path.{_≡_, refl, ap, _∙_}
-use mathlib.Core.List.{List, [], _∷_}
+use mathlib.Core.List.{List, [], _∷_, _++_}
 use native.Mathlib.Omega.{arith}
 use lib.ListN.{length}
 use Rattle.lists.specs.Window.{put, Apart}
@@ -10,10 +10,10 @@ use Rattle.lists.proofs.WindowLaws.{length-put, get-apart}
 use Rattle.octets.specs.Numbers.{twoOf, fourOctets}
 use Rattle.stream.specs.declared.Stream.{Stream}
 use Rattle.queue.specs.declared.Queue.{Queue}
-use Rattle.record.specs.Layout.{openOffset, priorOffset, delayOffset, linkOffset, waitsOffset, queueOffset, queueRoom, entryOffset, entryLength, placeOffset, boundOffset, pairOffset, addressOffset, addressLength}
+use Rattle.record.specs.Layout.{openOffset, priorOffset, delayOffset, linkOffset, waitsOffset, queueOffset, queueRoom, entryOffset, entryLength, placeOffset, drainOffset, boundOffset, pairOffset, addressOffset, addressLength}
 use Rattle.record.specs.Head.{octetOf, markOf, openAt, withPrior, delayAt, linkAt, withWaits, queueOctets, withQueue}
 use Rattle.record.specs.Queues.{queuesAt}
-use Rattle.record.specs.Entry.{placeOctets, streamOctets, withStream, withPlace, boundAt, vidAt, addressAt}
+use Rattle.record.specs.Entry.{placeOctets, streamOctets, withStream, withPlace, withDrain, boundAt, vidAt, addressAt}
 
 -- record k has these as record l has them
 pub record Keeps (l k : List ℕ) : Type 0 where
@@ -83,10 +83,16 @@ module _ (l : List ℕ) where
   pub keeps-stream : (s : ℕ) (x : Stream) → Keeps l (withStream l s x)
   unfolding withStream
   keeps-stream s x =
-      keeps-put l (entryOffset s) (streamOctets x) (λ k a b c d. omega arith) (λ k a b c d. omega arith) (λ k a b c d. omega arith) (λ t k a b c d. omega arith)
+      keeps-put l (entryOffset s) (streamOctets x ++ (0 ∷ [])) (λ k a b c d. omega arith) (λ k a b c d. omega arith) (λ k a b c d. omega arith) (λ t k a b c d. omega arith)
 
   pub keeps-place : (s place left : ℕ) → Keeps l (withPlace l s place left)
   unfolding withPlace
   keeps-place s place left =
       keeps-put l (entryOffset s + placeOffset) (placeOctets place left) (λ k a b c d. omega arith) (λ k a b c d. omega arith) (λ k a b c d. omega arith)
+      (λ t k a b c d. omega arith)
+
+  pub keeps-drain : (s ticks : ℕ) → Keeps l (withDrain l s ticks)
+  unfolding withDrain
+  keeps-drain s ticks =
+      keeps-put l (entryOffset s + drainOffset) (ticks ∷ []) (λ k a b c d. omega arith) (λ k a b c d. omega arith) (λ k a b c d. omega arith)
       (λ t k a b c d. omega arith)

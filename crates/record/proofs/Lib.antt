@@ -6,6 +6,9 @@ pub mod HeadPairs
 pub mod EntryPairs
 pub mod KeepLaws
 pub mod OpenPairs
+pub mod DropPairs
+pub mod DrainPairs
 pub mod BindingPairs
+pub mod BesideLaws
 pub mod PairLaws
 pub mod QueueCases

@@ -1,5 +1,5 @@
--- What the record reads after the writes of Open: the mark of an open port, K, L, a queue, and a stream dropped. A law is named after the
--- reader and the writer. Assumes nothing.
+-- What the record reads after the writes of Open in the head: the mark of an open port, K, L, and a queue. A law is named after the reader and the
+-- writer. Assumes nothing.
 use Prim.Native.Nat.{ℕ, _+_, _≤_, _<_}
 use mathlib.Core.Bool.{true, false}
 use mathlib.Core.Path.{_≡_, ap, _∙_}
@@ -82,69 +82,3 @@ module _ (l : List ℕ) (q : ℕ) (x : Queue) where
   pub link-queue : linkAt (withQueue l q x) ≡ linkAt l
   unfolding linkAt withQueue
   link-queue = ap twoOf (get-apart l (queueOffset q) (queueOctets x) linkOffset 2 (λ k a b c d. omega arith))
-
--- after a stream was dropped
-module _ (l : List ℕ) (s : ℕ) where
-  pub length-dropped : length (dropped l s) ≡ length l
-  unfolding dropped
-  length-dropped =
-      length-put (put l (entryOffset s) (0 ∷ [])) (entryOffset s + boundOffset) (0 ∷ []) ∙ length-put l (entryOffset s) (0 ∷ [])
-
-  -- nothing is written in the head
-  head-dropped : (i n : ℕ) → i + n ≤ headLength → get (dropped l s) i n ≡ get l i n
-  unfolding dropped
-  head-dropped i n h =
-      get-apart (put l (entryOffset s) (0 ∷ [])) (entryOffset s + boundOffset) (0 ∷ []) i n (λ k a b c d. omega arith)
-      ∙ get-apart l (entryOffset s) (0 ∷ []) i n (λ k a b c d. omega arith)
-
-  pub open-dropped : openAt (dropped l s) ≡ openAt l
-  unfolding openAt
-  open-dropped = ap markOf (head-dropped openOffset 1 (omega arith))
-
-  pub prior-dropped : priorAt (dropped l s) ≡ priorAt l
-  unfolding priorAt
-  prior-dropped = ap octetOf (head-dropped priorOffset 1 (omega arith))
-
-  pub delay-dropped : delayAt (dropped l s) ≡ delayAt l
-  unfolding delayAt
-  delay-dropped = ap octetOf (head-dropped delayOffset 1 (omega arith))
-
-  pub link-dropped : linkAt (dropped l s) ≡ linkAt l
-  unfolding linkAt
-  link-dropped = ap twoOf (head-dropped linkOffset 2 (omega arith))
-
-  pub waits-dropped : waitsAt (dropped l s) ≡ waitsAt l
-  unfolding waitsAt
-  waits-dropped = ap fourOf (head-dropped waitsOffset 4 (omega arith))
-
-  pub queue-dropped : (q : ℕ) → q < queueRoom → queueAt (dropped l s) q ≡ queueAt l q
-  unfolding queueAt
-  queue-dropped q h = ap queueOf (head-dropped (queueOffset q) queueLength (omega arith))
-
-  -- the stream is neither reserved nor bound
-  pub stream-dropped : Whole l → s < streamCount → streamAt (dropped l s) s .reserved ≡ false
-  unfolding streamAt dropped
-  stream-dropped h b =
-      ap (λ (o : List ℕ). entryStream o .reserved)
-      (get-apart (put l (entryOffset s) (0 ∷ [])) (entryOffset s + boundOffset) (0 ∷ []) (entryOffset s) streamLength (λ k a b c d. omega arith))
-      ∙ ap markOf (get-put l (entryOffset s) (0 ∷ []) (omega arith))
-
-  pub bound-dropped : Whole l → s < streamCount → boundAt (dropped l s) s ≡ false
-  unfolding boundAt dropped
-  bound-dropped h b =
-      ap markOf (get-put (put l (entryOffset s) (0 ∷ [])) (entryOffset s + boundOffset) (0 ∷ []) (simp (length-put l (entryOffset s) (0 ∷ [])) (omega arith)))
-
-  -- and the others are as they were
-  pub other-stream-dropped : (t : ℕ) → (t ≡ s → ⊥) → streamAt (dropped l s) t ≡ streamAt l t
-  unfolding streamAt dropped
-  other-stream-dropped t other =
-      ap entryStream
-      (get-apart (put l (entryOffset s) (0 ∷ [])) (entryOffset s + boundOffset) (0 ∷ []) (entryOffset t) streamLength (λ k a b c d. other (omega arith))
-      ∙ get-apart l (entryOffset s) (0 ∷ []) (entryOffset t) streamLength (λ k a b c d. other (omega arith)))
-
-  pub other-bound-dropped : (t : ℕ) → (t ≡ s → ⊥) → boundAt (dropped l s) t ≡ boundAt l t
-  unfolding boundAt dropped
-  other-bound-dropped t other =
-      ap markOf
-      (get-apart (put l (entryOffset s) (0 ∷ [])) (entryOffset s + boundOffset) (0 ∷ []) (entryOffset t + boundOffset) 1 (λ k a b c d. other (omega arith))
-      ∙ get-apart l (entryOffset s) (0 ∷ []) (entryOffset t + boundOffset) 1 (λ k a b c d. other (omega arith)))

@@ -61,7 +61,7 @@ queueOffset q = queuesOffset + q * queueLength
 abbrev pub queueRoom : ℕ
 queueRoom = mostQueues + 1
 
--- an entry's fields: reserved (1 octet, 1: reserved), place (1), left (2), P (2), and from octet 7 on bound (1, 1: bound), VID (2), address (6)
+-- an entry's fields: reserved (1 octet, 1: reserved), place (1), left (2), P (2), the draining count (1), bound (1, 1: bound), VID (2), address (6)
 abbrev pub placeOffset : ℕ
 placeOffset = 1
 
@@ -73,6 +73,9 @@ permittedOffset = 4
 
 abbrev pub streamLength : ℕ
 streamLength = 6
+
+abbrev pub drainOffset : ℕ
+drainOffset = 6
 
 abbrev pub boundOffset : ℕ
 boundOffset = 7

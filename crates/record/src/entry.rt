@@ -1,11 +1,11 @@
-// The fields of a stream's entry: its reservation and its binding.
+// The fields of a stream's entry: its reservation, how long it still drains, and its binding.
 use stream::Stream;
 ghost use mathlib.Core.Path.{_≡_};
 ghost use mathlib.Core.Bool.{cond};
 ghost use Prim.Native.Nat.{_≤_, _<_};
 ghost use lib.ListN.{length};
 ghost use Rattle.record.specs.Layout.{Whole, streamCount, entryOffset, addressLength};
-ghost use Rattle.record.specs.Entry.{streamAt, withStream, withPlace, boundAt, vidAt, withBinding, dropped};
+ghost use Rattle.record.specs.Entry.{streamAt, withStream, withPlace, drainAt, withDrain, drainsAt, boundAt, vidAt, withBinding, dropped};
 ghost use Rattle.record.specs.PairNumber.{pairAt, pairOf};
 
 // Where the entries begin, and the octets of one.
@@ -19,6 +19,8 @@ const PLACE: usize = 1;
 const LEFT: usize = 2;
 
 const PERMITTED: usize = 4;
+
+const DRAIN: usize = 6;
 
 const BOUND: usize = 7;
 
@@ -62,7 +64,7 @@ fn mark(yes: bool) -> u8
     crate::NO
 }
 
-// Writes the stream's reservation.
+// Writes the stream's reservation; it does not drain.
 pub fn put_stream(port: &mut [u8], stream: u8, reservation: Stream)
     requires { ⌜ Whole (now port) × (stream < streamCount) ⌝ }
     ensures { λ _. ⌜ now (port .exit) ≡ withStream (now (port .entry)) stream reservation ⌝ }
@@ -71,6 +73,7 @@ pub fn put_stream(port: &mut [u8], stream: u8, reservation: Stream)
     crate::put_octet(port, at, mark(reservation.reserved));
     put_place(port, stream, reservation.place, reservation.left);
     octets::put_two(port, at + PERMITTED, reservation.permitted);
+    crate::put_octet(port, at + DRAIN, 0);
 }
 
 // Writes the stream's place and what is left there.
@@ -81,6 +84,30 @@ pub fn put_place(port: &mut [u8], stream: u8, place: u8, left: u16)
     let at = start(stream);
     crate::put_octet(port, at + PLACE, place);
     octets::put_two(port, at + LEFT, left);
+}
+
+// The stream's draining count.
+pub fn drain(port: &[u8], stream: u8) -> u8
+    requires { ⌜ Whole (now port) × (stream < streamCount) ⌝ }
+    ensures { λ r. ⌜ r ≡ drainAt (now (port .entry)) stream ⌝ }
+{
+    port[start(stream) + DRAIN]
+}
+
+// Writes the stream's draining count.
+pub fn put_drain(port: &mut [u8], stream: u8, ticks: u8)
+    requires { ⌜ Whole (now port) × (stream < streamCount) ⌝ }
+    ensures { λ _. ⌜ now (port .exit) ≡ withDrain (now (port .entry)) stream ticks ⌝ }
+{
+    crate::put_octet(port, start(stream) + DRAIN, ticks);
+}
+
+// Whether the stream is draining.
+pub fn drains(port: &[u8], stream: u8) -> bool
+    requires { ⌜ Whole (now port) × (stream < streamCount) ⌝ }
+    ensures { λ r. ⌜ r ≡ drainsAt (now (port .entry)) stream ⌝ }
+{
+    stream_at(port, stream).reserved && drain(port, stream) != 0
 }
 
 // Whether the stream is bound.
@@ -132,12 +159,13 @@ pub fn put_binding(port: &mut [u8], stream: u8, address: &[u8], vid: u16)
     octets::put_four(port, at + ADDRESS + LATER, octets::four_at(address, LATER));
 }
 
-// Drops the stream's reservation and its binding.
+// Drops the stream's reservation and its binding, and ends its draining.
 pub fn drop_stream(port: &mut [u8], stream: u8)
     requires { ⌜ Whole (now port) × (stream < streamCount) ⌝ }
     ensures { λ _. ⌜ now (port .exit) ≡ dropped (now (port .entry)) stream ⌝ }
 {
     let at = start(stream);
     crate::put_octet(port, at, crate::NO);
+    crate::put_octet(port, at + DRAIN, 0);
     crate::put_octet(port, at + BOUND, crate::NO);
 }

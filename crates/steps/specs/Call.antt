@@ -11,10 +11,11 @@ pub record Terms : Type 0 where
 abbrev pub terms : ℕ → ℕ → Terms
 terms link delay = record { link = link; delay = delay }
 
--- Open(L, K), Reserve(s, P), Arrive(s, a, tag), Tick, Transmit, Best effort(a, tag), Bind(s, address, VID), Frame(octets, tag)
+-- Open(L, K), Reserve(s, P), Withdraw(s), Arrive(s, a, tag), Tick, Transmit, Best effort(a, tag), Bind(s, address, VID), Frame(octets, tag)
 pub data Call : Type 0 where
   opening : Terms → Call
   reserving : ℕ → ℕ → Call
+  withdrawing : ℕ → Call
   arriving : ℕ → ℕ → ℕ → Call
   ticking : Call
   transmitting : Call

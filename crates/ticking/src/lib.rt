@@ -6,7 +6,23 @@ ghost use Prim.Native.Nat.{_<_};
 ghost use Rattle.record.specs.Layout.{Whole, streamCount, queueRoom};
 ghost use Rattle.record.specs.Queues.{HasMemory};
 ghost use Rattle.steps.specs.Outcome.{outcome};
-ghost use Rattle.ticking.specs.Ticking.{tickedAt, streamsTicked, tickedFrom, tickStep};
+ghost use Rattle.ticking.specs.Ticking.{drainedAt, tickedAt, streamsTicked, tickedFrom, tickStep};
+
+// Lets a withdrawn stream come a tick nearer to its freedom, and drops it at the last of them.
+fn drain_stream(port: &mut [u8], stream: u8)
+    requires { ⌜ Whole (now port) × (stream < streamCount) ⌝ }
+    ensures { λ _. ⌜ now (port .exit) ≡ drainedAt stream (now (port .entry)) ⌝ }
+{
+    let ticks = record::entry::drain(port, stream);
+    if ticks == 0 {
+        return;
+    }
+    if ticks == 1 {
+        record::entry::drop_stream(port, stream);
+        return;
+    }
+    record::entry::put_drain(port, stream, ticks - 1);
+}
 
 // The tick of one stream.
 fn tick_stream(port: &mut [u8], stream: u8)
@@ -18,6 +34,7 @@ fn tick_stream(port: &mut [u8], stream: u8)
         return;
     }
     steps::move_to(port, stream, reservation.tick());
+    drain_stream(port, stream);
 }
 
 // The tick of every stream.

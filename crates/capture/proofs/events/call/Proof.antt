@@ -3,7 +3,7 @@ use borrow.Author.Needs.{needs}
 use mathlib.Core.Path.{_∙_, _≡_, ap, sym}
 use borrow.Author.Tests.{eq-eqb, ne-eqb}
 use Rattle.capture.specs.Events.{callOf}
-use Rattle.steps.specs.Call.{terms, Call, arriving, joiningBestEffort, opening, reserving, ticking, transmitting}
+use Rattle.steps.specs.Call.{terms, Call, arriving, joiningBestEffort, opening, reserving, withdrawing, ticking, transmitting}
 use Rattle.port.specs.Quick.{quicklyCalled}
 use Rattle.capture.proofs.events.call.Statement.{statement}
 use Rattle.capture.proofs.events.call.Tie as tie
@@ -83,8 +83,8 @@ returns-5 c =
     let e : callOf (g .kind) (g .stream) (g .a) (g .b) ≡ ticking = simp (ne-eqb _ _ (c .before .before .before .before .before .before .before .before .before .if1 .left), ne-eqb _ _ (c .before .before .before .before .before .before .before .before .if2 .left), ne-eqb _ _ (c .before .before .before .before .before .before .before .if3 .left), ne-eqb _ _ (c .before .before .before .before .before .before .if4 .left), eq-eqb _ _ (c .before .before .before .before .before .if5 .taken)) in
     c .before .before .tick .ensures ∙ ap (λ (x : Call). quicklyCalled x (g .port .now) (g .memory .now)) (sym e)
 
-transmit-requires : tie.Need-transmit-requires
-transmit-requires c κs = search needs
+withdraw-requires : tie.Need-withdraw-requires
+withdraw-requires c κs = search needs
 
 same-length-11 : tie.Need-same-length-11
 same-length-11 c = search needs
@@ -94,8 +94,23 @@ same-length-12 c = search needs
 
 returns-6 : tie.Need-returns-6
 returns-6 c =
-    let g = c .before .before .before .before .before .before .before .before .before .before .before .before .args in
-    let e : callOf (g .kind) (g .stream) (g .a) (g .b) ≡ transmitting = simp (ne-eqb _ _ (c .before .before .before .before .before .before .before .before .before .if1 .left), ne-eqb _ _ (c .before .before .before .before .before .before .before .before .if2 .left), ne-eqb _ _ (c .before .before .before .before .before .before .before .if3 .left), ne-eqb _ _ (c .before .before .before .before .before .before .if4 .left), ne-eqb _ _ (c .before .before .before .before .before .if5 .left)) in
+    let g = c .before .before .before .before .before .before .before .before .before .before .before .before .before .args in
+    let e : callOf (g .kind) (g .stream) (g .a) (g .b) ≡ withdrawing (g .stream) = simp (ne-eqb _ _ (c .before .before .before .before .before .before .before .before .before .before .if1 .left), ne-eqb _ _ (c .before .before .before .before .before .before .before .before .before .if2 .left), ne-eqb _ _ (c .before .before .before .before .before .before .before .before .if3 .left), ne-eqb _ _ (c .before .before .before .before .before .before .before .if4 .left), ne-eqb _ _ (c .before .before .before .before .before .before .if5 .left), eq-eqb _ _ (c .before .before .before .before .before .if6 .taken)) in
+    c .before .before .withdraw .ensures ∙ ap (λ (x : Call). quicklyCalled x (g .port .now) (g .memory .now)) (sym e)
+
+transmit-requires : tie.Need-transmit-requires
+transmit-requires c κs = search needs
+
+same-length-13 : tie.Need-same-length-13
+same-length-13 c = search needs
+
+same-length-14 : tie.Need-same-length-14
+same-length-14 c = search needs
+
+returns-7 : tie.Need-returns-7
+returns-7 c =
+    let g = c .before .before .before .before .before .before .before .before .before .before .before .before .before .args in
+    let e : callOf (g .kind) (g .stream) (g .a) (g .b) ≡ transmitting = simp (ne-eqb _ _ (c .before .before .before .before .before .before .before .before .before .before .if1 .left), ne-eqb _ _ (c .before .before .before .before .before .before .before .before .before .if2 .left), ne-eqb _ _ (c .before .before .before .before .before .before .before .before .if3 .left), ne-eqb _ _ (c .before .before .before .before .before .before .before .if4 .left), ne-eqb _ _ (c .before .before .before .before .before .before .if5 .left), ne-eqb _ _ (c .before .before .before .before .before .if6 .left)) in
     c .before .before .transmit .ensures ∙ ap (λ (x : Call). quicklyCalled x (g .port .now) (g .memory .now)) (sym e)
 
 pub call-spec : {M : Type 1} → statement M
@@ -122,7 +137,11 @@ call-spec =
     same-length-9
     same-length-10
     returns-5
-    transmit-requires
+    withdraw-requires
     same-length-11
     same-length-12
-    returns-6)
+    returns-6
+    transmit-requires
+    same-length-13
+    same-length-14
+    returns-7)

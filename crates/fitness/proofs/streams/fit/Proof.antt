@@ -6,16 +6,14 @@ use native.Mathlib.Numerals.{add-one}
 use native.Mathlib.Omega.{arith}
 use borrow.Author.Needs.{needs}
 use Rattle.lists.specs.Turns.{allTo}
-use Rattle.record.specs.Entry.{streamAt}
+use Rattle.record.specs.Entry.{streamAt, drainAt}
 use Rattle.record.specs.Layout.{streamCount}
 use Rattle.fitness.specs.Clauses.{streamFits}
 use Rattle.fitness.proofs.streams.fit.Statement.{statement}
 use Rattle.fitness.proofs.streams.fit.Tie as tie
 
--- `fitness::streams::fit` meets its contract. The loop's invariant: what the turns done so far answer. Assumes nothing.
-
 abbrev Inv-loop : tie.InvT-loop
-Inv-loop port last ok₀ s₀ ok s = (s ≤ streamCount) × (ok ≡ allTo (λ k. streamFits last (streamAt port k)) s)
+Inv-loop port last ok₀ s₀ ok s = (s ≤ streamCount) × (ok ≡ allTo (λ k. streamFits last (streamAt port k) (drainAt port k)) s)
 
 abbrev μ-loop : tie.MeasureT-loop
 μ-loop port last ok₀ s₀ ok s = streamCount - s
@@ -29,6 +27,9 @@ loop-holds c = search needs
 
 stream-at-requires : tie.Need-stream-at-requires Inv-loop μ-loop
 stream-at-requires c κs = search needs
+
+drain-requires : tie.Need-drain-requires Inv-loop μ-loop
+drain-requires c κs = search needs
 
 stream-fits-requires : tie.Need-stream-fits-requires Inv-loop μ-loop
 stream-fits-requires c κs = search needs
@@ -45,8 +46,8 @@ loop-less c = search needs
 loop-again : tie.Need-loop-again Inv-loop μ-loop
 unfolding allTo
 loop-again c =
-    let l = c .before .before .before .before .loop in
-    (omega arith, rw (add-one (l .s)) (c .both .ensures ∙ ap₂ _&&_ (c .before .stream-fits .ensures ∙ ap (streamFits (c .before .before .before .before .before .last-place .result)) (c .before .before .stream-at .ensures)) (l .inv .1)))
+    let l = c .before .before .before .before .before .loop in
+    (omega arith, rw (add-one (l .s)) (c .both .ensures ∙ ap₂ _&&_ (c .before .stream-fits .ensures ∙ ap₂ (streamFits (c .before .before .before .before .before .before .last-place .result)) (c .before .before .before .stream-at .ensures) (c .before .before .drain .ensures)) (l .inv .1)))
 
 returns : tie.Need-returns Inv-loop μ-loop
 returns c =
@@ -63,6 +64,7 @@ fit-spec =
     last-place-requires
     loop-holds
     stream-at-requires
+    drain-requires
     stream-fits-requires
     both-requires
     add-s

@@ -17,4 +17,6 @@ arrive-spec =
     (λ c. search tests depth 12 fits 8000)
     (λ c κs. search needs)
     (λ c. search tests depth 12 fits 8000)
+    (λ c κs. search needs)
+    (λ c. search tests depth 12 fits 8000)
     (λ c. search tests depth 12 fits 8000))

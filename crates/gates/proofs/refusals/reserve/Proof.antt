@@ -20,4 +20,6 @@ reserve-spec =
     (λ c. (search tests depth 12 fits 8000, λ zero. absurd (omega arith)))
     (λ c κs. search needs)
     (λ c. (search tests depth 12 fits 8000, λ zero. absurd (omega arith)))
-    (λ c. (search tests depth 12 fits 8000, λ zero. c .before .exceeds-share .ensures .1 (c .if5 .left))))
+    (λ c κs. search needs)
+    (λ c. (search tests depth 12 fits 8000, λ zero. absurd (omega arith)))
+    (λ c. (search tests depth 12 fits 8000, λ zero. c .before .exceeds-share .ensures .1 (c .if6 .left))))
