@@ -186,6 +186,7 @@ pub fn event(word: &str, words: &mut Words) -> Result<Call, String> {
         },
         "tick" => Call::Tick,
         "transmit" => Call::Transmit,
+        "withdraw" => Call::Withdraw { stream: stream(words)? },
         other => return Err(format!("'{other}' begins no line")),
     })
 }
