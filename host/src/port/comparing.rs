@@ -1,4 +1,4 @@
-//! Random lists of calls through a port, held against the independent model: each reply in document 01's numbers, and after each call every octet of
+//! Random lists of calls through a port, held against the independent model: each reply in the rule's numbers, and after each call every octet of
 //! record and memory.
 
 use std::path::Path;
@@ -156,7 +156,7 @@ impl Both {
     }
 }
 
-/// Calls the port's method for a call; its reply in document 01's numbers.
+/// Calls the port's method for a call; its reply in the rule's numbers.
 fn through(port: &mut Port, call: &Call) -> Reply {
     match *call {
         Call::Open { .. } => unreachable!("a port is opened once"),
@@ -170,10 +170,11 @@ fn through(port: &mut Port, call: &Call) -> Reply {
             Framed::Arrived(joined) => of_arrival(joined),
             Framed::BestEffort(waiting) => (waiting.octets, 0),
         }),
+        Call::Withdraw { stream } => numbers(port.withdraw(stream), |()| (0, 0)),
     }
 }
 
-/// A method's reply in document 01's numbers, those of a grant as given.
+/// A method's reply in the rule's numbers, those of a grant as given.
 fn numbers<T>(reply: Result<T, Refusal>, granted: impl FnOnce(T) -> (u32, u32)) -> Reply {
     match reply.map(granted) {
         Ok((first, second)) => Reply::granted(first, second),
