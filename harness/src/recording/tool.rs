@@ -1,6 +1,6 @@
-//! The tool that makes the capture of a recording under a plan. Status 0 says that all packets and withdrawals are in the capture; 1 that plan or recording is bad,
-//! or that reading or writing failed, and then nothing is written; 2 that the command line is wrong; 3 that the capture was written and something is
-//! not in it, which the report tells.
+//! The tool that makes the capture of a recording under a plan. Status 0 says that all packets and withdrawals are in the capture; 1 that plan or
+//! recording is bad, or that reading or writing failed, and then nothing is written; 2 that the command line is wrong; 3 that the capture was written
+//! and something is not in it, which the report tells.
 
 use std::fs;
 use std::io::{BufReader, Read, Write};
