@@ -2,9 +2,9 @@
 //!
 //! A [`Port`] runs the paternoster algorithm of document 01: four epoch queues for reserved streams and one for best effort. It owns its record and
 //! the memory for its frames, and its methods are calls of the library that is proved to hold to the rule, docs/RULE.md, of the edition
-//! [`EDITION`]. The host calls [`tick`](Port::tick) where an epoch ends, [`transmit`](Port::transmit) when the link can send a frame, and [`arrive`](Port::arrive),
-//! [`best_effort`](Port::best_effort) or [`frame`](Port::frame) when a frame comes; it keeps the frames themselves, under their tags. What a port
-//! guarantees in return, docs/GUARANTEE.md says.
+//! [`EDITION`]. The host calls [`tick`](Port::tick) where an epoch ends, [`transmit`](Port::transmit) when the link can send a frame, and
+//! [`arrive`](Port::arrive), [`best_effort`](Port::best_effort) or [`frame`](Port::frame) when a frame comes; it keeps the frames themselves, under
+//! their tags. It takes a stream off the line by [`withdraw`](Port::withdraw). What a port guarantees in return, docs/GUARANTEE.md says.
 //!
 //! The library is built, with its proofs, by `bash examples/run` in the repository.
 //!

@@ -103,8 +103,8 @@ impl Port {
         exports::arrive(&mut self.record, &mut self.memory, stream, charge, tag).map(Joined::of)
     }
 
-    /// Tick: an epoch of this port ends. Replies what was purged: the frames that still waited in prior. It frees each stream whose draining ends with
-    /// it ([`withdraw`](Port::withdraw)).
+    /// Tick: an epoch of this port ends. Replies what was purged: the frames that still waited in prior. It frees each stream whose draining ends
+    /// with it ([`withdraw`](Port::withdraw)).
     ///
     /// Refusals: none. The rule has 18, 19 and 1 here, in this order, and a port of this type never meets them.
     pub fn tick(&mut self) -> Result<Purged, Refusal> {
@@ -186,11 +186,11 @@ impl Port {
         exports::frame(&mut self.record, &mut self.memory, octets, tag).map(Framed::of)
     }
 
-    /// Withdraw(s): takes a reserved stream off the line. Its frames that wait stay in their queues and are sent as before; it takes no more. It drains
-    /// for as many ticks as the port has queues for reserved traffic, which are four. Meanwhile every call that names it is refused with
-    /// [`Draining`](Refusal::Draining), and so is a frame that would arrive on it; its P still counts in R and has its part of the share, and its binding
-    /// stands against others. The last of these ticks frees it: its number may be reserved again, its part of the share is free, and its binding is
-    /// gone.
+    /// Withdraw(s): takes a reserved stream off the line. Its frames that wait stay in their queues and are sent as before; it takes no more. It
+    /// drains for as many ticks as the port has queues for reserved traffic, which are four. Meanwhile every call that names it is refused with
+    /// [`Draining`](Refusal::Draining), and so is a frame that would arrive on it; its P still counts in R and has its part of the share, and its
+    /// binding stands against others. The last of these ticks frees it: its number may be reserved again, its part of the share is free, and its
+    /// binding is gone.
     ///
     /// Refusals, in this order: [`StreamRange`](Refusal::StreamRange) (5), [`Draining`](Refusal::Draining) (25),
     /// [`NotReserved`](Refusal::NotReserved) (12).

@@ -4,10 +4,10 @@
 //! Times are exact. They count from the first packet in parts of a nanosecond, of which it has L. So an epoch has as many parts as its nanoseconds
 //! times L; and since the link carries L octets in an epoch, a frame keeps it busy for its charge times the epoch's nanoseconds.
 //!
-//! Where several things happen at one time, the tick comes first, since what happens just at an epoch's end is in the next one; then the transmit of
-//! a link that became free, then the withdrawals, then the packets. An idle link transmits right after each packet, and right after each tick, which may have made a frame
-//! current. So between two ticks some transmit sends no reserved frame, or all but less than 1,542 octets of the epoch, the share, is used for
-//! reserved frames: the link condition of demand 3.
+//! Where several things happen at one time, the tick comes first, since what happens just at an epoch's end is in the next one; then the transmit
+//! of a link that became free, then the withdrawals, then the packets. An idle link transmits right after each packet, and right after each tick,
+//! which may have made a frame current. So between two ticks some transmit sends no reserved frame, or all but less than 1,542 octets of the epoch,
+//! the share, is used for reserved frames: the link condition of demand 3.
 
 use crate::call::Call;
 use crate::capture::file::MOST_RECORDS;

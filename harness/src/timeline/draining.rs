@@ -1,5 +1,5 @@
-//! Follows each withdrawn stream by the replies alone, from its withdrawal to the tick that frees it, and draws it in a row of its own: a box with the
-//! ticks until it is free where it is withdrawn and after each tick, a bar while it drains, and a box where it is free.
+//! Follows each withdrawn stream by the replies alone, from its withdrawal to the tick that frees it, and draws it in a row of its own: a box with
+//! the ticks until it is free where it is withdrawn and after each tick, a bar while it drains, and a box where it is free.
 
 use std::mem;
 

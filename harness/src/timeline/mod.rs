@@ -2,8 +2,8 @@
 //! words.
 //!
 //! `following` follows each frame by the replies, `draining` each withdrawn stream, `headings` says what heads an event's column, `bands` where
-//! everything stands, `drawing` and `frames` draw it, `legend` tells what the marks mean, `page` puts it together, `look` has sizes and colours, `svg`
-//! the file's elements, `words` calls and replies in words. captures/README.md says what the tool is given and what it tells.
+//! everything stands, `drawing` and `frames` draw it, `legend` tells what the marks mean, `page` puts it together, `look` has sizes and colours,
+//! `svg` the file's elements, `words` calls and replies in words. captures/README.md says what the tool is given and what it tells.
 
 use std::fmt;
 use std::ops::RangeInclusive;

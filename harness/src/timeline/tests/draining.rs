@@ -11,6 +11,10 @@ use crate::timeline::drawn;
 const WITHDRAWN: &str =
     "port 0\nopen 2142 1\nreserve 5 200\narrive 5 84 1\nwithdraw 5\narrive 5 84 2\ntick\ntransmit\ntick\ntick\ntick\nreserve 5 84\n";
 
+/// Two streams that are withdrawn in different epochs, of which the first is reserved and withdrawn again while the other still drains.
+const TWO: &str = "port 0\nopen 2142 1\nreserve 5 200\nreserve 6 200\nwithdraw 5\ntick\nwithdraw 6\ntick\ntick\ntick\n\
+    reserve 5 84\nwithdraw 5\ntick\n";
+
 /// What is seen in the picture of the events of a text form from a number on.
 fn seen_from(text: &str, from: usize) -> Seen {
     Seen::of(&drawn(0, &played(text), from..=usize::MAX, "").expect("the events fit"))
@@ -59,7 +63,7 @@ fn a_withdrawn_streams_frames_stand_where_they_stood() {
 
 #[test]
 fn streams_that_drain_at_once_have_lanes_of_their_own() {
-    let seen = seen("port 0\nopen 2142 1\nreserve 5 200\nreserve 6 200\nwithdraw 5\ntick\nwithdraw 6\ntick\ntick\ntick\nreserve 5 84\nwithdraw 5\ntick\n");
+    let seen = seen(TWO);
     let boxes = [
         "4 draining 5: 4 ticks",
         "5 draining 5: 3 ticks",
