@@ -18,6 +18,7 @@ pub enum Call<Address = [u8; ADDRESS_OCTETS], Octets = Arc<[u8]>> {
     BestEffort { charge: u32, tag: u32 },
     Bind { stream: u8, address: Address, vid: u32 },
     Frame { octets: Octets, tag: u32 },
+    Withdraw { stream: u8 },
 }
 
 /// A call as it is given to a port: address and octets lie where the caller lends them.
@@ -66,6 +67,7 @@ impl Call {
             Call::BestEffort { charge, tag } => Call::BestEffort { charge, tag },
             Call::Bind { stream, ref address, vid } => Call::Bind { stream, address, vid },
             Call::Frame { ref octets, tag } => Call::Frame { octets, tag },
+            Call::Withdraw { stream } => Call::Withdraw { stream },
         }
     }
 }
@@ -87,6 +89,7 @@ impl fmt::Display for Call {
                 let header = hexadecimal(&octets[..octets.len().min(TOLD_OCTETS)]);
                 write!(f, "frame of {} octets [{header}] {tag}", octets.len())
             }
+            Call::Withdraw { stream } => write!(f, "withdraw {stream}"),
         }
     }
 }

@@ -25,6 +25,7 @@ declare! {
     bunnysolder_best_effort, bunnysolder_best_effort_unscanned: *mut u8, (charge: u32, tag: u32);
     bunnysolder_bind, bunnysolder_bind_unscanned: *const u8, (stream: u8, address: *const u8, vid: u32);
     bunnysolder_frame, bunnysolder_frame_unscanned: *mut u8, (octets: *const u8, octets_length: usize, tag: u32);
+    bunnysolder_withdraw, bunnysolder_withdraw_unscanned: *const u8, (stream: u8);
 }
 
 /// The calls as functions of C; Tick and Transmit have no arguments of their own.
@@ -34,6 +35,7 @@ type Arrive = unsafe extern "C" fn(*mut u8, usize, *mut u8, usize, u8, u32, u32,
 type BestEffort = unsafe extern "C" fn(*mut u8, usize, *mut u8, usize, u32, u32, &mut u32, &mut u32) -> u8;
 type Bind = unsafe extern "C" fn(*mut u8, usize, *const u8, usize, u8, *const u8, u32, &mut u32, &mut u32) -> u8;
 type Frame = unsafe extern "C" fn(*mut u8, usize, *mut u8, usize, *const u8, usize, u32, &mut u32, &mut u32) -> u8;
+type Withdraw = unsafe extern "C" fn(*mut u8, usize, *const u8, usize, u8, &mut u32, &mut u32) -> u8;
 type Plain = unsafe extern "C" fn(*mut u8, usize, *const u8, usize, &mut u32, &mut u32) -> u8;
 
 /// One sort of call.
@@ -46,9 +48,10 @@ struct Sort {
     best_effort: BestEffort,
     bind: Bind,
     frame: Frame,
+    withdraw: Withdraw,
 }
 
-/// The calls with all of document 01's checks.
+/// The calls with all of the rule's checks.
 const CALLS: Sort = Sort {
     open: bunnysolder_open,
     reserve: bunnysolder_reserve,
@@ -58,6 +61,7 @@ const CALLS: Sort = Sort {
     best_effort: bunnysolder_best_effort,
     bind: bunnysolder_bind,
     frame: bunnysolder_frame,
+    withdraw: bunnysolder_withdraw,
 };
 
 /// The quick calls: nothing is scanned.
@@ -70,6 +74,7 @@ const UNSCANNED: Sort = Sort {
     best_effort: bunnysolder_best_effort_unscanned,
     bind: bunnysolder_bind_unscanned,
     frame: bunnysolder_frame_unscanned,
+    withdraw: bunnysolder_withdraw_unscanned,
 };
 
 /// What the two reply numbers hold before each call, so that a number which a call leaves unwritten shows.
@@ -94,13 +99,14 @@ impl Sort {
                 Call::BestEffort { charge, tag } => (self.best_effort)(p, n, m, k, charge, tag, &mut first, &mut second),
                 Call::Bind { stream, address, vid } => (self.bind)(p, n, m, k, stream, address.as_ptr(), vid, &mut first, &mut second),
                 Call::Frame { octets, tag } => (self.frame)(p, n, m, k, octets.as_ptr(), octets.len(), tag, &mut first, &mut second),
+                Call::Withdraw { stream } => (self.withdraw)(p, n, m, k, stream, &mut first, &mut second),
             }
         };
         Reply { refusal, first, second }
     }
 }
 
-/// The call with all of document 01's checks.
+/// The call with all of the rule's checks.
 #[inline]
 pub fn call(call: &Given, port: &mut [u8], memory: &mut [u8]) -> Reply {
     CALLS.play(call, port, memory)

@@ -2,7 +2,7 @@
 //! Numbers stand high octet first.
 
 use crate::model::octets::{MEMORY_OCTETS, RECORD_OCTETS};
-use crate::model::port::{BEST_EFFORT, MARK_YES, QUEUES, QUEUE_PLACES, STREAMS};
+use crate::model::port::{BEST_EFFORT, MARK_YES, NOT_DRAINING, QUEUES, QUEUE_PLACES, STREAMS};
 
 /// The open mark in the record, one octet.
 pub const OPEN: usize = 0;
@@ -33,6 +33,8 @@ pub const PLACE: usize = 1;
 pub const LEFT: usize = 2;
 /// P in a stream's entry, two octets.
 pub const PERMITTED: usize = 4;
+/// The draining count in a stream's entry, one octet.
+pub const DRAINING: usize = 6;
 /// The bound mark in a stream's entry, one octet.
 pub const BOUND: usize = 7;
 /// The VID in a stream's entry, two octets.
@@ -101,6 +103,11 @@ pub fn is_reserved(record: &[u8], stream: usize) -> bool {
     record[entry(stream) + RESERVED] == MARK_YES
 }
 
+/// Whether a stream drains.
+pub fn is_draining(record: &[u8], stream: usize) -> bool {
+    is_reserved(record, stream) && record[entry(stream) + DRAINING] != NOT_DRAINING
+}
+
 /// R, the sum of the reserved streams' P.
 pub fn permitted_sum(record: &[u8]) -> u32 {
     let reserved = (0..STREAMS).filter(|&stream| is_reserved(record, stream));
@@ -146,10 +153,10 @@ fn stream_field(at: usize) -> String {
         PLACE => "place",
         LEFT..PERMITTED => "left",
         PERMITTED..=5 => "P",
+        DRAINING => "draining count",
         BOUND => "bound mark",
         VID..ADDRESS => "VID",
-        ADDRESS..BINDING_END => "address",
-        _ => "spare octet",
+        _ => "address",
     };
     format!("{field} of stream {}", at / STREAM_ENTRY)
 }

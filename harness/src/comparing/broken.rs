@@ -55,13 +55,16 @@ pub const OF_QUEUES: [Breach; 7] = [
 ];
 
 /// Breaches of what the record says of a reserved stream.
-pub const OF_STREAMS: [Breach; 6] = [
+pub const OF_STREAMS: [Breach; 9] = [
     breach("place 1 to 0", Clause::Place, STREAMS, place, 1, -1),
     breach("place 3 to 4", Clause::Place, STREAMS, place, 3, 1),
     breach("place 2 to 255", Clause::Place, STREAMS, place, 2, 253),
     breach("left 84 to 85 of P 84", Clause::Left, STREAMS, left, 84, 1),
     breach("left 21,504 to 21,505 of P 21,504", Clause::Left, STREAMS, left, 21_504, 1),
     breach("left 255 to 256 of P 255", Clause::Left, STREAMS, left, 255, 1),
+    breach("draining count 4 to 5", Clause::Draining, STREAMS, draining, 4, 1),
+    breach("draining count 0 to 5", Clause::Draining, STREAMS, draining, 0, 5),
+    breach("draining count 1 to 255", Clause::Draining, STREAMS, draining, 1, 254),
 ];
 
 /// Breaches of the bindings.
@@ -199,6 +202,14 @@ fn left(port: &mut Octets, random: &mut Random, boundary: &Boundary) -> Vec<Chan
     let at = layout::entry(boundary.site) + layout::LEFT;
     put_two(&mut port.record, at, boundary.from);
     vec![Change::record(at, 2, boundary.by)]
+}
+
+/// The draining count of a reserved stream.
+fn draining(port: &mut Octets, random: &mut Random, boundary: &Boundary) -> Vec<Change> {
+    reserve(port, random, &[boundary.site], LEAST_PERMITTED);
+    let at = layout::entry(boundary.site) + layout::DRAINING;
+    port.record[at] = boundary.from as u8;
+    vec![Change::record(at, 1, boundary.by)]
 }
 
 /// One octet of a binding, which becomes that of another stream's binding, equal but for it.

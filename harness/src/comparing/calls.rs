@@ -7,7 +7,7 @@ use crate::call::Call;
 use crate::comparing::compared::Step;
 use crate::comparing::fit::no_mark;
 use crate::comparing::random::Random;
-use crate::layout::{self, best_effort_limit, is_reserved, permitted_sum, two, waits_with};
+use crate::layout::{self, best_effort_limit, is_draining, is_reserved, permitted_sum, two, waits_with};
 use crate::model::octets::RECORD_OCTETS;
 use crate::model::port::{CHARGES, DELAYS, LARGEST_CHARGE, LEAST_CHARGE, LEAST_PERMITTED, LINKS, MARK_YES, STREAMS};
 
@@ -38,9 +38,14 @@ pub struct Weights {
     pub best_effort: usize,
     pub bind: usize,
     pub frame: usize,
+    pub withdraw: usize,
     /// The host writes the open mark.
     pub close: usize,
 }
+
+/// No step at all, for lists that take only some.
+pub const NEVER: Weights =
+    Weights { open: 0, reserve: 0, arrive: 0, tick: 0, transmit: 0, best_effort: 0, bind: 0, frame: 0, withdraw: 0, close: 0 };
 
 /// Which P a Reserve asks for.
 #[derive(Clone, Copy)]
@@ -80,7 +85,7 @@ pub struct Profile {
 
 /// An ordinary profile: every stream and L, charges and P's that press what is left and free, and all calls alike.
 pub const ORDINARY: Profile = Profile {
-    weights: Weights { open: 1, reserve: 1, arrive: 1, tick: 1, transmit: 1, best_effort: 1, bind: 1, frame: 1, close: 0 },
+    weights: Weights { open: 1, reserve: 1, arrive: 1, tick: 1, transmit: 1, best_effort: 1, bind: 1, frame: 1, withdraw: 1, ..NEVER },
     streams: STREAMS,
     links: LINKS,
     permitted: Permitted::NearFree,
@@ -88,8 +93,8 @@ pub const ORDINARY: Profile = Profile {
     edges: 0,
 };
 
-/// Each of the eight calls with good and bad arguments, to be tried on a record of any length and content.
-pub fn each_call(random: &mut Random, record: &[u8]) -> [Call; 19] {
+/// Each of the nine calls with good and bad arguments, to be tried on a record of any length and content.
+pub fn each_call(random: &mut Random, record: &[u8]) -> [Call; 22] {
     let zeros = [0; RECORD_OCTETS];
     let record = if record.len() < RECORD_OCTETS { &zeros } else { record };
     let profile = ORDINARY;
@@ -113,6 +118,9 @@ pub fn each_call(random: &mut Random, record: &[u8]) -> [Call; 19] {
         profile.frame(random, record, false),
         profile.frame(random, record, false),
         profile.frame(random, record, true),
+        profile.withdraw(random, record, false),
+        profile.withdraw(random, record, false),
+        profile.withdraw(random, record, true),
     ]
 }
 
@@ -123,8 +131,8 @@ impl Profile {
         if record[layout::OPEN] != MARK_YES && random.chance(60) {
             return Step::Call(self.open(random, edge));
         }
-        let Weights { open, reserve, arrive, tick, transmit, best_effort, bind, frame, close } = self.weights;
-        Step::Call(match random.weighted(&[open, reserve, arrive, tick, transmit, best_effort, bind, frame, close]) {
+        let Weights { open, reserve, arrive, tick, transmit, best_effort, bind, frame, withdraw, close } = self.weights;
+        Step::Call(match random.weighted(&[open, reserve, arrive, tick, transmit, best_effort, bind, frame, withdraw, close]) {
             0 => self.open(random, edge),
             1 => self.reserve(random, record, edge),
             2 => self.arrive(random, record, edge),
@@ -133,6 +141,7 @@ impl Profile {
             5 => self.best_effort(random, record, edge),
             6 => self.bind(random, record, edge),
             7 => self.frame(random, record, edge),
+            8 => self.withdraw(random, record, edge),
             _ => return Step::HostWrites { at: layout::OPEN, octet: no_mark(random) },
         })
     }
@@ -156,6 +165,17 @@ impl Profile {
         let stream = if edge && random.chance(30) { edge_stream(random) } else { self.stream(random, record, reserved) };
         let permitted = if edge && random.chance(60) { edge_permitted(random, record) } else { self.any_permitted(random, record) };
         Call::Reserve { stream, permitted }
+    }
+
+    /// A Withdraw, most often of a stream that is reserved and does not drain; one at an edge has its stream there, or any.
+    fn withdraw(&self, random: &mut Random, record: &[u8], edge: bool) -> Call {
+        let any = random.below(self.streams);
+        let taking = |stream: &usize| is_reserved(record, *stream) && !is_draining(record, *stream);
+        let stream = (any..self.streams).chain(0..any).find(taking).unwrap_or(any) as u8;
+        if edge && random.chance(50) {
+            return Call::Withdraw { stream: edge_stream(random) };
+        }
+        Call::Withdraw { stream: if edge || random.chance(15) { any as u8 } else { stream } }
     }
 
     /// A P of this profile.

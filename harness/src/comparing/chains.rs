@@ -5,6 +5,7 @@ use crate::capture::file::{self, Record};
 use crate::comparing::calls::Profile;
 use crate::comparing::compared::Step;
 use crate::comparing::coverage::{prior_waits, Coverage, Seen};
+use crate::comparing::draining::{ending, Freed};
 use crate::comparing::fit::Octets;
 use crate::comparing::random::Random;
 use crate::in_place;
@@ -147,13 +148,14 @@ fn events(coverage: &mut Coverage, random: &mut Random, links: &Links, profile: 
 /// Plays one port's chain, and gives an event to each record that has none yet.
 fn walk(coverage: &mut Coverage, random: &mut Random, links: &Links, first: usize, profile: &Profile, events: &mut [Option<Call>]) {
     let Octets { mut record, mut memory } = Octets::zero();
-    let mut index = first;
+    let (mut index, mut freed) = (first, Freed::default());
     while index != 0 {
         coverage.add(Seen::SharedRecord, u64::from(events[index].is_some()));
         let event = events[index].get_or_insert_with(|| any_event(random, profile, &record));
-        let prior_waited = prior_waits(&record);
+        let (prior_waited, ending) = (prior_waits(&record), ending(event, &record));
         let reply = in_place::call(&event.given(), &mut record, &mut memory);
         coverage.count_call(event, &reply, &record, prior_waited);
+        freed.follow(coverage, event, &reply, &ending);
         index = links.next[index];
     }
     coverage.add(Seen::PortWithoutEvents, u64::from(first == 0));

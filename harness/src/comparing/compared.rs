@@ -6,6 +6,7 @@ use std::fmt;
 
 use crate::call::{Call, Given, Reply};
 use crate::comparing::coverage::prior_waits;
+use crate::comparing::draining::{ending, Freed};
 use crate::comparing::fenced::{lend_given, lend_pair, Edge};
 use crate::comparing::lent::{Lend, Lent};
 use crate::comparing::sides::{Play, Side};
@@ -101,6 +102,7 @@ pub struct Compared {
     place: String,
     calls: usize,
     steps: VecDeque<Step>,
+    freed: Freed,
 }
 
 impl Compared {
@@ -116,7 +118,7 @@ impl Compared {
 
     /// Two players at the start of a list or record.
     fn of(players: [Player; 2], run: &Run) -> Compared {
-        Compared { players, place: run.place.clone(), calls: 0, steps: VecDeque::new() }
+        Compared { players, place: run.place.clone(), calls: 0, steps: VecDeque::new(), freed: Freed::default() }
     }
 
     /// The record as the calls so far left it.
@@ -132,6 +134,7 @@ impl Compared {
     /// Lends other octets of the same lengths to both sides.
     pub fn lend_again(&mut self, record: &[u8], memory: &[u8]) {
         self.steps.clear();
+        self.freed = Freed::default();
         for player in &mut self.players {
             player.record.octets_mut().copy_from_slice(record);
             player.memory.octets_mut().copy_from_slice(memory);
@@ -148,7 +151,7 @@ impl Compared {
 
     /// Plays a call on both sides; the reply, or a report of how they differ.
     pub fn call(&mut self, run: &mut Run, call: &Call) -> Result<Reply, String> {
-        let prior_waited = prior_waits(self.record());
+        let (prior_waited, ending) = (prior_waits(self.record()), ending(call, self.record()));
         let [one, other] = &mut self.players;
         let replies = [one.play(call), other.play(call)];
         self.calls += 1;
@@ -157,6 +160,7 @@ impl Compared {
         }
         self.remember(Step::Call(call.clone()));
         run.count_call(call, &replies[0], self.record(), prior_waited);
+        self.freed.follow(&mut run.coverage, call, &replies[0], &ending);
         Ok(replies[0])
     }
 

@@ -10,7 +10,7 @@ use crate::comparing::frames::{stream_of, BESIDE_LENGTH};
 use crate::guarantee::found::Shown;
 use crate::layout;
 use crate::model::port::{BEST_EFFORT, BEST_EFFORT_STREAM, CURRENT, LAST, NOTHING, QUEUE_PLACES, RESERVED_QUEUES, STREAMS};
-use crate::model::refusal::{BEST_EFFORT_EXCEEDED, BEST_EFFORT_FULL, FRAME_LENGTH, MEMORY_SHORT, PORT_CLOSED, RECORD_UNFIT};
+use crate::model::refusal::{BEST_EFFORT_EXCEEDED, BEST_EFFORT_FULL, DRAINING, FRAME_LENGTH, MEMORY_SHORT, PORT_CLOSED, RECORD_UNFIT};
 
 /// One kind of thing that can happen.
 #[derive(Clone, Copy, Debug, PartialEq, Eq, PartialOrd, Ord)]
@@ -59,6 +59,20 @@ pub enum Seen {
     BestEffortFullAndAbove,
     /// A granted Reserve after which W is above K × (L − R).
     LimitBelowWaits,
+    /// A granted Withdraw.
+    Withdrawn,
+    /// A call that was refused with 25, by what it asks of the draining stream.
+    RefusedDraining(Asked),
+    /// A stream that a Tick freed.
+    Freed,
+    /// One of these that was bound.
+    FreedBound,
+    /// A draining stream whose reservation a granted Open dropped.
+    DrainingEndedByOpen,
+    /// A granted Reserve of a stream that a Tick of the list freed.
+    GrantedAgain,
+    /// One of these with no Tick between.
+    GrantedAgainAtOnce,
     /// A granted Bind.
     Bound,
     /// A granted Bind after which all 64 streams are bound.
@@ -114,6 +128,13 @@ impl fmt::Display for Seen {
             Seen::BestEffortFilled => write!(f, "best effort filled"),
             Seen::BestEffortFullAndAbove => write!(f, "best effort full and above"),
             Seen::LimitBelowWaits => write!(f, "limit fell below W"),
+            Seen::Withdrawn => write!(f, "withdrawn"),
+            Seen::RefusedDraining(asked) => write!(f, "{asked} of draining streams refused"),
+            Seen::Freed => write!(f, "freed"),
+            Seen::FreedBound => write!(f, "freed with a binding"),
+            Seen::DrainingEndedByOpen => write!(f, "draining ended by an open"),
+            Seen::GrantedAgain => write!(f, "granted again"),
+            Seen::GrantedAgainAtOnce => write!(f, "granted again at once"),
             Seen::Bound => write!(f, "bound"),
             Seen::AllBound => write!(f, "all streams bound"),
             Seen::FrameArrived => write!(f, "frames that arrived"),
@@ -129,6 +150,26 @@ impl fmt::Display for Seen {
             Seen::PortWithoutEvents => write!(f, "ports without events"),
             Seen::Changed(field) => write!(f, "changed {field}"),
         }
+    }
+}
+
+/// What a call that names a stream asks of it.
+#[derive(Clone, Copy, Debug, PartialEq, Eq, PartialOrd, Ord)]
+pub enum Asked {
+    Reservation,
+    Arrival,
+    Binding,
+    Withdrawal,
+}
+
+impl fmt::Display for Asked {
+    fn fmt(&self, f: &mut fmt::Formatter<'_>) -> fmt::Result {
+        f.write_str(match self {
+            Asked::Reservation => "reservations",
+            Asked::Arrival => "arrivals",
+            Asked::Binding => "bindings",
+            Asked::Withdrawal => "withdrawals",
+        })
     }
 }
 
@@ -168,6 +209,7 @@ impl Coverage {
             self.count_best_effort(charge, reply, record);
         }
         if reply.refusal != 0 {
+            self.count_refused_draining(call, reply);
             return self.count(Seen::Refused(reply.refusal));
         }
         match *call {
@@ -184,8 +226,22 @@ impl Coverage {
                 self.count(Seen::Bound);
                 self.add(Seen::AllBound, u64::from((0..STREAMS).all(|stream| is_bound(record, stream))));
             }
+            Call::Withdraw { .. } => self.count(Seen::Withdrawn),
             Call::Frame { .. } => unreachable!("a Frame is counted as the call that it becomes"),
         }
+    }
+
+    /// Counts a call that was refused with 25 by what it asks.
+    fn count_refused_draining(&mut self, call: &Call, reply: &Reply) {
+        let asked = match call {
+            _ if reply.refusal != DRAINING => return,
+            Call::Reserve { .. } => Asked::Reservation,
+            Call::Arrive { .. } => Asked::Arrival,
+            Call::Bind { .. } => Asked::Binding,
+            Call::Withdraw { .. } => Asked::Withdrawal,
+            _ => return,
+        };
+        self.count(Seen::RefusedDraining(asked));
     }
 
     /// Counts a Frame, and the call that it becomes where it becomes one.

@@ -6,7 +6,7 @@ use crate::capture::file::LAST_INDEX;
 use crate::comparing::calls::OVER_AN_OCTET;
 use crate::model::capture::{
     ARRIVE, BEST_EFFORT, FIRST_INDICES_AT, KIND_AT, LETTERS, MOST_OCTETS, NEXT_INDEX_AT, NUMBER_A_AT, NUMBER_B_AT, OPEN, RECORD_OCTETS,
-    RESERVE, STREAM_AT, ZEROS_AT,
+    RESERVE, STREAM_AT, WITHDRAW, ZEROS_AT,
 };
 use crate::model::octets::TWO;
 use crate::model::refusal::{CAPTURE_HEADER, CAPTURE_INDEX, CAPTURE_LENGTH, CAPTURE_RECORD};
@@ -161,13 +161,14 @@ fn index_damages(at: usize, indices: &[u32]) -> Vec<Damage> {
 /// "24 kind, stream octet, unused number or zero octets" of the record at a place of the file.
 fn record_damages(capture: &[u8], at: usize) -> Vec<Damage> {
     let octet = |within: usize, octet: u8| Damage::Written { at: at + within, octets: vec![octet] };
-    let mut damages = [0, 7, 128, 255].map(|kind| octet(KIND_AT, kind)).to_vec();
+    let mut damages = [0, 8, 128, 255].map(|kind| octet(KIND_AT, kind)).to_vec();
     damages.extend((ZEROS_AT..RECORD_OCTETS).flat_map(|within| [octet(within, 1), octet(within, 255)]));
     let (streams, unused): (&[u8], _) = match capture[at + KIND_AT] {
         OPEN => (&[1, 255], 0..0),
         RESERVE => (&[], NUMBER_B_AT..ZEROS_AT),
         ARRIVE => (&[], 0..0),
         BEST_EFFORT => (&[0, 1, 253, 254], 0..0),
+        WITHDRAW => (&[], NUMBER_A_AT..ZEROS_AT),
         _ => (&[1, 128, 255], NUMBER_A_AT..ZEROS_AT),
     };
     damages.extend(streams.iter().map(|&stream| octet(STREAM_AT, stream)));

@@ -4,15 +4,15 @@ use crate::comparing::random::Random;
 use crate::layout::{self, put_four, put_two, two};
 use crate::model::octets::{MEMORY_OCTETS, RECORD_OCTETS};
 use crate::model::port::{
-    share, BEST_EFFORT, BEST_EFFORT_STREAM, CHARGES, CURRENT, DELAYS, LAST, LEAST_PERMITTED, LINKS, MARK_YES, QUEUES, QUEUE_PLACES,
-    RESERVED_QUEUES, STREAMS, VIDS,
+    share, BEST_EFFORT, BEST_EFFORT_STREAM, CHARGES, CURRENT, DELAYS, DRAINING_TICKS, LAST, LEAST_PERMITTED, LINKS, MARK_YES, NOT_DRAINING,
+    QUEUES, QUEUE_PLACES, RESERVED_QUEUES, STREAMS, VIDS,
 };
 
 /// VID and address of a stream, as they stand in its entry.
 pub type Binding = [u8; layout::BINDING_END - layout::VID];
 
 /// The octets of a record and of its memory.
-#[derive(Clone)]
+#[derive(Clone, PartialEq, Eq)]
 pub struct Octets {
     pub record: Vec<u8>,
     pub memory: Vec<u8>,
@@ -114,7 +114,7 @@ impl Octets {
         permitted
     }
 
-    /// Makes a stream reserved with P, at any place, with any left up to P, and not bound.
+    /// Makes a stream reserved with P, at any place, with any left up to P, draining or not, and not bound.
     pub fn put_reserved(&mut self, random: &mut Random, stream: usize, permitted: u32) {
         let at = layout::entry(stream);
         let left = [0, permitted, random.between(0..=permitted)];
@@ -122,6 +122,7 @@ impl Octets {
         self.record[at + layout::PLACE] = random.between(u32::from(CURRENT)..=u32::from(LAST)) as u8;
         put_two(&mut self.record, at + layout::LEFT, random.pick(&left));
         put_two(&mut self.record, at + layout::PERMITTED, permitted);
+        self.record[at + layout::DRAINING] = any_draining(random);
         self.record[at + layout::BOUND] = no_mark(random);
     }
 
@@ -170,6 +171,12 @@ pub fn binding(record: &[u8], stream: usize) -> Binding {
 pub fn no_mark(random: &mut Random) -> u8 {
     let other = random.other_octet(MARK_YES);
     random.pick(&[0, 2, 255, other])
+}
+
+/// The draining count of a reserved stream: most often that of one that does not drain, else any.
+fn any_draining(random: &mut Random) -> u8 {
+    let ticks = random.between(1..=u32::from(DRAINING_TICKS)) as u8;
+    random.pick(&[NOT_DRAINING, NOT_DRAINING, NOT_DRAINING, NOT_DRAINING, ticks])
 }
 
 /// The start of a queue, anywhere, its ends more often.

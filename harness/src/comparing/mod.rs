@@ -6,6 +6,7 @@ pub mod chains;
 pub mod compared;
 pub mod coverage;
 pub mod damage;
+pub mod draining;
 pub mod fenced;
 pub mod fit;
 pub mod frames;

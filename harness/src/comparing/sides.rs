@@ -3,9 +3,9 @@
 use std::fmt;
 
 use crate::call::{Given, Reply, Stream};
-use crate::guarantee::found::{Alike, Broken, Found};
+use crate::guarantee::found::{Alike, Broken, Found, Numbers};
 use crate::guarantee::list::Event;
-use crate::guarantee::{claims, pairs};
+use crate::guarantee::{claims, pairs, taken};
 use crate::{exports, in_place, model};
 
 /// How a call is played on a lent record and memory.
@@ -19,6 +19,8 @@ pub type Replay = fn(&[u8]) -> String;
 
 /// How a list that was played is held against demand 3.
 pub type Check = fn(&[Event]) -> Result<Found, Broken>;
+/// How the replies of a list to calls that name a stream are held against what is taken.
+pub type CheckNumbers = fn(&[Event]) -> Result<Numbers, Broken>;
 /// How two lists are held beside each other for one stream: how many of its arrivals were compared, if the lists are alike in what is its own.
 pub type CheckPair = fn(&[Event], &[Event], u8) -> Result<Option<Alike>, String>;
 
@@ -48,6 +50,7 @@ pub struct Sides {
     /// The outside program's `replay`.
     pub replay: Replay,
     pub check: Check,
+    pub numbers: CheckNumbers,
     pub pair: CheckPair,
 }
 
@@ -61,6 +64,7 @@ impl Sides {
         in_place: in_place::call,
         replay: model::replay::replay,
         check: claims::check,
+        numbers: taken::check,
         pair: pairs::check,
     };
 

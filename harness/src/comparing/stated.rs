@@ -1,5 +1,5 @@
-//! A list of Binds, Frames and other calls whose replies are written down, from document 01 or for records that are not fit from the quick calls'
-//! definition, played on two sides.
+//! A list of Binds, Frames, Withdraws and other calls whose replies are written down, from documents 01 and 02 or for records that are not fit from
+//! the quick calls' definition, played on two sides.
 
 use crate::call::{Call, Reply, ADDRESS_OCTETS};
 use crate::comparing::compared::Compared;
@@ -69,6 +69,19 @@ impl<'a, 'r> Stated<'a, 'r> {
         match self.record() == after {
             true => Ok(()),
             false => Err(format!("{}: a granted bind of stream {stream} writes other octets than its binding", self.run.place)),
+        }
+    }
+
+    /// A Withdraw that is granted, "A withdrawal replies two zeros", and writes the draining count of its stream and no octet besides.
+    pub fn withdrawn(&mut self, stream: u8) -> Result<(), String> {
+        let mut after = self.octets();
+        self.call(Call::Withdraw { stream }, Reply::granted(0, 0))?;
+        after.record[layout::entry(usize::from(stream)) + 6] = 4;
+        match self.octets() == after {
+            true => Ok(()),
+            false => {
+                Err(format!("{}: a granted withdrawal of stream {stream} writes other octets than its draining count", self.run.place))
+            }
         }
     }
 

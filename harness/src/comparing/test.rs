@@ -16,17 +16,19 @@ pub enum Kind {
     Records,
     Quick,
     Frames,
+    Withdrawals,
     Guarantee,
     Captures,
 }
 
 /// Each kind with the word that names it on the command line.
-pub const KINDS: [(&str, Kind); 7] = [
+pub const KINDS: [(&str, Kind); 8] = [
     ("streams", Kind::Streams),
     ("lists", Kind::Lists),
     ("records", Kind::Records),
     ("quick", Kind::Quick),
     ("frames", Kind::Frames),
+    ("withdrawals", Kind::Withdrawals),
     ("guarantee", Kind::Guarantee),
     ("captures", Kind::Captures),
 ];

@@ -25,10 +25,11 @@ pub fn steps(call: &Call, reply: &Reply, before: &Port) -> Vec<String> {
 fn checks(call: &Call) -> &'static str {
     match call {
         Call::Open { .. } => "2 3 4",
-        Call::Reserve { .. } => "1 5 6 7 8",
-        Call::Arrive { .. } => "1 5 12 13 14",
+        Call::Reserve { .. } => "1 5 25 6 7 8",
+        Call::Arrive { .. } => "1 5 25 12 13 14",
         Call::BestEffort { .. } => "1 13 15 16",
         Call::Tick | Call::Transmit => "1",
+        Call::Withdraw { .. } => "1 5 25 12",
         Call::Bind { .. } | Call::Frame { .. } => unreachable!("no event of a capture is a Bind or a Frame"),
     }
 }

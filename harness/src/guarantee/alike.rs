@@ -91,13 +91,14 @@ fn any_other(random: &mut Random, playing: &mut Playing, stream: u8) {
     let another = ((usize::from(stream) + 1 + random.below(STREAMS - 1)) % STREAMS) as u8;
     let (tag, charge) = (random.number(), random.between(CHARGES));
     let record = &playing.octets().record;
-    let call = match random.weighted(&[1, 4, 20, 20, 10, 4, 15]) {
+    let call = match random.weighted(&[1, 4, 20, 20, 10, 4, 2, 15]) {
         0 => Call::Open { link: random.between(LINKS), delay: 1 },
         1 => Call::Reserve { stream: another, permitted: random.between(LEAST_PERMITTED..=2 * LARGEST_CHARGE) },
         2 => Call::Arrive { stream: another, charge, tag },
         3 => Call::Transmit,
         4 => Call::BestEffort { charge, tag },
         5 => ORDINARY.bind(random, record, false),
+        6 => Call::Withdraw { stream: another },
         _ => ORDINARY.frame(random, record, false),
     };
     other(playing, call, stream);

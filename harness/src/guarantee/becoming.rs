@@ -1,11 +1,11 @@
 //! What each call of a list counts as, from the events alone: a Frame "that is not refused with 17 and becomes an Arrive in its list counts there as
 //! that Arrive". The numbers of document 01 stand here as numbers, not as the model's.
 
-use std::collections::HashMap;
 use std::ops::RangeInclusive;
 
-use crate::call::{Call, ADDRESS_OCTETS};
+use crate::call::Call;
 use crate::guarantee::list::Event;
+use crate::guarantee::taken::{Pair, Taken};
 
 /// "17 frame outside 60 to 1,518 octets".
 const OUTSIDE: u8 = 17;
@@ -15,36 +15,33 @@ const BESIDE_LENGTH: u32 = 4 + 20;
 /// The octets of a header up to those of the VID.
 const HEADER: usize = 16;
 
-/// The streams to which pairs of address and VID are bound.
-type Bound = HashMap<([u8; ADDRESS_OCTETS], u32), u8>;
-
-/// What each call of a list counts as: a Frame that is not refused with 17 as the Arrive or Best effort that it becomes by the Binds that were
-/// granted before it, any other call as itself.
+/// What each call of a list counts as: a Frame that is not refused with 17 as the Arrive or Best effort that it becomes by the bindings of then, any
+/// other call as itself.
 pub fn counted(events: &[Event]) -> Vec<Call> {
-    let mut bound = Bound::new();
+    let mut taken = Taken::default();
     let count = |event: &Event| match (&event.call, event.reply.refusal) {
-        (Call::Frame { octets, tag }, refusal) if refusal != OUTSIDE => becomes(&bound, octets, *tag),
-        (Call::Bind { stream, address, vid }, 0) => {
-            bound.entry((*address, *vid)).or_insert(*stream);
-            event.call.clone()
+        (Call::Frame { octets, tag }, refusal) if refusal != OUTSIDE => becomes(&taken, octets, *tag),
+        (call, 0) => {
+            taken.follow(call);
+            call.clone()
         }
-        _ => event.call.clone(),
+        (call, _) => call.clone(),
     };
     events.iter().map(count).collect()
 }
 
 /// "A bound pair is an Arrive on its stream; all else is best effort."
-fn becomes(bound: &Bound, octets: &[u8], tag: u32) -> Call {
+fn becomes(taken: &Taken, octets: &[u8], tag: u32) -> Call {
     let charge = octets.len() as u32 + BESIDE_LENGTH;
-    match pair(octets).and_then(|pair| bound.get(&pair)) {
-        Some(&stream) => Call::Arrive { stream, charge, tag },
+    match pair(octets).and_then(|pair| taken.bound_to(&pair)) {
+        Some(stream) => Call::Arrive { stream, charge, tag },
         None => Call::BestEffort { charge, tag },
     }
 }
 
 /// "octets 0 to 5 are the destination. If octets 12 and 13 are 81 00 (hexadecimal), the VID is the low 12 bits of octets 14 and 15, high octet
 /// first."
-fn pair(octets: &[u8]) -> Option<([u8; ADDRESS_OCTETS], u32)> {
+fn pair(octets: &[u8]) -> Option<Pair> {
     let header: &[u8; HEADER] = octets.first_chunk()?;
     let destination = *header.first_chunk()?;
     let vid = u32::from(header[14] & 0x0f) << 8 | u32::from(header[15]);

@@ -229,13 +229,18 @@ impl<'a> Told<'a> {
     }
 
     /// "a stream that never offers more than its permitted octets between ticks has each frame accepted as current and sent before the second
-    /// tick after it"; so has every stream for as long as its offers are no more than that.
+    /// tick after it", from a grant to the withdrawal; so has every stream for as long as its offers are no more than that.
     fn conforming_are_current(&self, found: &mut Found) -> Result<(), Broken> {
         for (grant, event) in self.events.iter().enumerate() {
             let (Call::Reserve { stream, permitted }, 0) = (&event.call, event.reply.refusal) else { continue };
-            let offers = self.offers(*stream, grant);
+            let withdrawal = self.withdrawal(*stream, grant);
+            let offers = self.offers(*stream, grant, withdrawal.unwrap_or(self.events.len()));
             let within = self.within(&offers, *permitted);
-            let counts = if within == offers.len() { &mut found.conforming } else { &mut found.beginning };
+            let counts = match (within == offers.len(), withdrawal) {
+                (true, None) => &mut found.conforming,
+                (true, Some(_)) => &mut found.withdrawn,
+                (false, _) => &mut found.beginning,
+            };
             for (number, _) in &offers[..within] {
                 self.current_and_sent(*number, counts)?;
             }
@@ -243,13 +248,19 @@ impl<'a> Told<'a> {
         Ok(())
     }
 
-    /// A stream's offers: "each arrival of a charge from 84 to 1,542 after its grant", with its charge.
-    fn offers(&self, named: u8, grant: usize) -> Vec<(usize, u32)> {
+    /// The number of the granted Withdraw of a stream after its grant, where there is one: "each frame" runs "from a grant to the withdrawal".
+    fn withdrawal(&self, named: u8, grant: usize) -> Option<usize> {
+        let is_own = |number: &usize| self.calls[*number] == Call::Withdraw { stream: named } && self.events[*number].reply.refusal == 0;
+        (grant..self.events.len()).find(is_own)
+    }
+
+    /// A stream's offers: "each arrival of a charge from 84 to 1,542 after its grant", before its withdrawal or the end, with its charge.
+    fn offers(&self, named: u8, grant: usize, end: usize) -> Vec<(usize, u32)> {
         let offer = |number: usize| match self.calls[number] {
             Call::Arrive { stream, charge, .. } if stream == named && CHARGES.contains(&charge) => Some((number, charge)),
             _ => None,
         };
-        (grant..self.events.len()).filter_map(offer).collect()
+        (grant..end).filter_map(offer).collect()
     }
 
     /// How many of the offers come before the first that makes them more than P in a stretch without a tick, "also before the first tick and

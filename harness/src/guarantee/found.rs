@@ -1,6 +1,10 @@
-//! What was found in a list that is held against demand 3: whether the link condition holds, and how much of what it promises was seen.
+//! What was found in a list that is held against demand 3: whether the link condition holds, and how much of what it promises was seen; and what its
+//! replies showed of the numbers that are taken.
 
 use std::fmt;
+
+use crate::call::{Call, Reply};
+use crate::model::refusal::{DRAINING, NOT_RESERVED};
 
 /// Whether a list meets the link condition, and by what.
 #[derive(Clone, Copy, Debug, PartialEq, Eq, PartialOrd, Ord)]
@@ -42,8 +46,10 @@ pub struct Found {
     /// current, as next and as last, and those of all these that were sent after the tick before.
     pub sent_as_replied: [u64; 3],
     pub sent_as_replied_late: u64,
-    /// The arrivals of streams that never offer more than P.
+    /// The arrivals of streams that never offer more than P, from their grant to the end.
     pub conforming: Prompt,
+    /// The arrivals of streams that never offer more than P, from their grant to their withdrawal.
+    pub withdrawn: Prompt,
     /// The arrivals of other streams before the first that makes their offers more than P.
     pub beginning: Prompt,
 }
@@ -60,7 +66,7 @@ pub struct Prompt {
 impl Found {
     /// Nothing found yet.
     pub fn with(link: Link) -> Found {
-        let (conforming, beginning) = (Prompt::default(), Prompt::default());
+        let [conforming, withdrawn, beginning] = [Prompt::default(); 3];
         let (sent_as_replied, sent_as_replied_late) = ([0; 3], 0);
         Found {
             link,
@@ -73,12 +79,13 @@ impl Found {
             sent_as_replied,
             sent_as_replied_late,
             conforming,
+            withdrawn,
             beginning,
         }
     }
 
     /// The counts by what they show.
-    pub fn shown(&self) -> [(Shown, u64); 19] {
+    pub fn shown(&self) -> [(Shown, u64); 22] {
         let [as_current, as_next, as_last] = self.sent_as_replied;
         [
             (Shown::Link(self.link), 1),
@@ -96,6 +103,9 @@ impl Found {
             (Shown::Conforming, self.conforming.current),
             (Shown::ConformingSent, self.conforming.sent),
             (Shown::ConformingAfterFirst, self.conforming.after_first),
+            (Shown::Withdrawn, self.withdrawn.current),
+            (Shown::WithdrawnSent, self.withdrawn.sent),
+            (Shown::WithdrawnAfterFirst, self.withdrawn.after_first),
             (Shown::BeginningList, u64::from(self.beginning.current > 0)),
             (Shown::Beginning, self.beginning.current),
             (Shown::BeginningSent, self.beginning.sent),
@@ -131,12 +141,18 @@ pub enum Shown {
     SentAsLast,
     /// One of these three that was not sent before the tick before that.
     SentAsRepliedLate,
-    /// An arrival, accepted as current, of a stream that never offers more than P.
+    /// An arrival, accepted as current, of a stream that never offers more than P from its grant to the end.
     Conforming,
     /// One of these that was sent before the second tick after it.
     ConformingSent,
     /// One of these that was not sent before the first.
     ConformingAfterFirst,
+    /// An arrival, accepted as current, of a stream that never offers more than P from its grant to its withdrawal.
+    Withdrawn,
+    /// One of these that was sent before the second tick after it.
+    WithdrawnSent,
+    /// One of these that was not sent before the first.
+    WithdrawnAfterFirst,
     /// A list with such an arrival as the next.
     BeginningList,
     /// An arrival, accepted as current, of a stream that did not offer more than P up to it, and later does.
@@ -153,13 +169,57 @@ pub enum Shown {
     ArrivalCompared,
     /// One of these that is a Frame in one list and an Arrive in the other.
     FrameCompared,
+    /// A granted Withdraw.
+    Withdrawal,
+    /// A call that was refused with 25.
+    RefusedDraining,
+    /// An arrival, a withdrawal or a binding of a freed number, refused with 12.
+    RefusedFree,
+    /// A granted Reserve of a freed number.
+    GrantedAgain,
+    /// A Withdraw that was compared in both lists of a pair.
+    WithdrawalCompared,
 }
 
-/// Two lists that are alike: how many arrivals were compared, and how many of these are a Frame in one list and an Arrive in the other.
+/// What the replies of a list showed of the numbers, share and pairs that are taken.
+#[derive(Clone, Copy, Debug, Default, PartialEq, Eq)]
+pub struct Numbers {
+    pub withdrawals: u64,
+    pub refused_draining: u64,
+    pub refused_free: u64,
+    pub granted_again: u64,
+}
+
+impl Numbers {
+    /// Counts a call that replies what is due, and names a freed number or not.
+    pub fn count(&mut self, call: &Call, reply: &Reply, is_freed: bool) {
+        match (call, reply.refusal) {
+            (Call::Withdraw { .. }, 0) => self.withdrawals += 1,
+            (_, DRAINING) => self.refused_draining += 1,
+            (Call::Reserve { .. }, 0) if is_freed => self.granted_again += 1,
+            (_, NOT_RESERVED) if is_freed => self.refused_free += 1,
+            _ => (),
+        }
+    }
+
+    /// The counts by what they show.
+    pub fn shown(&self) -> [(Shown, u64); 4] {
+        [
+            (Shown::Withdrawal, self.withdrawals),
+            (Shown::RefusedDraining, self.refused_draining),
+            (Shown::RefusedFree, self.refused_free),
+            (Shown::GrantedAgain, self.granted_again),
+        ]
+    }
+}
+
+/// Two lists that are alike: how many arrivals were compared, how many of these are a Frame in one list and an Arrive in the other, and how many
+/// Withdraws of the stream there are.
 #[derive(Clone, Copy, Debug, PartialEq, Eq)]
 pub struct Alike {
     pub arrivals: u64,
     pub frames: u64,
+    pub withdrawals: u64,
 }
 
 impl fmt::Display for Shown {
@@ -184,6 +244,9 @@ impl fmt::Display for Shown {
             Shown::Conforming => "arrivals of streams that conform to the end accepted as current",
             Shown::ConformingSent => "of these sent before the 2nd tick",
             Shown::ConformingAfterFirst => "of these not before the 1st",
+            Shown::Withdrawn => "arrivals of streams that conform to their withdrawal accepted as current",
+            Shown::WithdrawnSent => "of these sent before the 2nd tick",
+            Shown::WithdrawnAfterFirst => "of these not before the 1st",
             Shown::BeginningList => "lists with streams that conform for a while",
             Shown::Beginning => "their arrivals until then accepted as current",
             Shown::BeginningSent => "of these sent before the 2nd tick",
@@ -192,6 +255,11 @@ impl fmt::Display for Shown {
             Shown::PairApart => "pairs apart in grants",
             Shown::ArrivalCompared => "arrivals compared",
             Shown::FrameCompared => "of these a frame in one list alone",
+            Shown::Withdrawal => "withdrawals",
+            Shown::RefusedDraining => "refused 25",
+            Shown::RefusedFree => "refused 12 after draining",
+            Shown::GrantedAgain => "granted again",
+            Shown::WithdrawalCompared => "withdrawals compared",
         })
     }
 }

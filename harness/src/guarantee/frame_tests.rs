@@ -9,12 +9,12 @@ use crate::guarantee::{becoming, pairs};
 
 impl Hand {
     /// A Bind of a stream to an address that has one octet in all its places, and VID 1.
-    fn bind(&mut self, stream: u8, octet: u8, reply: Reply) {
+    pub fn bind(&mut self, stream: u8, octet: u8, reply: Reply) {
         self.put(Call::Bind { stream, address: [octet; 6], vid: 1 }, reply);
     }
 
     /// A Frame to such an address with VID 1 that replies as said.
-    fn frame(&mut self, octet: u8, length: usize, reply: Reply) -> usize {
+    pub fn frame(&mut self, octet: u8, length: usize, reply: Reply) -> usize {
         self.put(Call::Frame { octets: tagged(octet, length), tag: 7 }, reply)
     }
 }
@@ -33,17 +33,18 @@ fn frames_count_as_what_they_become() {
     hand.bind(STREAM, 9, Reply::refused(9));
     hand.frame(9, 60, Reply::granted(84, 0));
     hand.bind(STREAM, 9, Reply::granted(0, 0));
+    hand.put(Call::Reserve { stream: 6, permitted: 84 }, Reply::granted(316, 0));
     hand.bind(6, 8, Reply::granted(0, 0));
     for (octet, length, refusal) in [(9, 60, 0), (8, 1_518, 14), (7, 100, 16), (9, 59, 17)] {
         hand.frame(octet, length, Reply::refused(refusal));
     }
     let counted = becoming::counted(&hand.events);
     assert_eq!(counted[3], Call::BestEffort { charge: 84, tag: 7 });
-    assert_eq!(counted[6], Call::Arrive { stream: STREAM, charge: 84, tag: 7 });
-    assert_eq!(counted[7], Call::Arrive { stream: 6, charge: 1_542, tag: 7 });
-    assert_eq!(counted[8], Call::BestEffort { charge: 124, tag: 7 });
-    assert_eq!(counted[9], hand.events[9].call);
-    for number in [0, 1, 2, 4, 5] {
+    assert_eq!(counted[7], Call::Arrive { stream: STREAM, charge: 84, tag: 7 });
+    assert_eq!(counted[8], Call::Arrive { stream: 6, charge: 1_542, tag: 7 });
+    assert_eq!(counted[9], Call::BestEffort { charge: 124, tag: 7 });
+    assert_eq!(counted[10], hand.events[10].call);
+    for number in [0, 1, 2, 4, 5, 6] {
         assert_eq!(counted[number], hand.events[number].call);
     }
 }
@@ -126,7 +127,7 @@ fn pairs_of_lists_by_frames() {
     other.arrive(84, Reply::granted(1, 116));
     other.bind(STREAM, 8, Reply::granted(0, 0));
     other.frame(8, 60, Reply::granted(1, 0));
-    assert_eq!(pairs::check(&one.events, &other.events, STREAM), Ok(Some(Alike { arrivals: 2, frames: 2 })));
+    assert_eq!(pairs::check(&one.events, &other.events, STREAM), Ok(Some(Alike { arrivals: 2, frames: 2, withdrawals: 0 })));
     other.events[2].reply = Reply::granted(1, 115);
     assert!(pairs::check(&one.events, &other.events, STREAM).is_err());
     other.events[3].reply = Reply::refused(10);

@@ -28,7 +28,8 @@ pub fn check(one: &[Event], other: &[Event], stream: u8) -> Result<Option<Alike>
         )),
         None => {
             let frames = both.clone().filter(|(one, other)| one.is_frame != other.is_frame).count();
-            Ok(Some(Alike { arrivals: both.count() as u64, frames: frames as u64 }))
+            let withdrawals = one.iter().filter(|own| matches!(own.call, Call::Withdraw { .. })).count();
+            Ok(Some(Alike { arrivals: both.count() as u64, frames: frames as u64, withdrawals: withdrawals as u64 }))
         }
     }
 }
@@ -40,11 +41,11 @@ fn own(events: &[Event], stream: u8) -> Vec<Own> {
     counted.map(|(number, call)| Own { number, call, is_frame: is_frame(number), reply: events[number].reply }).collect()
 }
 
-/// Whether a call counts as a tick, or as a Reserve or Arrive that names the stream.
+/// Whether a call counts as a tick, or as a Reserve, an Arrive or a Withdraw that names the stream.
 pub fn is_own(call: &Call, own: u8) -> bool {
     match *call {
         Call::Tick => true,
-        Call::Reserve { stream, .. } | Call::Arrive { stream, .. } => stream == own,
+        Call::Reserve { stream, .. } | Call::Arrive { stream, .. } | Call::Withdraw { stream } => stream == own,
         _ => false,
     }
 }

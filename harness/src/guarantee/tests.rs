@@ -1,5 +1,5 @@
 //! The checkers' own tests: lists with replies that no port need ever have given, each of which breaks one claim, or just does not. Those with
-//! Frames are in `frame_tests`.
+//! Frames are in `frame_tests`, those with Withdraws in `withdraw_tests`.
 
 use crate::call::{Call, Given, Reply};
 use crate::comparing::fit::Octets;
@@ -23,7 +23,7 @@ pub struct Hand {
 
 impl Hand {
     /// A list after a granted Open.
-    fn opened() -> Hand {
+    pub fn opened() -> Hand {
         let mut hand = Hand { events: Vec::new() };
         hand.put(Call::Open { link: LINK, delay: 1 }, Reply::granted(SHARE, 0));
         hand
@@ -68,7 +68,7 @@ impl Hand {
     }
 
     /// A Tick that purges nothing.
-    fn tick(&mut self) {
+    pub fn tick(&mut self) {
         self.put(Call::Tick, Reply::granted(0, 0));
     }
 
@@ -86,7 +86,7 @@ impl Hand {
     }
 
     /// The words about the call that breaks the claim.
-    fn words(&self) -> String {
+    pub fn words(&self) -> String {
         claims::check(&self.events).expect_err("the list breaks a claim").words
     }
 
@@ -351,7 +351,7 @@ fn conforming_frames_within_two_ticks() {
 }
 
 /// So many arrivals that are accepted as current, and for which the list ends before the second tick.
-fn current(current: u64) -> Prompt {
+pub fn current(current: u64) -> Prompt {
     Prompt { current, ..Prompt::default() }
 }
 
@@ -454,11 +454,11 @@ fn pairs_of_lists() {
     other.tick();
     other.arrive(300, Reply::refused(14));
     other.put(Call::BestEffort { charge: 84, tag: 0 }, Reply::granted(84, 0));
-    assert_eq!(pairs::check(&one.events, &other.events, STREAM), Ok(Some(Alike { arrivals: 2, frames: 0 })));
+    assert_eq!(pairs::check(&one.events, &other.events, STREAM), Ok(Some(Alike { arrivals: 2, frames: 0, withdrawals: 0 })));
     for reply in [Reply::granted(1, 1), Reply::granted(2, 0), Reply::refused(14)] {
         one.events[2].reply = reply;
         assert!(pairs::check(&one.events, &other.events, STREAM).is_err());
-        assert_eq!(pairs::check(&one.events, &other.events, 7), Ok(Some(Alike { arrivals: 0, frames: 0 })));
+        assert_eq!(pairs::check(&one.events, &other.events, 7), Ok(Some(Alike { arrivals: 0, frames: 0, withdrawals: 0 })));
     }
     one.events[1].reply = Reply::refused(8);
     assert_eq!(pairs::check(&one.events, &other.events, STREAM), Ok(None));

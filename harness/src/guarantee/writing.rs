@@ -3,7 +3,7 @@
 
 use std::ops::RangeInclusive;
 
-use crate::call::Call;
+use crate::call::{Call, ADDRESS_OCTETS};
 use crate::comparing::calls::{Profile, ORDINARY};
 use crate::comparing::compared::Step;
 use crate::comparing::fit::Octets;
@@ -59,6 +59,8 @@ pub struct Manner {
     pub transmit: usize,
     pub services: &'static [Service],
     pub ticks: RangeInclusive<u32>,
+    /// How many reserved streams in a hundred are withdrawn in each stretch; what they leave free is most often granted again as soon as it can be.
+    pub withdrawn: usize,
 }
 
 /// A list that is being written.
@@ -72,6 +74,8 @@ struct Writer<'a> {
     /// What each stream offered since the last tick, and whether it still offers no more than P.
     offered: [u32; STREAMS],
     conforming: [bool; STREAMS],
+    /// Which streams were granted a reservation.
+    was_granted: [bool; STREAMS],
     /// Reservations that are still to come.
     later: Vec<(u8, u32)>,
     /// How many streams in a hundred offer all that they can between two ticks; the others can still fill all their queues later.
@@ -90,6 +94,7 @@ pub fn write(random: &mut Random, play: Play, begin: &Octets, manner: &Manner) -
         writer.serve(service);
         writer.tick();
         writer.cease(manner);
+        writer.grant_again(manner);
     }
     writer.stretch(manner, Service::Any);
     writer.playing.events
@@ -120,14 +125,28 @@ impl<'a> Writer<'a> {
     fn open(random: &'a mut Random, play: Play, begin: &Octets, link: u32) -> Writer<'a> {
         let mut playing = Playing::new(play, begin);
         playing.call(Call::Open { link, delay: random.between(DELAYS) });
-        let (offered, conforming) = ([0; STREAMS], [false; STREAMS]);
+        let (offered, conforming, was_granted) = ([0; STREAMS], [false; STREAMS], [false; STREAMS]);
         let pressed = random.pick(&[100, 100, 75]);
-        Writer { random, playing, share: link - LARGEST_CHARGE, sent: 0, idle: false, offered, conforming, later: Vec::new(), pressed }
+        Writer {
+            random,
+            playing,
+            share: link - LARGEST_CHARGE,
+            sent: 0,
+            idle: false,
+            offered,
+            conforming,
+            was_granted,
+            later: Vec::new(),
+            pressed,
+        }
     }
 
     /// Plays a call, and keeps what the link sent and what a stream offered.
     fn call(&mut self, call: Call) {
         let event = self.playing.call(call);
+        if let (Call::Reserve { stream, .. }, 0) = (&event.call, event.reply.refusal) {
+            self.was_granted[usize::from(*stream)] = true;
+        }
         if event.call == Call::Transmit {
             match self.charge_sent(&event) {
                 Some(charge) => self.sent += charge,
@@ -205,14 +224,61 @@ impl<'a> Writer<'a> {
         if let Some((stream, permitted)) = self.later.pop() {
             self.call(Call::Reserve { stream, permitted });
         }
+        self.bind_most_often();
+    }
+
+    /// Most often binds a stream.
+    fn bind_most_often(&mut self) {
         if self.random.chance(BOUND) {
             let bind = ORDINARY.bind(self.random, &self.playing.octets().record, false);
             self.call(bind);
         }
     }
 
+    /// Withdraws some of the streams that are reserved, draining ones among them.
+    fn withdraw(&mut self, manner: &Manner) {
+        for stream in self.reserved() {
+            if self.random.chance(manner.withdrawn) {
+                self.call(Call::Withdraw { stream: stream as u8 });
+            }
+        }
+    }
+
+    /// Grants what withdrawn streams left free to one of the numbers that are not reserved, most often a freed one.
+    fn grant_again(&mut self, manner: &Manner) {
+        let record = &self.playing.octets().record;
+        let free = self.share - layout::permitted_sum(record);
+        let was_granted = |stream: &usize| !layout::is_reserved(record, *stream) && self.was_granted[*stream];
+        let freed: Vec<usize> = (0..STREAMS).filter(was_granted).collect();
+        if manner.withdrawn == 0 || freed.is_empty() || free < LEAST_PERMITTED || self.random.chance(15) {
+            return;
+        }
+        let (any, freed, others) = (self.random.below(STREAMS), self.random.pick(&freed), self.random.pick(&[0, 0, 1]));
+        self.ask_free(freed as u8);
+        let stream = self.random.pick(&[freed, freed, freed, any]);
+        let permitted = self.part(manner, free, others);
+        self.conforming[stream] = self.random.chance(manner.conforming);
+        self.call(Call::Reserve { stream: stream as u8, permitted });
+        self.bind_most_often();
+    }
+
+    /// Now and then a call of a number that is free, which is refused.
+    fn ask_free(&mut self, stream: u8) {
+        let tag = self.random.number();
+        match self.random.below(9) {
+            0 => self.call(Call::Arrive { stream, charge: LEAST_CHARGE, tag }),
+            1 => self.call(Call::Withdraw { stream }),
+            2 => self.call(Call::Bind { stream, address: [0; ADDRESS_OCTETS], vid: 1 }),
+            _ => (),
+        }
+    }
+
     /// The calls between two ticks, but for those by which the link serves at their end.
     fn stretch(&mut self, manner: &Manner, service: Service) {
+        let withdrawn_first = self.random.chance(30);
+        if withdrawn_first {
+            self.withdraw(manner);
+        }
         if manner.pressed {
             for stream in self.random.shuffled(STREAMS) {
                 if self.random.chance(self.pressed) {
@@ -229,6 +295,9 @@ impl<'a> Writer<'a> {
                 4 => self.refused_call(),
                 _ => (),
             }
+        }
+        if !withdrawn_first {
+            self.withdraw(manner);
         }
     }
 

@@ -1,7 +1,7 @@
 //! The quick calls as plain Rust in place, on the layout of the record and the memory: what the quick calls are held against on records of any
 //! content, and what the benchmark measures them beside. Written from their definition (`crates/port/specs/Quick.antt` and the steps below it), which
 //! is total: the queue in a role is (prior + role) modulo 4 for every prior, a ring's place is taken modulo 256 for every start, a place that
-//! is none of the three goes by the same sentences, W falls to no less than 0, and so does what L leaves beside R; of streams that are bound to
+//! is none of the three goes by the same sentences, a draining count of any size falls by one at a tick, W falls to no less than 0, and so does what L leaves beside R; of streams that are bound to
 //! one pair the first counts, reserved or not.
 
 mod bindings;
@@ -9,9 +9,9 @@ mod fields;
 mod traffic;
 
 use crate::call::{Call, Given, Reply};
-use crate::layout::{self, entry, BOUND, DELAY, LEFT, LINK, OPEN, PERMITTED, PLACE, PRIOR, RESERVED, WAITS};
+use crate::layout::{self, entry, BOUND, DELAY, DRAINING, LEFT, LINK, OPEN, PERMITTED, PLACE, PRIOR, RESERVED, WAITS};
 use crate::model::octets::{MEMORY_OCTETS, RECORD_OCTETS};
-use crate::model::port::{BEST_EFFORT, CURRENT, DELAYS, LEAST_PERMITTED, LINKS, MARK_NO, MARK_YES, STREAMS};
+use crate::model::port::{BEST_EFFORT, CURRENT, DELAYS, DRAINING_TICKS, LEAST_PERMITTED, LINKS, MARK_NO, MARK_YES, NOT_DRAINING, STREAMS};
 use bindings::bind;
 use fields::{permitted_sum, put_four, put_two, share, two};
 use traffic::{arrive, best_effort, frame, tick, transmit};
@@ -43,6 +43,7 @@ fn played(call: &Given, port: &mut [u8], memory: &mut [u8]) -> Result<Reply, u8>
         Call::BestEffort { charge, tag } => best_effort(record, memory, charge, tag),
         Call::Bind { stream, address, vid } => bind(record, stream, address, vid),
         Call::Frame { octets, tag } => frame(record, memory, octets, tag),
+        Call::Withdraw { stream } => withdraw(record, stream),
     }
 }
 
@@ -67,17 +68,31 @@ fn open(record: &mut Record, link: u32, delay: u32) -> Result<Reply, u8> {
     put_four(record, WAITS, 0);
     record[layout::start(0)..layout::start(BEST_EFFORT + 1)].fill(0);
     for at in (0..STREAMS).map(entry) {
-        record[at + RESERVED] = MARK_NO;
-        record[at + BOUND] = MARK_NO;
+        free(record, at);
     }
     Ok(Reply::granted(share(link as u16), 0))
 }
 
-/// Reserve(s, P): 1, 5, 6, 7, 8, then the step.
+/// The entry of a stream with its reservation, its draining and its binding gone: three octets.
+#[inline(always)]
+fn free(record: &mut Record, at: usize) {
+    record[at + RESERVED] = MARK_NO;
+    record[at + DRAINING] = NOT_DRAINING;
+    record[at + BOUND] = MARK_NO;
+}
+
+/// Whether the stream of an entry drains: it is reserved, and its count is any but 0.
+#[inline(always)]
+fn is_draining(record: &Record, at: usize) -> bool {
+    record[at + RESERVED] == MARK_YES && record[at + DRAINING] != NOT_DRAINING
+}
+
+/// Reserve(s, P): 1, 5, 25, 6, 7, 8, then the step.
 fn reserve(record: &mut Record, stream: u8, permitted: u32) -> Result<Reply, u8> {
     refuse(1, record[OPEN] != MARK_YES)?;
     refuse(5, stream as usize >= STREAMS)?;
     let at = entry(stream as usize);
+    refuse(25, is_draining(record, at))?;
     refuse(6, record[at + RESERVED] == MARK_YES)?;
     refuse(7, permitted < LEAST_PERMITTED)?;
     let free = share(two(record, LINK)) as u64;
@@ -87,5 +102,17 @@ fn reserve(record: &mut Record, stream: u8, permitted: u32) -> Result<Reply, u8>
     record[at + PLACE] = CURRENT;
     put_two(record, at + LEFT, permitted as u16);
     put_two(record, at + PERMITTED, permitted as u16);
+    record[at + DRAINING] = NOT_DRAINING;
     Ok(Reply::granted((free - sum) as u32, 0))
+}
+
+/// Withdraw(s): 1, 5, 25, 12, then the step.
+fn withdraw(record: &mut Record, stream: u8) -> Result<Reply, u8> {
+    refuse(1, record[OPEN] != MARK_YES)?;
+    refuse(5, stream as usize >= STREAMS)?;
+    let at = entry(stream as usize);
+    refuse(25, is_draining(record, at))?;
+    refuse(12, record[at + RESERVED] != MARK_YES)?;
+    record[at + DRAINING] = DRAINING_TICKS;
+    Ok(Reply::granted(0, 0))
 }

@@ -2,18 +2,19 @@
 
 use super::bindings::{bound_to, Binding};
 use super::fields::{four, frame_at, permitted_sum, put_four, put_two, ring, role, two};
-use super::{refuse, Memory, Record};
+use super::{free, is_draining, refuse, Memory, Record};
 use crate::call::Reply;
-use crate::layout::{self, entry, DELAY, LEFT, LINK, OPEN, PERMITTED, PLACE, PRIOR, RESERVED, WAITS};
+use crate::layout::{self, entry, DELAY, DRAINING, LEFT, LINK, OPEN, PERMITTED, PLACE, PRIOR, RESERVED, WAITS};
 use crate::model::frame::{self, FRAME_LENGTHS};
-use crate::model::port::{BEST_EFFORT, BEST_EFFORT_STREAM, CHARGES, CURRENT, LAST, MARK_YES, NOTHING, QUEUE_PLACES, STREAMS};
+use crate::model::port::{BEST_EFFORT, BEST_EFFORT_STREAM, CHARGES, CURRENT, LAST, MARK_YES, NOTHING, NOT_DRAINING, QUEUE_PLACES, STREAMS};
 
-/// Arrive(s, a, tag): 1, 5, 12, 13, then the step.
+/// Arrive(s, a, tag): 1, 5, 25, 12, 13, then the step.
 #[inline(always)]
 pub fn arrive(record: &mut Record, memory: &mut Memory, stream: u8, charge: u32, tag: u32) -> Result<Reply, u8> {
     refuse(1, record[OPEN] != MARK_YES)?;
     refuse(5, stream as usize >= STREAMS)?;
     let at = entry(stream as usize);
+    refuse(25, is_draining(record, at))?;
     refuse(12, record[at + RESERVED] != MARK_YES)?;
     refuse(13, !CHARGES.contains(&charge))?;
     let charge = charge as u16;
@@ -71,6 +72,11 @@ pub fn tick(record: &mut Record, memory: &mut Memory) -> Result<Reply, u8> {
             record.copy_within(at + PERMITTED..at + PERMITTED + 2, at + LEFT);
         } else {
             record[at + PLACE] -= 1;
+        }
+        match record[at + DRAINING] {
+            NOT_DRAINING => (),
+            1 => free(record, at),
+            _ => record[at + DRAINING] -= 1,
         }
     }
     Ok(Reply::granted(count as u32, octets))

@@ -1,4 +1,5 @@
-//! Capture files: document 01, "Capture file" and "Kinds", and the capture writer's refusals, 21 to 24, in their order.
+//! Capture files: document 01, "Capture file" and "Kinds", with kind 7 of document 02, "Withdraw a stream", and the capture writer's refusals, 21 to
+//! 24, in their order.
 
 use super::octets::{number, FOUR, TWO};
 use super::refusal;
@@ -43,6 +44,8 @@ pub const BEST_EFFORT: u8 = 4;
 pub const TICK: u8 = 5;
 /// "6 transmit".
 pub const TRANSMIT: u8 = 6;
+/// A withdrawal: "in captures it is kind 7, with any stream octet and A and B 0".
+pub const WITHDRAW: u8 = 7;
 
 /// "The stream octet is any value in 2 and 3, 255 in 4, else 0": that of best effort.
 pub const STREAM_OF_BEST_EFFORT: u8 = 255;
@@ -117,6 +120,7 @@ pub fn event(record: &[u8]) -> Option<Call> {
         BEST_EFFORT if stream == STREAM_OF_BEST_EFFORT => Some(Call::BestEffort { charge: a, tag: b }),
         TICK if stream == NO_STREAM && a == 0 && b == 0 => Some(Call::Tick),
         TRANSMIT if stream == NO_STREAM && a == 0 && b == 0 => Some(Call::Transmit),
+        WITHDRAW if a == 0 && b == 0 => Some(Call::Withdraw { stream }),
         _ => None,
     }
 }
@@ -130,6 +134,7 @@ pub fn kind(event: &Call) -> u8 {
         Call::BestEffort { .. } => BEST_EFFORT,
         Call::Tick => TICK,
         Call::Transmit => TRANSMIT,
+        Call::Withdraw { .. } => WITHDRAW,
         Call::Bind { .. } | Call::Frame { .. } => unreachable!("no kind of event is a Bind or a Frame"),
     }
 }

@@ -1,14 +1,15 @@
-//! What a lent memory and a port record must be before any rule runs: refusals 18 and 19 of document 01.
+//! What a lent memory and a port record must be before any rule runs: refusals 18 and 19 of document 01, the latter with a clause
+//! of document 02, "Withdraw a stream".
 
 use std::collections::VecDeque;
 
 use super::octets::{self, MEMORY_OCTETS, RECORD_OCTETS};
 use super::port::{
-    permitted_sum, share, Frame, Stream, BEST_EFFORT, BEST_EFFORT_STREAM, CHARGES, CURRENT, DELAYS, LAST, LEAST_PERMITTED, LINKS, MARK_YES,
-    NEXT, QUEUES, QUEUE_PLACES, RESERVED_QUEUES, STREAMS, VIDS,
+    permitted_sum, share, Frame, Stream, BEST_EFFORT, BEST_EFFORT_STREAM, CHARGES, CURRENT, DELAYS, DRAINING_TICKS, LAST, LEAST_PERMITTED,
+    LINKS, MARK_YES, NEXT, QUEUES, QUEUE_PLACES, RESERVED_QUEUES, STREAMS, VIDS,
 };
 
-/// The clauses of 19, in document 01's order.
+/// The clauses of 19, in document 01's order, that of document 02 beside the others on reserved streams.
 #[derive(Clone, Copy, Debug, PartialEq, Eq)]
 pub enum Clause {
     /// The record is too short to hold a port.
@@ -23,6 +24,8 @@ pub enum Clause {
     Place,
     /// "or left above P".
     Left,
+    /// "19 covers a draining count outside 1 to 4": of a reserved stream that has one, on closed ports too.
+    Draining,
     /// "a binding that repeats".
     BindingRepeats,
     /// "belongs to an unreserved stream".
@@ -47,13 +50,14 @@ pub enum Clause {
     PermittedSum,
 }
 
-/// Every clause that asks for a record of full length, in document 01's order.
+/// Every clause that asks for a record of full length, in that order.
 const CLAUSES: &[Clause] = &[
     Clause::Prior,
     Clause::Start,
     Clause::Count,
     Clause::Place,
     Clause::Left,
+    Clause::Draining,
     Clause::BindingRepeats,
     Clause::BindingUnreserved,
     Clause::BindingVid,
@@ -72,7 +76,7 @@ pub fn memory_short(memory: &[u8]) -> bool {
     memory.len() < MEMORY_OCTETS
 }
 
-/// 19: the clauses that the record breaks, in document 01's order; a clause that cannot be judged is not among them.
+/// 19: the clauses that the record breaks, in that order; a clause that cannot be judged is not among them.
 pub fn unfit(record: &[u8], memory: &[u8]) -> Vec<Clause> {
     if record.len() < RECORD_OCTETS {
         return vec![Clause::ShortRecord];
@@ -89,6 +93,7 @@ fn breaks(clause: Clause, record: &[u8], memory: &[u8]) -> bool {
         Clause::Count => (0..QUEUES).any(|queue| !count_fits(record, queue)),
         Clause::Place => reserved(record).iter().any(|stream| ![CURRENT, NEXT, LAST].contains(&stream.place)),
         Clause::Left => reserved(record).iter().any(|stream| stream.left > stream.permitted),
+        Clause::Draining => reserved(record).iter().any(|stream| stream.is_draining() && stream.draining > DRAINING_TICKS),
         Clause::BindingRepeats => binding_repeats(&bound(record)),
         Clause::BindingUnreserved => octets::streams(record).iter().any(|stream| stream.is_bound() && !stream.is_reserved()),
         Clause::BindingVid => bound(record).iter().any(|stream| !VIDS.contains(&stream.vid)),

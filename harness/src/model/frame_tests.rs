@@ -56,7 +56,7 @@ fn pairs_of_frames() {
 #[test]
 fn bind_writes_what_its_rule_names() {
     let mut lent = Lent::of_the_cases();
-    lent.record[ENTRY + 6..ENTRY + 16].fill(0xee);
+    lent.record[ENTRY + 7..ENTRY + 16].fill(0xee);
     let mut after = lent.clone();
     assert_eq!(lent.bind(STREAM, ADDRESS, 0x0abc), (0, 0, 0));
     after.record[ENTRY + 7..ENTRY + 16].copy_from_slice(&[1, 0x0a, 0xbc, 1, 2, 3, 4, 5, 6]);

@@ -1,7 +1,8 @@
 //! A plain model of a port: the state read from its octets, the rule run on it in the document's words, the state written back; and of `replay`, on
 //! the plain state alone.
 //!
-//! It is written from document 01 and its settled readings alone, and knows nothing of the proved code against which it is held.
+//! It is written from document 01, the requests of document 02 that have landed and their settled readings alone, and knows nothing of the proved
+//! code against which it is held.
 //! It is meant to be read line by line, not to be fast.
 
 pub mod capture;
@@ -16,6 +17,8 @@ pub mod replay;
 pub mod rule;
 #[cfg(test)]
 mod tests;
+#[cfg(test)]
+mod withdraw_tests;
 
 use crate::call::{Given, Reply};
 

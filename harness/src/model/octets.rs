@@ -42,6 +42,8 @@ const PLACE_IN_ENTRY: usize = 1;
 const LEFT_IN_ENTRY: usize = 2;
 /// Where P stands in a stream's entry, two octets.
 const PERMITTED_IN_ENTRY: usize = 4;
+/// Where the draining count stands in a stream's entry, one octet.
+const DRAINING_IN_ENTRY: usize = 6;
 /// Where the bound mark stands in a stream's entry, one octet.
 const BOUND_IN_ENTRY: usize = 7;
 /// Where the VID stands in a stream's entry, two octets.
@@ -135,6 +137,7 @@ fn stream(record: &[u8], stream: usize) -> Stream {
         place: record[entry + PLACE_IN_ENTRY],
         left: number(record, entry + LEFT_IN_ENTRY, TWO),
         permitted: number(record, entry + PERMITTED_IN_ENTRY, TWO),
+        draining: record[entry + DRAINING_IN_ENTRY],
         bound: record[entry + BOUND_IN_ENTRY],
         vid: number(record, entry + VID_IN_ENTRY, TWO),
         address,
@@ -195,13 +198,14 @@ pub fn write(port: &Port, record: &mut [u8], memory: &mut [u8]) {
     }
 }
 
-/// Writes the entry of a stream, but not its spare octet.
+/// Writes the entry of a stream.
 fn write_stream(stream: &Stream, record: &mut [u8], number: usize) {
     let entry = stream_entry(number);
     record[entry + RESERVED_IN_ENTRY] = stream.reserved;
     record[entry + PLACE_IN_ENTRY] = stream.place;
     put_number(record, entry + LEFT_IN_ENTRY, TWO, stream.left);
     put_number(record, entry + PERMITTED_IN_ENTRY, TWO, stream.permitted);
+    record[entry + DRAINING_IN_ENTRY] = stream.draining;
     record[entry + BOUND_IN_ENTRY] = stream.bound;
     put_number(record, entry + VID_IN_ENTRY, TWO, stream.vid);
     record[entry + ADDRESS_IN_ENTRY..entry + ADDRESS_IN_ENTRY + ADDRESS_OCTETS].copy_from_slice(&stream.address);

@@ -1,4 +1,5 @@
-//! The state of a port in plain form: document 01, "State of a port", and its numbers, each named once.
+//! The state of a port in plain form: document 01, "State of a port", with the draining of document 02, "Withdraw a stream", and its numbers, each
+//! named once.
 
 use std::collections::VecDeque;
 use std::ops::RangeInclusive;
@@ -9,6 +10,10 @@ use crate::call::ADDRESS_OCTETS;
 pub const QUEUES: usize = 5;
 /// "One port has four queues for reserved traffic": queues 0 to 3.
 pub const RESERVED_QUEUES: usize = 4;
+/// "It drains until the fourth tick after the withdrawal": by then every queue of now has been prior.
+pub const DRAINING_TICKS: u8 = RESERVED_QUEUES as u8;
+/// What the draining count of a stream is that does not drain.
+pub const NOT_DRAINING: u8 = 0;
 /// "Best effort is queue 4."
 pub const BEST_EFFORT: usize = 4;
 /// "each queue has 256 of them" (frame places), so it holds "at most 256 frames".
@@ -70,6 +75,8 @@ pub struct Stream {
     pub place: u8,
     pub left: u32,
     pub permitted: u32,
+    /// The draining count of a reserved stream: 0, or the ticks until it is free. That of an unreserved stream means nothing.
+    pub draining: u8,
     pub bound: u8,
     pub vid: u32,
     pub address: [u8; ADDRESS_OCTETS],
@@ -123,9 +130,27 @@ impl Stream {
         self.reserved == MARK_YES
     }
 
+    /// Whether the stream drains: "it still counts as reserved".
+    pub fn is_draining(&self) -> bool {
+        self.is_reserved() && self.draining != NOT_DRAINING
+    }
+
     /// Whether the stream has a binding.
     pub fn is_bound(&self) -> bool {
         self.bound == MARK_YES
+    }
+
+    /// "It drains until the fourth tick after the withdrawal", "then number and share are free and its binding is gone"; of a stream that does not
+    /// drain a tick ends nothing.
+    pub fn drain(&mut self) {
+        if !self.is_draining() {
+            return;
+        }
+        self.draining -= 1;
+        if self.draining == NOT_DRAINING {
+            self.reserved = MARK_NO;
+            self.bound = MARK_NO;
+        }
     }
 
     /// "the place advances by one and left becomes P".
@@ -139,8 +164,16 @@ impl Port {
     /// "A port starts closed, its queues empty and no stream reserved."
     pub fn closed() -> Port {
         let queue = Queue { start: 0, frames: VecDeque::new() };
-        let stream =
-            Stream { reserved: MARK_NO, place: CURRENT, left: 0, permitted: 0, bound: MARK_NO, vid: 0, address: [0; ADDRESS_OCTETS] };
+        let stream = Stream {
+            reserved: MARK_NO,
+            place: CURRENT,
+            left: 0,
+            permitted: 0,
+            draining: NOT_DRAINING,
+            bound: MARK_NO,
+            vid: 0,
+            address: [0; ADDRESS_OCTETS],
+        };
         Port { open: MARK_NO, prior: 0, delay: 0, link: 0, waits: 0, queues: vec![queue; QUEUES], streams: vec![stream; STREAMS] }
     }
 

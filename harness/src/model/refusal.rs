@@ -1,4 +1,5 @@
-//! The refusal numbers of document 01, "Who can bring a call to grief", each named once, and what the document says of each.
+//! The refusal numbers of document 01, "Who can bring a call to grief", and of document 02's requests, each named once, and what the documents say of
+//! each.
 
 /// "1 port closed".
 pub const PORT_CLOSED: u8 = 1;
@@ -48,9 +49,11 @@ pub const CAPTURE_HEADER: u8 = 22;
 pub const CAPTURE_INDEX: u8 = 23;
 /// "24 kind, stream octet, unused number or zero octets".
 pub const CAPTURE_RECORD: u8 = 24;
+/// 25, "an arrival, reservation, binding or withdrawal of a draining stream".
+pub const DRAINING: u8 = 25;
 
-/// What document 01 says of each refusal, in the order of the numbers, with the ends of a range that it names elsewhere.
-const WORDS: [(u8, &str); 24] = [
+/// What the documents say of each refusal, in the order of the numbers, with the ends of a range that they name elsewhere.
+const WORDS: [(u8, &str); 25] = [
     (PORT_CLOSED, "port closed"),
     (OPEN_ALREADY, "open already"),
     (LINK_OUTSIDE, "L outside its range, 1,626 to 23,046"),
@@ -75,14 +78,15 @@ const WORDS: [(u8, &str); 24] = [
     (CAPTURE_HEADER, "header letters or zero octets"),
     (CAPTURE_INDEX, "first or next index"),
     (CAPTURE_RECORD, "kind, stream octet, unused number or zero octets"),
+    (DRAINING, "stream draining"),
 ];
 
-/// What document 01 says of a refusal; of a number that is none, nothing.
+/// What the documents say of a refusal; of a number that is none, nothing.
 pub fn words(refusal: u8) -> Option<&'static str> {
     WORDS.iter().find(|(number, _)| *number == refusal).map(|&(_, words)| words)
 }
 
-/// A refusal in words: its number, and what document 01 says of it.
+/// A refusal in words: its number, and what the documents say of it.
 pub fn told(refusal: u8) -> String {
     match words(refusal) {
         Some(words) => format!("refused with {refusal}: {words}"),

@@ -1,9 +1,10 @@
-//! The steps of document 01 on a port that is fit: each call's checks in their order, then its rule in the document's words.
+//! The steps of document 01, and Withdraw of document 02, on a port that is fit: each call's checks in their order, then its rule in the documents'
+//! words.
 
 use super::frame::{self, Pair, FRAME_LENGTHS};
 use super::port::{
-    permitted_sum, share, Frame, Port, Stream, BEST_EFFORT, BEST_EFFORT_STREAM, CHARGES, CURRENT, DELAYS, LAST, LEAST_PERMITTED, LINKS,
-    MARK_NO, MARK_YES, NEXT, NOTHING, QUEUE_PLACES, RESERVED_QUEUES, STREAMS, VIDS,
+    permitted_sum, share, Frame, Port, Stream, BEST_EFFORT, BEST_EFFORT_STREAM, CHARGES, CURRENT, DELAYS, DRAINING_TICKS, LAST,
+    LEAST_PERMITTED, LINKS, MARK_NO, MARK_YES, NEXT, NOTHING, NOT_DRAINING, QUEUE_PLACES, RESERVED_QUEUES, STREAMS, VIDS,
 };
 use super::refusal;
 use crate::call::{Call, Given, Reply, ADDRESS_OCTETS};
@@ -19,10 +20,11 @@ pub fn step(call: &Given, port: &mut Port) -> Reply {
         Call::BestEffort { charge, tag } => best_effort(port, charge, tag),
         Call::Bind { stream, address, vid } => bind(port, usize::from(stream), *address, vid),
         Call::Frame { octets, tag } => frame(port, octets, tag),
+        Call::Withdraw { stream } => withdraw(port, usize::from(stream)),
     }
 }
 
-/// "Open(L, K) empties all queues, drops all reservations and bindings and sets W to 0"; it replies the share.
+/// "Open(L, K) empties all queues, drops all reservations and bindings and sets W to 0"; it "ends all draining", and replies the share.
 fn open(port: &mut Port, link: u32, delay: u32) -> Reply {
     if port.is_open() {
         return Reply::refused(refusal::OPEN_ALREADY);
@@ -43,18 +45,22 @@ fn open(port: &mut Port, link: u32, delay: u32) -> Reply {
     }
     for stream in &mut port.streams {
         stream.reserved = MARK_NO;
+        stream.draining = NOT_DRAINING;
         stream.bound = MARK_NO;
     }
     Reply::granted(share(link), 0)
 }
 
-/// "Reserve(s, P) sets place current, left P"; it replies the share still free, the new P taken off.
+/// "Reserve(s, P) sets place current, left P", and no draining; it replies the share still free, the new P taken off.
 fn reserve(port: &mut Port, number: usize, permitted: u32) -> Reply {
     if !port.is_open() {
         return Reply::refused(refusal::PORT_CLOSED);
     }
     if number >= STREAMS {
         return Reply::refused(refusal::STREAM_ABOVE);
+    }
+    if port.streams[number].is_draining() {
+        return Reply::refused(refusal::DRAINING);
     }
     if port.streams[number].is_reserved() {
         return Reply::refused(refusal::RESERVED_ALREADY);
@@ -72,6 +78,7 @@ fn reserve(port: &mut Port, number: usize, permitted: u32) -> Reply {
     stream.permitted = permitted;
     stream.place = CURRENT;
     stream.left = permitted;
+    stream.draining = NOT_DRAINING;
     Reply::granted((share - sum) as u32, 0)
 }
 
@@ -82,6 +89,9 @@ fn arrive(port: &mut Port, number: usize, charge: u32, tag: u32) -> Reply {
     }
     if number >= STREAMS {
         return Reply::refused(refusal::STREAM_ABOVE);
+    }
+    if port.streams[number].is_draining() {
+        return Reply::refused(refusal::DRAINING);
     }
     if !port.streams[number].is_reserved() {
         return Reply::refused(refusal::NOT_RESERVED);
@@ -123,7 +133,8 @@ fn join(port: &mut Port, number: usize, mut stream: Stream, charge: u32, tag: u3
     Reply::granted(u32::from(joined), stream.left)
 }
 
-/// "Tick purges prior, and replies with the frames and octets purged"; then every role and every stream moves.
+/// "Tick purges prior, and replies with the frames and octets purged"; then every role and every stream moves, and a draining
+/// stream is a tick nearer to its end.
 fn tick(port: &mut Port) -> Reply {
     if !port.is_open() {
         return Reply::refused(refusal::PORT_CLOSED);
@@ -143,6 +154,7 @@ fn tick(port: &mut Port) -> Reply {
             // The place is last: a reserved stream with any other is 19.
             _ => stream.place = NEXT,
         }
+        stream.drain();
     }
     Reply::granted(frames, octets)
 }
@@ -195,6 +207,9 @@ fn bind(port: &mut Port, number: usize, address: [u8; ADDRESS_OCTETS], vid: u32)
     if number >= STREAMS {
         return Reply::refused(refusal::STREAM_ABOVE);
     }
+    if port.streams[number].is_draining() {
+        return Reply::refused(refusal::DRAINING);
+    }
     if !port.streams[number].is_reserved() {
         return Reply::refused(refusal::NOT_RESERVED);
     }
@@ -211,6 +226,24 @@ fn bind(port: &mut Port, number: usize, address: [u8; ADDRESS_OCTETS], vid: u32)
     stream.bound = MARK_YES;
     stream.vid = vid;
     stream.address = address;
+    Reply::granted(0, 0)
+}
+
+/// "A withdrawn stream stops taking frames, while its frames already queued stay queued": from now on it drains. "A withdrawal replies two zeros."
+fn withdraw(port: &mut Port, number: usize) -> Reply {
+    if !port.is_open() {
+        return Reply::refused(refusal::PORT_CLOSED);
+    }
+    if number >= STREAMS {
+        return Reply::refused(refusal::STREAM_ABOVE);
+    }
+    if port.streams[number].is_draining() {
+        return Reply::refused(refusal::DRAINING);
+    }
+    if !port.streams[number].is_reserved() {
+        return Reply::refused(refusal::NOT_RESERVED);
+    }
+    port.streams[number].draining = DRAINING_TICKS;
     Reply::granted(0, 0)
 }
 

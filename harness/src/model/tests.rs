@@ -1,5 +1,5 @@
 //! The model's own tests: cases of document 01 with what they leave in the record, its refusals, and which octets each call writes. The sample and
-//! all cases are played in `comparing::tests::sample`; the tests of Bind and Frame are in `frame_tests`.
+//! all cases are played in `comparing::tests::sample`; the tests of Bind and Frame are in `frame_tests`, those of Withdraw in `withdraw_tests`.
 
 use super::fitness::{unfit, Clause};
 use super::*;
@@ -23,7 +23,7 @@ pub struct Lent {
 
 impl Lent {
     /// A record and memory of zeros: a closed port.
-    fn zeroed() -> Lent {
+    pub fn zeroed() -> Lent {
         Lent { record: vec![0; RECORD], memory: vec![0; MEMORY] }
     }
 
@@ -57,7 +57,7 @@ impl Lent {
     }
 
     /// Plays a Tick.
-    fn tick(&mut self) -> (u8, u32, u32) {
+    pub fn tick(&mut self) -> (u8, u32, u32) {
         self.play(Call::Tick)
     }
 
@@ -488,6 +488,7 @@ fn open_writes_what_its_rule_names() {
     lent.record[16..36].fill(0);
     lent.fill(2, 40);
     lent.record[ENTRY] = 1;
+    lent.record[ENTRY + 6] = 4;
     lent.put_place(2, 0);
     let mut after = lent.clone();
     assert_eq!(lent.open(2_142, 16), (0, 600, 0));
@@ -496,12 +497,12 @@ fn open_writes_what_its_rule_names() {
     after.record[16..36].fill(0);
     for stream in 0..64 {
         after.record[64 + 16 * stream] = 0;
-        after.record[64 + 16 * stream + 7] = 0;
+        after.record[64 + 16 * stream + 6..64 + 16 * stream + 8].fill(0);
     }
     assert_eq!(lent, after);
 }
 
-/// Reserve writes reserved, place, left and P of its stream.
+/// Reserve writes reserved, place, left, P and the draining count of its stream.
 #[test]
 fn reserve_writes_what_its_rule_names() {
     let mut lent = Lent::zeroed();
@@ -509,7 +510,7 @@ fn reserve_writes_what_its_rule_names() {
     lent.record[ENTRY..ENTRY + 16].fill(0xEE);
     let mut after = lent.clone();
     assert_eq!(lent.reserve(STREAM, 300), (0, 300, 0));
-    after.record[ENTRY..ENTRY + 6].copy_from_slice(&[1, 1, 1, 44, 1, 44]);
+    after.record[ENTRY..ENTRY + 7].copy_from_slice(&[1, 1, 1, 44, 1, 44, 0]);
     assert_eq!(lent, after);
 }
 
@@ -634,7 +635,7 @@ fn draw(seed: &mut u64) -> u32 {
 /// One call of any kind, most of them with arguments that are near their ranges.
 fn any_call(seed: &mut u64) -> Call {
     let stream = (draw(seed) % 3) as u8 * 63;
-    match draw(seed) % 14 {
+    match draw(seed) % 15 {
         0 => Call::Open { link: 1_600 + draw(seed) % 22_000, delay: draw(seed) % 18 },
         1 => Call::Reserve { stream, permitted: draw(seed) % 2_000 },
         2 => Call::Tick,
@@ -642,6 +643,7 @@ fn any_call(seed: &mut u64) -> Call {
         4 | 5 => Call::BestEffort { charge: draw(seed) % 1_600, tag: draw(seed) },
         6 => Call::Bind { stream, address: [0; 6], vid: draw(seed) % 3 },
         7..=9 => any_frame(seed),
+        10 => Call::Withdraw { stream },
         _ => Call::Arrive { stream, charge: draw(seed) % 1_600, tag: draw(seed) },
     }
 }
@@ -664,7 +666,7 @@ fn refusals_keep_contents_and_lists_stay_fit() {
         for _ in 0..100 {
             let before = lent.clone();
             let reply = lent.play(any_call(&mut seed));
-            assert!(reply.0 < 18);
+            assert!(reply.0 < 18 || reply.0 == 25);
             assert!(reply.0 == 0 || (reply.1, reply.2) == (0, 0));
             assert!(reply.0 == 0 || reply.0 == 14 || lent == before);
         }

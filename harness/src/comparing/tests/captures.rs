@@ -4,10 +4,12 @@ use std::ops::RangeInclusive;
 
 use crate::capture::file::MOST_RECORDS;
 use crate::capture::stored::{self, Stored};
-use crate::comparing::calls::{Charges, Profile, Weights, ORDINARY};
+use crate::comparing::calls::{Charges, Profile, Weights, NEVER, ORDINARY};
 use crate::comparing::chains::{any_shape, capture, shape_in_turn};
-use crate::comparing::coverage::Seen;
-use crate::comparing::profiles::{any_profile, full_queues, FEW_STREAMS, FULL_LINK, HARDLY_ANY_TRANSMITS, MANY_STREAMS, WRONG_ARGUMENTS};
+use crate::comparing::coverage::{Asked, Seen};
+use crate::comparing::profiles::{
+    any_profile, full_queues, FEW_STREAMS, FULL_LINK, HARDLY_ANY_TRANSMITS, MANY_STREAMS, WITHDRAWING, WRONG_ARGUMENTS,
+};
 use crate::comparing::random::Random;
 use crate::comparing::replayed::refusal_of;
 use crate::comparing::test::{Kind, Run, Test};
@@ -16,7 +18,7 @@ use crate::model::capture::RECORD_OCTETS;
 use crate::model::refusal::*;
 
 /// The tests of this file.
-pub const TESTS: [Test; 15] = [
+pub const TESTS: [Test; 16] = [
     test("stored_captures", stored_captures),
     test("reading_reset_to_current", |run| stored_capture(run, "reading_reset_to_current")),
     test("reading_three_epochs", |run| stored_capture(run, "reading_three_epochs")),
@@ -29,6 +31,7 @@ pub const TESTS: [Test; 15] = [
     test("captures_of_full_queues", captures_of_full_queues),
     test("captures_with_purges", captures_with_purges),
     test("captures_of_best_effort", captures_of_best_effort),
+    test("captures_of_withdrawals", captures_of_withdrawals),
     test("captures_of_wrong_arguments", captures_of_wrong_arguments),
     test("captures_of_any_events", captures_of_any_events),
     test("captures_of_greatest_length", captures_of_greatest_length),
@@ -101,7 +104,7 @@ fn captures_with_purges(run: &mut Run) -> Result<(), String> {
 
 /// Best effort to its limit, below it after a reservation, and to 256 frames.
 fn captures_of_best_effort(run: &mut Run) -> Result<(), String> {
-    let weights = |transmit| Weights { open: 0, reserve: 1, arrive: 5, tick: 3, transmit, best_effort: 90, bind: 0, frame: 0, close: 0 };
+    let weights = |transmit| Weights { reserve: 1, arrive: 5, tick: 3, transmit, best_effort: 90, ..NEVER };
     let pressed = |random: &mut Random| Profile { weights: weights(random.pick(&[2, 30])), edges: 2, ..ORDINARY };
     play(run, 250, 50..=600, pressed)?;
     run.demand(&[(Seen::Refused(BEST_EFFORT_EXCEEDED), 2_000), (Seen::LimitBelowWaits, 50), (Seen::BestEffortAtLimit, 500)])?;
@@ -109,6 +112,13 @@ fn captures_of_best_effort(run: &mut Run) -> Result<(), String> {
     play(run, 150, 600..=1_500, filled)?;
     run.demand(&[(Seen::BestEffortFilled, 100), (Seen::BestEffortWrapped, 1_000), (Seen::SentFromBestEffort, 5_000)])?;
     run.demand(&[(Seen::Refused(BEST_EFFORT_FULL), 2_000), (Seen::BestEffortOneAbove, 200)])
+}
+
+/// Streams that are withdrawn, drain and are granted again.
+fn captures_of_withdrawals(run: &mut Run) -> Result<(), String> {
+    play(run, 400, 50..=600, |_| WITHDRAWING)?;
+    run.demand(&[(Seen::Withdrawn, 5_000), (Seen::Freed, 5_000), (Seen::GrantedAgain, 4_000), (Seen::GrantedAgainAtOnce, 500)])?;
+    run.demand(&[Asked::Reservation, Asked::Arrival, Asked::Withdrawal].map(|asked| (Seen::RefusedDraining(asked), 500)))
 }
 
 /// Every argument outside its range, at its ends and where fewer bits would hide it.

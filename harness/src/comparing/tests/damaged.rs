@@ -23,7 +23,7 @@ pub const TESTS: [Test; 6] = [
     test("damaged_anywhere", damaged_anywhere),
 ];
 
-/// A capture of 15 records: each port's chain, all kinds, records that ports share, and two on no chain.
+/// A capture of 16 records: each port's chain, all kinds, records that ports share, and two on no chain.
 const CAPTURE: &str = "
 first 3 11            # in the middle of port 2's chain
 port 0                # record 1
@@ -45,18 +45,19 @@ arrive 63 84 2
 best effort 1542 3
 tick
 transmit
+withdraw 63
 ";
 
 /// What `replay` prints of it.
 const OUTPUT: &str = "0 1 1 0 600 0\n0 2 2 0 400 0\n0 3 3 0 1 80\n0 4 4 0 84 0\n0 5 5 0 0 0\n0 6 6 0 5 7\n\
-1 1 1 0 684 0\n1 2 2 0 600 0\n1 3 3 0 1 84\n1 4 4 0 1542 0\n1 5 5 0 0 0\n1 6 6 0 63 2\n\
-2 1 2 1 0 0\n2 2 3 1 0 0\n2 3 4 1 0 0\n2 4 5 1 0 0\n2 5 6 1 0 0\n3 1 3 1 0 0\n3 2 4 1 0 0\n3 3 5 1 0 0\n3 4 6 1 0 0\n";
+1 1 1 0 684 0\n1 2 2 0 600 0\n1 3 3 0 1 84\n1 4 4 0 1542 0\n1 5 5 0 0 0\n1 6 6 0 63 2\n1 7 7 0 0 0\n\
+2 1 2 1 0 0\n2 2 3 1 0 0\n2 3 4 1 0 0\n2 4 5 1 0 0\n2 5 6 1 0 0\n2 6 7 1 0 0\n3 1 3 1 0 0\n3 2 4 1 0 0\n3 3 5 1 0 0\n3 4 6 1 0 0\n3 5 7 1 0 0\n";
 
 /// Its records on no chain.
 const UNUSED: [usize; 2] = [7, 9];
 
 /// Its records in the order in which the ports' walks first meet them, each behind the port of that walk; ports 2 and 3 meet none first.
-const WALKS: [(usize, &[usize]); 4] = [(0, &[1, 2, 3, 4, 5, 6]), (1, &[8, 10, 11, 12, 13, 14]), (2, &[]), (3, &[])];
+const WALKS: [(usize, &[usize]); 4] = [(0, &[1, 2, 3, 4, 5, 6]), (1, &[8, 10, 11, 12, 13, 14, 15]), (2, &[]), (3, &[])];
 
 /// How many damages of the first of two checks are tried.
 const DAMAGES_OF_A_PAIR: usize = 6;

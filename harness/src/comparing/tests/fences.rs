@@ -8,7 +8,7 @@ use crate::comparing::sides::Side;
 use crate::comparing::test::{Kind, Run, Test};
 use crate::comparing::tests::each_call::try_lengths;
 use crate::model::octets::{MEMORY_OCTETS, RECORD_OCTETS};
-use crate::model::refusal::FRAME_LENGTH;
+use crate::model::refusal::{DRAINING, FRAME_LENGTH};
 
 /// The tests between fences.
 pub const TESTS: [Test; 3] = [
@@ -59,5 +59,6 @@ fn between_fences(run: &mut Run, side: Side) -> Result<(), String> {
         Compared::fenced(side, run, &octets.record, &octets.memory, edges)
     })?;
     run.demand(&[(Seen::FitRecord, 100), (Seen::UnfitRecord, 500), (Seen::Ticked, 40), (Seen::Opened, 40), (Seen::BestEffort, 40)])?;
-    run.demand(&[(Seen::Bound, 20), (Seen::FrameArrived, 20), (Seen::FrameBestEffort, 40), (Seen::FrameRefused(FRAME_LENGTH), 20)])
+    run.demand(&[(Seen::Bound, 20), (Seen::FrameArrived, 20), (Seen::FrameBestEffort, 40), (Seen::FrameRefused(FRAME_LENGTH), 20)])?;
+    run.demand(&[(Seen::Withdrawn, 40), (Seen::Freed, 40), (Seen::Refused(DRAINING), 20)])
 }

@@ -2,7 +2,7 @@
 //! document 01 gives; and lists of frames among all other calls.
 
 use crate::call::{Call, Reply};
-use crate::comparing::calls::{Profile, Weights, ORDINARY};
+use crate::comparing::calls::{Profile, Weights, NEVER, ORDINARY};
 use crate::comparing::coverage::Seen;
 use crate::comparing::fit::{binding, Octets};
 use crate::comparing::frames::{Header, PRIORITIES, TAGGED};
@@ -227,12 +227,12 @@ fn frames_of_the_first_that_is_bound(run: &mut Run) -> Result<(), String> {
     run.demand(&[(Seen::FrameArrived, 2)])
 }
 
+/// The steps of lists of frames.
+const OF_FRAMES: Weights =
+    Weights { reserve: 15, arrive: 10, tick: 8, transmit: 30, best_effort: 5, bind: 15, frame: 100, withdraw: 2, ..NEVER };
+
 /// The profile of lists of frames: many Binds, and Frames more often than all else.
-const FRAMES: Profile = Profile {
-    weights: Weights { open: 1, reserve: 15, arrive: 10, tick: 8, transmit: 30, best_effort: 5, bind: 15, frame: 100, close: 1 },
-    edges: 10,
-    ..ORDINARY
-};
+const FRAMES: Profile = Profile { weights: Weights { open: 1, close: 1, ..OF_FRAMES }, edges: 10, ..ORDINARY };
 
 /// Lists from an opening, the calls beside the model and the quick calls beside the calls.
 fn frames_in_lists(run: &mut Run) -> Result<(), String> {

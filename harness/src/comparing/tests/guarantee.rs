@@ -21,13 +21,15 @@ use crate::layout;
 use crate::model::port::{LINKS, STREAMS};
 
 /// The tests of this kind.
-pub const TESTS: [Test; 11] = [
+pub const TESTS: [Test; 13] = [
     test("guarantee_in_lists_of_any_calls", lists_of_any_calls),
     test("guarantee_beside_overfilled_streams", beside_overfilled_streams),
     test("guarantee_of_streams_that_conform_for_a_while", of_streams_that_conform_for_a_while),
     test("guarantee_where_marks_alone_tell_frames_apart", where_marks_alone_tell_frames_apart),
     test("guarantee_where_just_the_share_is_sent", where_just_the_share_is_sent),
     test("guarantee_where_one_frame_too_few_is_sent", where_one_frame_too_few_is_sent),
+    test("guarantee_of_withdrawn_streams", of_withdrawn_streams),
+    test("guarantee_of_withdrawn_streams_where_ticks_purge", of_withdrawn_streams_where_ticks_purge),
     test("guarantee_where_the_link_is_idle", where_the_link_is_idle),
     test("guarantee_in_full_queues", in_full_queues),
     test("guarantee_of_many_streams_in_long_lists", of_many_streams_in_long_lists),
@@ -63,6 +65,7 @@ const OVERFILLED: Manner = Manner {
     transmit: 8,
     services: &[Service::Share, Service::Share, Service::Share, Service::Idle],
     ticks: 4..=14,
+    withdrawn: 0,
 };
 
 /// Streams that offer all they may and no more, most of them until some tick, and then overfill.
@@ -78,6 +81,12 @@ const JUST_THE_SHARE: Manner =
 /// The same with a link that now and then serves one frame too few.
 const ONE_FRAME_SHORT: Manner =
     Manner { conforming: 0, services: &[Service::Share, Service::Share, Service::Share, Service::OneFrameShort], ..JUST_THE_SHARE };
+
+/// Streams that are withdrawn again and again, and of which others take number and share as soon as they are free, with no octet of it left over.
+const WITHDRAWN: Manner = Manner { streams: 1..=6, conforming: 60, withdrawn: 12, ticks: 10..=24, turns: 0..=12, ..JUST_THE_SHARE };
+
+/// The same with a link that now and then serves one frame too few.
+const WITHDRAWN_AND_SHORT: Manner = Manner { services: ONE_FRAME_SHORT.services, ..WITHDRAWN };
 
 /// Streams that offer less than they may, beside best effort, and a link that has time left.
 const IDLE: Manner = Manner {
@@ -121,7 +130,8 @@ fn lists_of_any_calls(run: &mut Run) -> Result<(), String> {
     demand(run, &[(SentAsCurrent, 50_000), (SentAsNext, 7_000), (SentAsLast, 5_000), (SentAsRepliedLate, 6_000)])?;
     demand(run, &[(BeginningList, 900), (Beginning, 8_000), (BeginningSent, 6_000), (BeginningAfterFirst, 1_000)])?;
     demand(run, &[(TwinsList, 1_000), (Twin, 5_000), (Pair, 4_000), (ArrivalCompared, 80_000)])?;
-    demand(run, &[(FrameArrival, 30_000), (FrameBestEffort, 60_000), (FrameCompared, 40_000)])
+    demand(run, &[(FrameArrival, 30_000), (FrameBestEffort, 60_000), (FrameCompared, 40_000)])?;
+    demand(run, &[(Withdrawal, 3_000), (RefusedDraining, 10_000), (RefusedFree, 500), (GrantedAgain, 1_000), (WithdrawalCompared, 500)])
 }
 
 /// Conforming streams beside streams that overfill.
@@ -172,6 +182,23 @@ fn where_one_frame_too_few_is_sent(run: &mut Run) -> Result<(), String> {
     demand(run, &[(FrameArrival, 50_000), (FrameCompared, 30_000)])
 }
 
+/// Streams that are withdrawn, drain and are granted again while the link sends just the share.
+fn of_withdrawn_streams(run: &mut Run) -> Result<(), String> {
+    hold(run, &PROVED, 1_000, in_manner(&WITHDRAWN))?;
+    run.demand_none(Seen::Shown(Link(Failed)))?;
+    demand(run, &[(Link(ByBoth), 700), (SentInTime, 60_000), (SentAfterThird, 2_000), (SentAsLast, 20_000)])?;
+    demand(run, &[(Withdrawal, 4_000), (RefusedDraining, 15_000), (RefusedFree, 300), (GrantedAgain, 2_000)])?;
+    demand(run, &[(Withdrawn, 20_000), (WithdrawnSent, 20_000), (WithdrawnAfterFirst, 5_000), (Conforming, 10_000), (Beginning, 4_000)])?;
+    demand(run, &[(Pair, 1_200), (ArrivalCompared, 50_000), (FrameCompared, 20_000), (WithdrawalCompared, 1_500)])
+}
+
+/// The same where the link sends too little, so that ticks purge: numbers, share and replies are what they are all the same.
+fn of_withdrawn_streams_where_ticks_purge(run: &mut Run) -> Result<(), String> {
+    hold(run, &PROVED, 500, in_manner(&WITHDRAWN_AND_SHORT))?;
+    demand(run, &[(Link(Failed), 400), (Purging, 150), (Withdrawal, 2_000), (RefusedDraining, 8_000), (GrantedAgain, 1_000)])?;
+    demand(run, &[(Pair, 600), (ArrivalCompared, 25_000), (WithdrawalCompared, 800)])
+}
+
 /// A link with time left: between any two ticks a transmit sends nothing, or best effort.
 fn where_the_link_is_idle(run: &mut Run) -> Result<(), String> {
     hold(run, &PROVED, 3_000, in_manner(&IDLE))?;
@@ -204,14 +231,15 @@ fn of_many_streams_in_long_lists(run: &mut Run) -> Result<(), String> {
 /// The model keeps the demand too; faults that cannot be seeded in the exports are seeded there.
 fn of_the_model(run: &mut Run) -> Result<(), String> {
     hold(run, &[Side::Model], 60, any_list)?;
-    for manner in [&OVERFILLED, &JUST_THE_SHARE, &ONE_FRAME_SHORT, &IDLE] {
+    for manner in [&OVERFILLED, &JUST_THE_SHARE, &ONE_FRAME_SHORT, &WITHDRAWN, &IDLE] {
         hold(run, &[Side::Model], 80, in_manner(manner))?;
     }
     hold(run, &[Side::Model], 10, in_manner(&FULL))?;
     demand(run, &[(Link(ByOctets), 10), (Link(ByIdle), 20), (Link(Failed), 20), (Purging, 10)])?;
     demand(run, &[(SentAsCurrent, 4_000), (SentAsNext, 800), (SentAsLast, 2_000), (Beginning, 800), (Twin, 1_000)])?;
     demand(run, &[(SentInTime, 5_000), (Conforming, 3_000), (Pair, 100), (ArrivalCompared, 5_000)])?;
-    demand(run, &[(FrameArrival, 10_000), (FrameBestEffort, 2_500), (FrameCompared, 8_000)])
+    demand(run, &[(FrameArrival, 10_000), (FrameBestEffort, 2_500), (FrameCompared, 8_000)])?;
+    demand(run, &[(Withdrawal, 200), (Withdrawn, 500), (RefusedDraining, 500), (GrantedAgain, 100)])
 }
 
 /// Fails if lists showed a thing less often than is asked at full size.
@@ -262,7 +290,8 @@ fn hold(run: &mut Run, sides: &[Side], lists: usize, write: impl Fn(&mut Random,
 fn hold_one(run: &mut Run, side: Side, events: &[Event]) -> Result<Found, String> {
     let found = (run.sides.check)(events).map_err(|broken| report(run, side, events, &broken))?;
     run.calls += events.len() as u64;
-    for (shown, times) in found.shown() {
+    let numbers = (run.sides.numbers)(events).map_err(|broken| report(run, side, events, &broken))?;
+    for (shown, times) in found.shown().into_iter().chain(numbers.shown()) {
         run.coverage.add(Seen::Shown(shown), times);
     }
     Ok(found)
@@ -274,12 +303,14 @@ fn hold_pair(run: &mut Run, random: &mut Random, side: Side, events: &[Event]) -
     let begin = a_port_to_open(random, side);
     let other = alike::write(random, run.sides.play(side), &begin, events, stream);
     (run.sides.check)(&other).map_err(|broken| report(run, side, &other, &broken))?;
+    (run.sides.numbers)(&other).map_err(|broken| report(run, side, &other, &broken))?;
     run.calls += other.len() as u64;
     match (run.sides.pair)(events, &other, stream).map_err(|words| format!("{}, {side}: {words}", run.place))? {
-        Some(Alike { arrivals, frames }) => {
+        Some(Alike { arrivals, frames, withdrawals }) => {
             run.coverage.count(Seen::Shown(Pair));
             run.coverage.add(Seen::Shown(ArrivalCompared), arrivals);
             run.coverage.add(Seen::Shown(FrameCompared), frames);
+            run.coverage.add(Seen::Shown(WithdrawalCompared), withdrawals);
         }
         None => run.coverage.count(Seen::Shown(PairApart)),
     }

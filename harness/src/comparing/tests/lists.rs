@@ -1,7 +1,7 @@
 //! The kind `lists`: long lists of calls, the proved calls against the model, each test with one profile of steps.
 
 use crate::call::{Call, Reply};
-use crate::comparing::calls::{Charges, Permitted, Profile, Weights, ORDINARY};
+use crate::comparing::calls::{Charges, Permitted, Profile, Weights, NEVER, ORDINARY};
 use crate::comparing::compared::{Compared, Step};
 use crate::comparing::coverage::Seen;
 use crate::comparing::fit::Octets;
@@ -94,7 +94,7 @@ fn ring_starts_anywhere(run: &mut Run) -> Result<(), String> {
 fn long_best_effort_queues(run: &mut Run) -> Result<(), String> {
     let profile = |random: &mut Random| {
         let (transmit, reserve) = (random.pick(&[1, 20, 40]), random.pick(&[0, 0, 2]));
-        let weights = Weights { open: 0, reserve, arrive: 2, tick: 2, transmit, best_effort: 100, bind: 0, frame: 10, close: 0 };
+        let weights = Weights { reserve, arrive: 2, tick: 2, transmit, best_effort: 100, frame: 10, ..NEVER };
         Profile { weights, links: FULL_LINK..=FULL_LINK, charges: Charges::Least, edges: 2, ..ORDINARY }
     };
     play(run, SIDES, &Plan { lists: 80, calls: 700, begin: a_closed_port }, profile)?;
@@ -142,7 +142,7 @@ fn to_the_limit(run: &mut Run, delay: u32) -> Result<(), String> {
 
 /// Best effort that presses its limit while transmits lower W.
 fn best_effort_between_transmits(run: &mut Run) -> Result<(), String> {
-    let weights = Weights { open: 0, reserve: 1, arrive: 5, tick: 5, transmit: 60, best_effort: 90, bind: 1, frame: 20, close: 0 };
+    let weights = Weights { reserve: 1, arrive: 5, tick: 5, transmit: 60, best_effort: 90, bind: 1, frame: 20, ..NEVER };
     let profile = Profile { weights, streams: 8, permitted: Permitted::UpTo(1_000), ..ORDINARY };
     play(run, SIDES, &Plan { lists: 150, calls: 600, begin: a_closed_port }, |_| profile.clone())?;
     never_met_from_opening(run)?;
@@ -152,16 +152,19 @@ fn best_effort_between_transmits(run: &mut Run) -> Result<(), String> {
 
 /// Reservations that are granted while frames wait in best effort, so that its limit falls, also below W.
 fn reservations_after_best_effort(run: &mut Run) -> Result<(), String> {
-    let weights = Weights { open: 0, reserve: 10, arrive: 10, tick: 5, transmit: 15, best_effort: 60, bind: 2, frame: 10, close: 0 };
+    let weights = Weights { reserve: 10, arrive: 10, tick: 5, transmit: 15, best_effort: 60, bind: 2, frame: 10, withdraw: 1, ..NEVER };
     let profile = Profile { weights, ..ORDINARY };
     play(run, SIDES, &Plan { lists: 400, calls: 150, begin: a_closed_port }, |_| profile.clone())?;
     never_met_from_opening(run)?;
     run.demand(&[(Seen::LimitBelowWaits, 150), (Seen::SentFromBestEffort, 1_500), (Seen::Refused(BEST_EFFORT_EXCEEDED), 4_000)])
 }
 
+/// The steps of a port that is used.
+const USED: Weights = Weights { reserve: 12, arrive: 60, tick: 8, transmit: 15, best_effort: 10, bind: 6, frame: 30, ..NEVER };
+
 /// Ports that are opened though open, and used records that the host closes and opens again.
 fn opened_again(run: &mut Run) -> Result<(), String> {
-    let weights = Weights { open: 6, reserve: 12, arrive: 60, tick: 8, transmit: 15, best_effort: 10, bind: 6, frame: 30, close: 2 };
+    let weights = Weights { open: 6, withdraw: 4, close: 2, ..USED };
     let profile = Profile { weights, streams: 24, edges: 5, ..ORDINARY };
     play(run, SIDES, &Plan { lists: 250, calls: 600, begin: an_open_port }, |_| profile.clone())?;
     run.demand(&[(Seen::Opened, 1_500), (Seen::Closed, 1_500), (Seen::Bound, 1_000), (Seen::FrameArrived, 1_500)])?;
@@ -175,7 +178,8 @@ fn arguments_out_of_range(run: &mut Run) -> Result<(), String> {
     run.demand(&OF_PLANNER.map(|refusal| (Seen::Refused(refusal), 500)))?;
     run.demand(&OF_SENDER.map(|refusal| (Seen::Refused(refusal), 500)))?;
     run.demand(&[(Seen::Refused(VID_OUTSIDE), 500), (Seen::Refused(BOUND_ALREADY), 50), (Seen::Refused(PAIR_BOUND_ALREADY), 200)])?;
-    run.demand(&[(Seen::FrameRefused(FRAME_LENGTH), 2_000), (Seen::FrameRefused(PORT_CLOSED), 200)])
+    run.demand(&[(Seen::FrameRefused(FRAME_LENGTH), 2_000), (Seen::FrameRefused(PORT_CLOSED), 200)])?;
+    run.demand(&[(Seen::Withdrawn, 300), (Seen::Refused(DRAINING), 1_000)])
 }
 
 /// Everything, with other weights in each list.
@@ -186,7 +190,8 @@ fn mixture(run: &mut Run) -> Result<(), String> {
     run.demand(&[(Seen::PurgedFrame, 5_000), (Seen::SentFromPrior, 2_000), (Seen::SentFromCurrent, 2_000), (Seen::SentNothing, 500)])?;
     run.demand(&[(Seen::Opened, 500), (Seen::Reserved, 1_500), (Seen::Ticked, 5_000), (Seen::Refused(DISCARD), 1_000)])?;
     run.demand(&[(Seen::BestEffort, 3_000), (Seen::SentFromBestEffort, 1_000), (Seen::Refused(BEST_EFFORT_EXCEEDED), 1_000)])?;
-    run.demand(&[(Seen::Bound, 1_000), (Seen::FrameArrived, 2_000), (Seen::FrameBestEffort, 5_000)])
+    run.demand(&[(Seen::Bound, 1_000), (Seen::FrameArrived, 2_000), (Seen::FrameBestEffort, 5_000)])?;
+    run.demand(&[(Seen::Withdrawn, 1_000), (Seen::Freed, 1_000), (Seen::GrantedAgain, 200), (Seen::Refused(DRAINING), 2_000)])
 }
 
 /// A demand for each of the three places.

@@ -10,6 +10,7 @@ use crate::comparing::shapes::{any_fit, any_open, bindings_of_every_sort, near_f
 use crate::comparing::sides::Side;
 use crate::comparing::test::{Kind, Run, Test};
 use crate::comparing::tests::each_call::{try_lengths, try_shape};
+use crate::comparing::tests::withdrawals::OF_DRAINING;
 use crate::model::fitness::unfit;
 use crate::model::refusal::*;
 
@@ -55,7 +56,9 @@ fn fit_records(run: &mut Run) -> Result<(), String> {
     run.demand(
         &[DISCARD, BEST_EFFORT_FULL, BEST_EFFORT_EXCEEDED, FRAME_LENGTH, QUEUE_FULL].map(|refusal| (Seen::FrameRefused(refusal), 50)),
     )?;
-    run.demand(&[(Seen::Bound, 500), (Seen::FrameArrived, 400), (Seen::FrameBestEffort, 1_000)])
+    run.demand(&[(Seen::Bound, 500), (Seen::FrameArrived, 400), (Seen::FrameBestEffort, 1_000)])?;
+    run.demand(&[(Seen::Withdrawn, 2_000), (Seen::Freed, 500), (Seen::DrainingEndedByOpen, 500), (Seen::FrameRefused(DRAINING), 100)])?;
+    run.demand(&OF_DRAINING.map(|seen| (seen, 50)))
 }
 
 /// Records of any octets, and such with the mark of an open port.
@@ -93,7 +96,7 @@ fn records_with_bindings_of_every_sort(run: &mut Run) -> Result<(), String> {
 fn lengths(run: &mut Run) -> Result<(), String> {
     try_lengths(run, 8, |run, _, octets| Compared::guarded(SIDES, run, &octets.record, &octets.memory))?;
     run.demand(&[MEMORY_SHORT, RECORD_UNFIT, PORT_CLOSED].map(|refusal| (Seen::Refused(refusal), 100)))?;
-    run.demand(&[(Seen::Opened, 40), (Seen::Ticked, 30)])
+    run.demand(&[(Seen::Opened, 40), (Seen::Ticked, 30), (Seen::Withdrawn, 30), (Seen::Freed, 30)])
 }
 
 /// 19 for what the record says of prior, of starts and of counts.
@@ -101,7 +104,7 @@ fn clauses_of_queues(run: &mut Run) -> Result<(), String> {
     break_each(run, &OF_QUEUES)
 }
 
-/// 19 for what the record says of the places and lefts of reserved streams.
+/// 19 for what the record says of the places, lefts and draining counts of reserved streams.
 fn clauses_of_streams(run: &mut Run) -> Result<(), String> {
     break_each(run, &OF_STREAMS)
 }

@@ -150,6 +150,7 @@ fn kind(event: &Call) -> &'static str {
         Call::BestEffort { .. } => "best effort",
         Call::Tick => "tick",
         Call::Transmit => "transmit",
+        Call::Withdraw { .. } => "withdraw",
         Call::Bind { .. } | Call::Frame { .. } => unreachable!("no event of a capture is a Bind or a Frame"),
     }
 }
