@@ -22,5 +22,6 @@ pub mod CasesHold
 pub mod GateNumbers
 pub mod FreshFit
 pub mod FramesHold
+pub mod WithdrawHolds
 pub mod CaseNumbers
 pub mod CountingCases
