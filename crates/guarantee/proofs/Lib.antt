@@ -25,3 +25,4 @@ pub mod Play
 pub mod Theorem
 pub mod ClaimCases
 pub mod WithdrawalCases
+pub mod DrainingLaws

@@ -190,7 +190,7 @@ module _ (p : List ℕ) (whole : Whole p) where
   turned-whole : Whole turned
   turned-whole = omega (arith, turned-keeps .long)
 
-  ticked-link : SameLink p (tickedRecord p)
+  pub ticked-link : SameLink p (tickedRecord p)
   unfolding tickedRecord
   ticked-link = link-both p turned _ (link-kept _ _ turned-keeps) (turns-link turned turned-whole streamCount)
 
