@@ -17,6 +17,7 @@ pub mod QuickLaws
 pub mod SameLength
 pub mod StayLaws
 pub mod BesideCalls
+pub mod TurnBeside
 pub mod DrainTick
 pub mod CasesHold
 pub mod GateNumbers
