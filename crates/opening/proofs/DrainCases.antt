@@ -6,6 +6,7 @@ use mathlib.Core.List.{List, [], _∷_, _++_}
 use lib.ListN.{replicate}
 use Rattle.lists.specs.Turns.{iterate}
 use Rattle.record.specs.Queues.{queuesAt}
+use Rattle.record.specs.Head.{withQueue}
 use Rattle.record.specs.Entry.{streamAt, withStream, drainAt, withDrain, boundAt, dropped}
 use Rattle.opening.specs.Opening.{allDropped, reservedRecord}
 use Rattle.opening.specs.Withdrawing.{withdrawnRecord, withdrawStep}
@@ -19,34 +20,36 @@ portWith drain =
 
 -- "It drains until the fourth tick after the withdrawal"
 withdrawn-count : drainAt (withdrawnRecord (portWith 0) 0) 0 ≡ 4
-unfolding queuesAt drainAt withDrain
+unfolding iterate queuesAt withQueue streamAt withStream drainAt withDrain boundAt dropped
 withdrawn-count = refl
 
 -- "It still counts as reserved", its binding stands, "its frames already queued stay queued", and nothing else is written
 withdrawn-reserved : streamAt (withdrawnRecord (portWith 0) 0) 0 .reserved ≡ true
-unfolding queuesAt streamAt withDrain
+unfolding iterate queuesAt withQueue streamAt withStream drainAt withDrain boundAt dropped
 withdrawn-reserved = refl
 
 withdrawn-bound : boundAt (withdrawnRecord (portWith 0) 0) 0 ≡ true
-unfolding queuesAt boundAt withDrain
+unfolding iterate queuesAt withQueue streamAt withStream drainAt withDrain boundAt dropped
 withdrawn-bound = refl
 
 withdrawn-record : withdrawnRecord (portWith 0) 0 ≡ portWith 4
-unfolding queuesAt withDrain
+unfolding iterate queuesAt withQueue streamAt withStream drainAt withDrain boundAt dropped
 withdrawn-record = refl
 
 -- "A withdrawal replies two zeros"
 withdrawal-first : withdrawStep (portWith 0) [] 0 .reply .first ≡ 0
+unfolding iterate queuesAt withQueue streamAt withStream drainAt withDrain boundAt dropped
 withdrawal-first = refl
 
 withdrawal-second : withdrawStep (portWith 0) [] 0 .reply .second ≡ 0
+unfolding iterate queuesAt withQueue streamAt withStream drainAt withDrain boundAt dropped
 withdrawal-second = refl
 
 -- a reservation, and an opening, end the draining of what was there before
 reserved-count : drainAt (reservedRecord (portWith 2) 0 200) 0 ≡ 0
-unfolding withStream drainAt
+unfolding iterate queuesAt withQueue streamAt withStream drainAt withDrain boundAt dropped
 reserved-count = refl
 
 opened-count : drainAt (allDropped (portWith 2)) 0 ≡ 0
-unfolding iterate drainAt dropped
+unfolding iterate queuesAt withQueue streamAt withStream drainAt withDrain boundAt dropped
 opened-count = refl
