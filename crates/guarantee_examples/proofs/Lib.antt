@@ -9,3 +9,7 @@ pub mod AddUp
 pub mod Applied
 pub mod Derived
 pub mod TheoremsSay
+pub mod WithdrawnHappen
+pub mod WithdrawnShow
+pub mod WithdrawnSays
+pub mod DrainingSays
