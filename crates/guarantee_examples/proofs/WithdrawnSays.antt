@@ -13,7 +13,7 @@ use Rattle.stream.specs.State.{leastQueues}
 use Rattle.stream.specs.Alone.{arrival}
 use Rattle.record.specs.Queues.{queuesAt}
 use Rattle.ranges.specs.Ranges.{shareOf}
-use Rattle.steps.specs.Call.{reserving, withdrawing, arriving, ticking, joiningBestEffort}
+use Rattle.steps.specs.Call.{reserving, arriving, ticking}
 use Rattle.guarantee.specs.Events.{Sent, reservedSent, Event}
 use Rattle.guarantee.specs.Claims.{LinkCondition, PurgesNothing, Sends, Prompt, answers}
 use Rattle.guarantee.specs.Withdrawal.{RefusedAsDraining, NotGranted, RefusedAsFree, WithdrawalHolds}
@@ -22,7 +22,7 @@ use Rattle.guarantee.proofs.Theorem.{withdrawals}
 use Rattle.guarantee_examples.specs.Examples.{Happens}
 use Rattle.guarantee_examples.specs.LeftOpen.{transmitted, crowdedPlace, busyLastArrival, busyThird, thirdFrame, purgesNone}
 use Rattle.guarantee_examples.specs.AddUp.{repliesAlone}
-use Rattle.guarantee_examples.specs.Withdrawn.{drainingReply, freeReply, handedBefore, handedToThirdTick, handedToFourthTick, handedGrant, handedLastArrival, handedEpochs, handedToLastTick, handedAfter, handedFromGrant, handedWith, handedFrame, handedLast, withdrawnOpening, withdrawnGrant, leavingToFirst, leavingSecond, leavingToSecondTick, leavingAfter, leavingWith, leavingFrame, leaving, leftAloneWith, leavingAnswers, triedBefore, triedWhile, triedAfter, triedWith}
+use Rattle.guarantee_examples.specs.Withdrawn.{drainingReply, freeReply, handedBefore, handedToThirdTick, handedToFourthTick, handedGrant, handedLastArrival, handedEpochs, handedToLastTick, handedAfter, handedFromGrant, handedWith, handedFrame, handedLast, withdrawnOpening, withdrawnGrant, leavingToFirst, leavingSecond, leavingToSecondTick, leavingAfter, leavingWith, leavingFrame, leaving, leftAloneWith, leavingAnswers, triedBefore, triedWhile, triedFree, triedReserved, triedArrival, triedAfter, triedWith}
 use Rattle.guarantee_examples.specs.WithdrawnShown.{WithdrawnSays}
 use Rattle.guarantee_examples.proofs.LinkTest.{link-holds}
 use Rattle.guarantee_examples.proofs.OffersTest.{within-holds}
@@ -105,44 +105,52 @@ module _ (reply : Reply) (sent : Sent) (said shown : Reply) (happens : Happens (
 leaving-answers : answers 5 leaving ≡ leavingAnswers
 leaving-answers = refl
 
-module _ (first second third fourth fifth sixth last : Reply) (happens : Happens (triedWith first second third fourth fifth sixth last)) where
+module _ (first second third fourth fifth sixth seventh last : Reply) (happens : Happens (triedWith first second third fourth fifth sixth seventh last)) where
   abbrev while : List Event
   while = triedWhile first second third fourth
 
   -- from `withdrawals`, on a port with four queues
-  holds : WithdrawalHolds leastQueues (triedWith first second third fourth fifth sixth last)
+  holds : WithdrawalHolds leastQueues (triedWith first second third fourth fifth sixth seventh last)
   unfolding queuesAt
   holds = subst (WithdrawalHolds leastQueues) (happens .so) (withdrawals (happens .list))
 
   refused-draining : All (RefusedAsDraining 5) while
-  refused-draining = holds .draining 5 triedBefore while (quietTick ∷ triedAfter fifth sixth last) withdrawalOf5 refl (refl, refl) (omega arith)
+  refused-draining = holds .draining 5 triedBefore while (quietTick ∷ triedAfter fifth sixth seventh last) withdrawalOf5 refl (refl, refl) (omega arith)
 
   draining-replies : first ∷ second ∷ third ∷ fourth ∷ [] ≡ drainingReply ∷ drainingReply ∷ drainingReply ∷ drainingReply ∷ []
   draining-replies =
       let d = refused-draining in
       rw (d .0 refl, d .1 .1 .1 .0 refl, d .1 .1 .1 .1 .1 .1 .0 refl, d .1 .1 .1 .1 .1 .1 .1 .1 .1 .0 refl)
 
-  -- the events after the fourth tick, up to the last reservation, and with it where it is not granted
-  abbrev toReservation : List Event
-  toReservation =
-      replied (joiningBestEffort 84 10) (granted 84 0) ∷ replied (arriving 5 84 11) fifth ∷ replied (withdrawing 5) sixth ∷ []
+  -- after the fourth tick: as far as no reservation is granted
+  refused-free : (after rest : List Event) → triedAfter fifth sixth seventh last ≡ after ++ rest → All (NotGranted 5) after → All (RefusedAsFree 5) after
+  refused-free after rest split none =
+      holds .free 5 triedBefore while after rest withdrawalOf5 quietTick
+      (ap (λ (es : List Event). triedBefore ++ (withdrawalOf5 ∷ (while ++ (quietTick ∷ es)))) split) (refl, refl) refl refl none
 
   free-replies : fifth ∷ sixth ∷ [] ≡ freeReply ∷ freeReply ∷ []
   free-replies =
-      let f = holds .free 5 triedBefore while toReservation (replied (reserving 5 83) (refusedBy 7) ∷ replied (reserving 5 200) last ∷ []) withdrawalOf5 quietTick
-      refl (refl, refl) refl refl (λ e. differ (sym e), (λ e. differ (sym e), (λ e. differ (sym e), tt))) in
+      let f = refused-free (triedFree fifth sixth) (triedReserved seventh last ++ (triedArrival ∷ [])) refl
+      (λ e. differ (sym e), (λ e. differ (sym e), (λ e. differ (sym e), tt))) in
       rw (f .1 .0 .0 refl, f .1 .1 .0 .0 refl)
 
-  refused-free : (last .refusal ≡ 0 → ⊥) → All (RefusedAsFree 5) (triedAfter fifth sixth last)
-  refused-free not-granted =
-      holds .free 5 triedBefore while (triedAfter fifth sixth last) [] withdrawalOf5 quietTick refl (refl, refl) refl refl
-      (λ e. differ (sym e), (λ e. differ (sym e), (λ e. differ (sym e), (λ e z. omega (arith, z), (λ e. not-granted, tt)))))
+  asked-alone : (seventh .refusal ≡ 0) ⊎ ((seventh ≡ refusedBy 7) ⊎ (seventh ≡ refusedBy 8))
+  asked-alone =
+      ⊎-elim (λ (z : seventh .refusal ≡ 0). inl z)
+      (λ (no : seventh .refusal ≡ 0 → ⊥). inr (refused-free (triedFree fifth sixth ++ (replied (reserving 5 83) seventh ∷ [])) (replied (reserving 5 200) last ∷ triedArrival ∷ []) refl
+      (λ e. differ (sym e), (λ e. differ (sym e), (λ e. differ (sym e), (λ e. no, tt)))) .1 .1 .1 .0 .1 refl))
+      (eq-or-not (seventh .refusal) 0)
 
-  granted-or-not : (last .refusal ≡ 0) ⊎ ((last ≡ refusedBy 7) ⊎ (last ≡ refusedBy 8))
-  granted-or-not =
-      ⊎-elim (λ (z : last .refusal ≡ 0). inl z)
-      (λ (not-granted : last .refusal ≡ 0 → ⊥). inr (refused-free not-granted .1 .1 .1 .1 .0 .1 refl))
-      (eq-or-not (last .refusal) 0)
+-- with the first reservation refused, the last one granted: else the arrival after it would be refused
+last-granted : (first second third fourth fifth sixth last : Reply) → Happens (triedWith first second third fourth fifth sixth (refusedBy 7) last) → last .refusal ≡ 0
+last-granted first second third fourth fifth sixth last happens =
+    ⊎-elim (λ (z : last .refusal ≡ 0). z)
+    (λ (no : last .refusal ≡ 0 → ⊥).
+    (let f = refused-free first second third fourth fifth sixth (refusedBy 7) last happens (triedAfter fifth sixth (refusedBy 7) last) [] refl
+    (λ e. differ (sym e), (λ e. differ (sym e), (λ e. differ (sym e), (λ e z. omega (arith, z), (λ e. no, (λ e. differ (sym e), tt)))))) in
+    let z : _≡_ {A = ℕ} 0 12 = ap (λ (r : Reply). r .refusal) (f .1 .1 .1 .1 .1 .0 .0 refl) in
+    absurd (omega arith)))
+    (eq-or-not (last .refusal) 0)
 
 pub withdrawn-says : WithdrawnSays
 withdrawn-says =
@@ -159,5 +167,6 @@ withdrawn-says =
           sym (alike-of leaving (withdrawn-happen .leaving-happens) (leftAloneWith first second) 5 happens refl refl) ∙ leaving-answers;
       tried-draining = draining-replies;
       tried-free = free-replies;
-      tried-again = granted-or-not;
+      tried-asked = asked-alone;
+      tried-granted = last-granted;
     }

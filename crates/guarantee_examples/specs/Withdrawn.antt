@@ -180,6 +180,7 @@ triedCalls =
     ∷ withdrawing 5
     ∷ reserving 5 83
     ∷ reserving 5 200
+    ∷ arriving 5 84 12
     ∷ []
 
 abbrev pub triedBefore : List Event
@@ -190,9 +191,9 @@ triedBefore =
     ∷ replied (arriving 5 120 7) (granted 1 80)
     ∷ []
 
--- to the fourth tick, with the replies to its own calls open
-abbrev pub triedWhile : Reply → Reply → Reply → Reply → List Event
-triedWhile first second third fourth =
+-- to the third tick and to the fourth, with the replies to its own calls open
+abbrev pub triedToThirdTick : Reply → Reply → Reply → List Event
+triedToThirdTick first second third =
     replied (reserving 5 200) first
     ∷ quietTick
     ∷ replied (reserving 6 83) (refusedBy 7)
@@ -200,27 +201,37 @@ triedWhile first second third fourth =
     ∷ replied ticking (granted 1 120)
     ∷ replied (framing (taggedTo 100 59) 8) (refusedBy 17)
     ∷ replied (arriving 5 84 9) third
-    ∷ quietTick
-    ∷ replied (binding 5 address 101) drainingReply
-    ∷ replied (reserving 5 200) fourth
     ∷ []
 
--- and after it: the pair is bound no longer, so that a Frame to it is best effort
-abbrev pub triedAfter : Reply → Reply → Reply → List Event
-triedAfter fifth sixth last =
+abbrev pub triedThirdEpoch : Reply → List Event
+triedThirdEpoch fourth = replied (binding 5 address 101) drainingReply ∷ replied (reserving 5 200) fourth ∷ []
+
+abbrev pub triedWhile : Reply → Reply → Reply → Reply → List Event
+triedWhile first second third fourth = triedToThirdTick first second third ++ (quietTick ∷ triedThirdEpoch fourth)
+
+-- and after it: the pair is bound no longer, so that a Frame to it is best effort; then the number is reserved again, and its frame accepted
+abbrev pub triedFree : Reply → Reply → List Event
+triedFree fifth sixth =
     replied (joiningBestEffort 84 10) (granted 84 0)
     ∷ replied (arriving 5 84 11) fifth
     ∷ replied (withdrawing 5) sixth
-    ∷ replied (reserving 5 83) (refusedBy 7)
-    ∷ replied (reserving 5 200) last
     ∷ []
 
-abbrev pub triedWith : Reply → Reply → Reply → Reply → Reply → Reply → Reply → List Event
-triedWith first second third fourth fifth sixth last =
-    triedBefore ++ (withdrawalOf5 ∷ (triedWhile first second third fourth ++ (quietTick ∷ triedAfter fifth sixth last)))
+abbrev pub triedReserved : Reply → Reply → List Event
+triedReserved seventh last = replied (reserving 5 83) seventh ∷ replied (reserving 5 200) last ∷ []
+
+abbrev pub triedArrival : Event
+triedArrival = replied (arriving 5 84 12) (granted 1 116)
+
+abbrev pub triedAfter : Reply → Reply → Reply → Reply → List Event
+triedAfter fifth sixth seventh last = triedFree fifth sixth ++ (triedReserved seventh last ++ (triedArrival ∷ []))
+
+abbrev pub triedWith : Reply → Reply → Reply → Reply → Reply → Reply → Reply → Reply → List Event
+triedWith first second third fourth fifth sixth seventh last =
+    triedBefore ++ (withdrawalOf5 ∷ (triedWhile first second third fourth ++ (quietTick ∷ triedAfter fifth sixth seventh last)))
 
 abbrev pub tried : List Event
-tried = triedWith drainingReply drainingReply drainingReply drainingReply freeReply freeReply (granted 400 0)
+tried = triedWith drainingReply drainingReply drainingReply drainingReply freeReply freeReply (refusedBy 7) (granted 400 0)
 
 -- calls between a withdrawal and the last tick of the draining, two of them refused
 abbrev pub betweenCalls : List Call

@@ -1,6 +1,6 @@
 -- What the lists with a withdrawal show: that demand 3 cannot promise more of a withdrawn stream than it does, nor a machine drain for much less; and what
 -- follows of their open parts from the theorem that each comment names, and would be lost with it.
-use Prim.Native.Nat.{ℕ, _+_, _≤_}
+use Prim.Native.Nat.{ℕ, _+_, _-_, _≤_}
 use mathlib.Core.Bool.{true, false, cond}
 use mathlib.Core.Path.{_≡_}
 use mathlib.Core.Logic.{_⊎_}
@@ -10,6 +10,7 @@ use lib.Dec.{eqb}
 use Rattle.lists.specs.Each.{All}
 use Rattle.lists.specs.Turns.{sumTo}
 use Rattle.stream.specs.declared.Reply.{Reply}
+use Rattle.stream.specs.State.{leastQueues}
 use Rattle.stream.specs.Replies.{refusedBy}
 use Rattle.record.specs.Layout.{streamCount}
 use Rattle.record.specs.Head.{openAt, linkAt}
@@ -22,8 +23,9 @@ use Rattle.steps.specs.Call.{reserving, withdrawing, arriving, ticking, binding
 use Rattle.port.specs.Calls.{called}
 use Rattle.port_laws.specs.Lists.{freshRecord, freshMemory}
 use Rattle.guarantee.specs.Events.{Sent, reservedSent, Event, events}
-use Rattle.guarantee.specs.Claims.{LinkCondition, PurgesNothing, OffersWithin, Prompt, grants, answers}
+use Rattle.guarantee.specs.Claims.{Tick, tickCount, LinkCondition, PurgesNothing, OffersWithin, Prompt, grants, answers}
 use Rattle.guarantee.specs.Own.{own, ownReplies}
+use Rattle.guarantee.specs.Withdrawal.{WithdrawalOf, DrainsUntil, RefusedAsFree, FreeFrom}
 use Rattle.guarantee.specs.Draining.{leftBy}
 use Rattle.guarantee_examples.specs.Examples.{Happens, permitted200, callsOf}
 use Rattle.guarantee_examples.specs.LeftOpen.{transmitted, crowdedPlace, busyThird, thirdFrame, purgesNone}
@@ -49,6 +51,13 @@ PromptBeyond es =
     → e .call ≡ arriving s charge tag → chargeFits charge ≡ true
     → Prompt (record { stream = s; charge = charge; tag = tag; number = length before + 1 + length earlier }) e (later ++ rest)
 
+-- what `FreeFrom` would say if a reservation that is granted again did not end it
+abbrev pub FreeBeyond : ℕ → List Event → Type 0
+FreeBeyond queues es =
+    (s : ℕ) (before while after rest : List Event) (g t : Event) → es ≡ before ++ (g ∷ (while ++ (t ∷ (after ++ rest))))
+    → WithdrawalOf s g → tickCount while + 1 ≡ queues → Tick t
+    → All (RefusedAsFree s) after
+
 pub record WithdrawnShow : Type 0 where
   pub happen : WithdrawnHappen
   -- the share is sent in every epoch, before the share is granted again and after it
@@ -62,6 +71,10 @@ pub record WithdrawnShow : Type 0 where
   pub withdrawn-offers : OffersWithin 5 200 withdrawnAfter
   pub withdrawn-not-prompt : PromptBeyond withdrawn → ⊥
   pub withdrawn-not-alone : ownReplies 5 withdrawnAfter ≡ repliesAlone 200 (own 5 withdrawnAfter) → ⊥
+  -- of how long a stream drains neither less nor more can be said, and of how long it is free not more
+  pub tried-not-longer : DrainsUntil (leastQueues + 1) tried → ⊥
+  pub tried-not-sooner : FreeFrom (leastQueues - 1) tried → ⊥
+  pub tried-not-beyond : FreeBeyond leastQueues tried → ⊥
   -- demand 3 is false of a machine whose withdrawn streams drain for two ticks fewer than there are queues
   pub hurry-links : LinkCondition (shareOf 1626) hurry
   pub hurry-purges : All PurgesNothing hurry → ⊥
@@ -87,13 +100,16 @@ pub record WithdrawnSays : Type 0 where
   -- `alike`: with a withdrawal among the stream's own calls, where L, K and the calls of all others differ
   pub alike-withdrawn : (first second : Reply) → Happens (leftAloneWith first second) → first ∷ second ∷ [] ≡ leavingAnswers
   -- `withdrawals`: a stream's own calls are refused as draining before each tick to the fourth ..
-  pub tried-draining : (first second third fourth fifth sixth last : Reply) → Happens (triedWith first second third fourth fifth sixth last)
+  pub tried-draining : (first second third fourth fifth sixth seventh last : Reply) → Happens (triedWith first second third fourth fifth sixth seventh last)
       → first ∷ second ∷ third ∷ fourth ∷ [] ≡ drainingReply ∷ drainingReply ∷ drainingReply ∷ drainingReply ∷ []
-  -- .. and from it on as those of a free one, its reservation for its P alone; here it is granted (`tried-happens`)
-  pub tried-free : (first second third fourth fifth sixth last : Reply) → Happens (triedWith first second third fourth fifth sixth last)
+  -- .. and from it on as those of a free one, a reservation for its P alone ..
+  pub tried-free : (first second third fourth fifth sixth seventh last : Reply) → Happens (triedWith first second third fourth fifth sixth seventh last)
       → fifth ∷ sixth ∷ [] ≡ freeReply ∷ freeReply ∷ []
-  pub tried-again : (first second third fourth fifth sixth last : Reply) → Happens (triedWith first second third fourth fifth sixth last)
-      → (last .refusal ≡ 0) ⊎ ((last ≡ refusedBy 7) ⊎ (last ≡ refusedBy 8))
+  pub tried-asked : (first second third fourth fifth sixth seventh last : Reply) → Happens (triedWith first second third fourth fifth sixth seventh last)
+      → (seventh .refusal ≡ 0) ⊎ ((seventh ≡ refusedBy 7) ⊎ (seventh ≡ refusedBy 8))
+  -- .. until one is granted, which it is before a frame is accepted
+  pub tried-granted : (first second third fourth fifth sixth last : Reply) → Happens (triedWith first second third fourth fifth sixth (refusedBy 7) last)
+      → last .refusal ≡ 0
 
 -- the sum of the other reserved streams' P
 abbrev pub othersPermitted : ℕ → List ℕ → ℕ
