@@ -4,17 +4,21 @@ use mathlib.Core.Bool.{true, false}
 use mathlib.Core.Path.{_≡_, refl}
 use mathlib.Core.List.{[], _∷_, _++_, map}
 use lib.ListN.{length}
-use lib.Dec.{eqb}
+use lib.Dec.{eqb, ltb}
+use Rattle.stream.specs.State.{leastQueues}
 use Rattle.stream.specs.Steps.{attempt, arriveOf}
 use Rattle.record.specs.Queues.{queuesAt}
 use Rattle.record.specs.Head.{priorAt}
 use Rattle.header.specs.Header.{lengthFits}
 use Rattle.fitness.specs.Clauses.{priorFits}
-use Rattle.guarantee.specs.Claims.{tickCount, reservedOctets, answers}
+use Rattle.steps.specs.Call.{ticking}
+use Rattle.guarantee.specs.Claims.{tickCount, reservedOctets, offers, answers}
 use Rattle.guarantee.specs.Own.{own}
-use Rattle.guarantee.specs.Instances.{chargeIn}
+use Rattle.guarantee.specs.Draining.{ticksIn}
+use Rattle.guarantee.specs.Instances.{replied, chargeIn}
 use Rattle.guarantee_examples.specs.Examples.{busy, light, withheld, permitted200, untagged}
-use Rattle.guarantee_examples.specs.LeftOpen.{crowdedOpening, crowdedGrant, crowdedBefore, crowdedPlace, crowdedFrame, tooSoon, crowded, crowdedOwn, busyBefore, busyNextArrival, busyWith, secondFrame, thirdFrame, busySecond, busyThird, purgesNone, aloneOwn, sixAnswers, alone, discards, queueFull, shortestFrame, unfitRecord, keptTag, numberTag}
+use Rattle.guarantee_examples.specs.LeftOpen.{crowdedOpening, crowdedGrant, crowdedBefore, crowdedPlace, crowdedFrame, tooSoon, crowded, crowdedOwn, busyBefore, busyNextArrival, busyLastArrival, busyWith, secondFrame, thirdFrame, busySecond, busyThird, purgesNone, aloneOwn, sixAnswers, alone, discards, queueFull, shortestFrame, unfitRecord, keptTag, numberTag}
+use Rattle.guarantee_examples.specs.Withdrawn.{drainingReply, handedBefore, handedToFourthTick, handedGrant, handedFrame, withdrawnOpening, withdrawnGrant, withdrawn, remainingOthers, leavingAfter, leavingFrame, leavingFirst, triedWhile, betweenCalls}
 use Rattle.guarantee_examples.specs.AddUp.{sentAt, broughtAt, accepted, purged, framesAccepted, framesSent, framesPurged, byRule, tagSent, numberSent, EventsAddUp}
 
 light-frame : sentAt light 5 ≡ broughtAt light 3
@@ -68,6 +72,24 @@ tag-of-call = refl
 number-of-call : numberTag ≡ numberSent (broughtAt permitted200 2)
 number-of-call = refl
 
+handed-number : handedFrame 6 .number ≡ length (handedBefore ++ (busyLastArrival ∷ (handedToFourthTick busyThird ++ (replied ticking purgesNone ∷ handedGrant 6))))
+handed-number = refl
+
+leaving-number : leavingFrame .number ≡ length (withdrawnOpening ++ (withdrawnGrant ∷ []))
+leaving-number = refl
+
+tried-ticks : tickCount (triedWhile drainingReply drainingReply drainingReply drainingReply) + 1 ≡ leastQueues
+tried-ticks = refl
+
+between-ticks : ticksIn betweenCalls + 1 ≡ leastQueues
+between-ticks = refl
+
+withdrawn-calls : length (remainingOthers 5 withdrawn) ≡ length (remainingOthers 5 permitted200)
+withdrawn-calls = refl
+
+leaving-offers : ltb 200 (120 + offers 5 (leavingAfter leavingFirst)) ≡ true
+leaving-offers = refl
+
 pub events-add-up : EventsAddUp
 events-add-up =
     record {
@@ -87,4 +109,10 @@ events-add-up =
       full-no-discard = full-no-discard;
       tag-of-call = tag-of-call;
       number-of-call = number-of-call;
+      handed-number = handed-number;
+      leaving-number = leaving-number;
+      tried-ticks = tried-ticks;
+      between-ticks = between-ticks;
+      withdrawn-calls = withdrawn-calls;
+      leaving-offers = leaving-offers;
     }
