@@ -1,6 +1,6 @@
 /*
- * Every function that bunnysolder.h declares, called through it: both sorts of call play document 01's sample, by charges and by frames, and must
- * reply what the document says. The last line is the total.
+ * Every function that bunnysolder.h declares, called through it: both sorts of call play document 01's sample, by charges and by frames, and a
+ * withdrawal of document 02, and must reply what the documents say. The last line is the total.
  */
 #include <stdio.h>
 #include <string.h>
@@ -18,14 +18,15 @@ struct sort {
     uint8_t (*best_effort)(uint8_t *, size_t, uint8_t *, size_t, uint32_t, uint32_t, uint32_t *, uint32_t *);
     uint8_t (*bind)(uint8_t *, size_t, const uint8_t *, size_t, uint8_t, const uint8_t *, uint32_t, uint32_t *, uint32_t *);
     uint8_t (*frame)(uint8_t *, size_t, uint8_t *, size_t, const uint8_t *, size_t, uint32_t, uint32_t *, uint32_t *);
+    uint8_t (*withdraw)(uint8_t *, size_t, const uint8_t *, size_t, uint8_t, uint32_t *, uint32_t *);
 };
 
 static const struct sort sorts[] = {
     { "the calls", bunnysolder_open, bunnysolder_reserve, bunnysolder_arrive, bunnysolder_tick, bunnysolder_transmit,
-      bunnysolder_best_effort, bunnysolder_bind, bunnysolder_frame },
+      bunnysolder_best_effort, bunnysolder_bind, bunnysolder_frame, bunnysolder_withdraw },
     { "the unscanned calls", bunnysolder_open_unscanned, bunnysolder_reserve_unscanned, bunnysolder_arrive_unscanned,
       bunnysolder_tick_unscanned, bunnysolder_transmit_unscanned, bunnysolder_best_effort_unscanned, bunnysolder_bind_unscanned,
-      bunnysolder_frame_unscanned },
+      bunnysolder_frame_unscanned, bunnysolder_withdraw_unscanned },
 };
 
 /* What the two reply numbers hold before a call. */
@@ -106,6 +107,33 @@ static void sample_by_frames(const struct sort *s)
     replies("transmit", s->transmit(port, p, memory, m, &first, &second), BUNNYSOLDER_GRANTED, BUNNYSOLDER_BEST_EFFORT, 10);
 }
 
+/* A stream is withdrawn: its frame is sent, it takes no more, and its share and number are free at the fourth tick. */
+static void withdrawal(const struct sort *s)
+{
+    const size_t p = sizeof port, m = sizeof memory;
+    int tick;
+
+    memset(port, 0, p);
+    memset(memory, 0, m);
+    first = second = UNWRITTEN;
+    replies("withdraw", s->withdraw(port, p, memory, m, 5, &first, &second), BUNNYSOLDER_CLOSED, 0, 0);
+    replies("open", s->open(port, p, memory, m, 2142, 1, &first, &second), BUNNYSOLDER_GRANTED, 600, 0);
+    replies("withdraw", s->withdraw(port, p, memory, m, 5, &first, &second), BUNNYSOLDER_NOT_RESERVED, 0, 0);
+    replies("withdraw", s->withdraw(port, p, memory, m, 64, &first, &second), BUNNYSOLDER_STREAM_RANGE, 0, 0);
+    replies("reserve", s->reserve(port, p, memory, m, 5, 200, &first, &second), BUNNYSOLDER_GRANTED, 400, 0);
+    replies("arrive", s->arrive(port, p, memory, m, 5, 120, 7, &first, &second), BUNNYSOLDER_GRANTED, BUNNYSOLDER_CURRENT, 80);
+    replies("withdraw", s->withdraw(port, p, memory, m, 5, &first, &second), BUNNYSOLDER_GRANTED, 0, 0);
+    replies("transmit", s->transmit(port, p, memory, m, &first, &second), BUNNYSOLDER_GRANTED, 5, 7);
+    for (tick = 0; tick < 4; tick++) {
+        replies("withdraw", s->withdraw(port, p, memory, m, 5, &first, &second), BUNNYSOLDER_DRAINING, 0, 0);
+        replies("arrive", s->arrive(port, p, memory, m, 5, 84, 8, &first, &second), BUNNYSOLDER_DRAINING, 0, 0);
+        replies("reserve", s->reserve(port, p, memory, m, 6, 401, &first, &second), BUNNYSOLDER_SHARE_EXCEEDED, 0, 0);
+        replies("tick", s->tick(port, p, memory, m, &first, &second), BUNNYSOLDER_GRANTED, 0, 0);
+    }
+    replies("withdraw", s->withdraw(port, p, memory, m, 5, &first, &second), BUNNYSOLDER_NOT_RESERVED, 0, 0);
+    replies("reserve", s->reserve(port, p, memory, m, 5, 600, &first, &second), BUNNYSOLDER_GRANTED, 0, 0);
+}
+
 int main(void)
 {
     int passed = 0, failed = 0;
@@ -115,6 +143,7 @@ int main(void)
         wrong = 0;
         sample(&sorts[i]);
         sample_by_frames(&sorts[i]);
+        withdrawal(&sorts[i]);
         printf("test %s through the header: %s\n", sorts[i].name, wrong ? "FAILED" : "ok");
         if (wrong)
             failed++;

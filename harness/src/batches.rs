@@ -6,8 +6,10 @@ use crate::comparing::fit::Octets;
 use crate::comparing::frames::Header;
 use crate::comparing::random::Random;
 use crate::comparing::sides::Play;
-use crate::model::port::{BEST_EFFORT, BEST_EFFORT_STREAM, LAST, LEAST_CHARGE, LEAST_PERMITTED, LINKS, QUEUES, QUEUE_PLACES, STREAMS};
-use crate::model::refusal::DISCARD;
+use crate::model::port::{
+    BEST_EFFORT, BEST_EFFORT_STREAM, DRAINING_TICKS, LAST, LEAST_CHARGE, LEAST_PERMITTED, LINKS, QUEUES, QUEUE_PLACES, STREAMS,
+};
+use crate::model::refusal::{DISCARD, DRAINING};
 use crate::{exports, in_place, layout, model};
 
 /// L and K of every port: the greatest share, 21,504 octets, is 256 frames of the least charge.
@@ -94,10 +96,14 @@ fn few() -> Vec<Batch> {
 /// The batches of ports with all streams and without a frame.
 fn without_frame() -> Vec<Batch> {
     let unbound = opened(STREAMS as u8);
+    let draining = after(after(unbound.clone(), &binds()), &withdraws());
     vec![
         nothing_waits(unbound.clone()),
         Batch { what: "transmit, all streams bound", ..nothing_waits(after(unbound.clone(), &binds())) },
-        Batch::granted("bind, 0 to 63 streams bound", unbound, binds()),
+        Batch::granted("bind, 0 to 63 streams bound", unbound.clone(), binds()),
+        Batch::granted("withdraw", unbound, withdraws()),
+        Batch { refusal: DRAINING, ..Batch::granted("arrive, all streams draining", draining.clone(), arrivals(STREAMS)) },
+        Batch::granted("tick, all streams drain and are free", draining, vec![Call::Tick; usize::from(DRAINING_TICKS)]),
     ]
 }
 
@@ -145,6 +151,11 @@ fn frames(header: &Header) -> Vec<Call> {
 /// A binding of each stream.
 fn binds() -> Vec<Call> {
     (0..STREAMS).map(|stream| Call::Bind { stream: stream as u8, address: address(stream), vid: VID.into() }).collect()
+}
+
+/// A withdrawal of each stream.
+fn withdraws() -> Vec<Call> {
+    (0..STREAMS).map(|stream| Call::Withdraw { stream: stream as u8 }).collect()
 }
 
 /// The address to which a stream is bound.

@@ -1,4 +1,4 @@
-//! What a call costs: nanoseconds for each call of traffic and for bind as a call, as a quick call, and as plain Rust in place on the same layout, in
+//! What a call costs: nanoseconds for each call of traffic and for bind and withdraw as a call, as a quick call, and as plain Rust in place on the same layout, in
 //! one run, for ports from one without a stream to a full one. Nothing here is a test: it prints figures and judges none.
 
 use std::hint::black_box;

@@ -79,17 +79,20 @@ impl Octets {
         }
     }
 
-    /// Reserves any number of any streams, and binds some of them.
+    /// Reserves any number of any streams, and binds some of them; of most records none drains, of others some do.
     fn put_streams(&mut self, random: &mut Random, open: bool) {
         for stream in 0..STREAMS {
             self.put_unreserved(random, stream);
         }
         let permitted = if open { self.permitted_of_open(random) } else { permitted_of_closed(random) };
-        let bound = random.pick(&[0, 50, 100]);
+        let (bound, draining) = (random.pick(&[0, 50, 97, 100]), random.pick(&[0, 0, 0, 20, 60]));
         for (stream, permitted) in random.shuffled(STREAMS).into_iter().zip(permitted) {
             self.put_reserved(random, stream, permitted);
             if random.chance(bound) {
                 self.bind(random, stream);
+            }
+            if random.chance(draining) {
+                self.record[layout::entry(stream) + layout::DRAINING] = any_draining(random);
             }
         }
     }
@@ -114,7 +117,7 @@ impl Octets {
         permitted
     }
 
-    /// Makes a stream reserved with P, at any place, with any left up to P, draining or not, and not bound.
+    /// Makes a stream reserved with P, at any place, with any left up to P, not draining and not bound.
     pub fn put_reserved(&mut self, random: &mut Random, stream: usize, permitted: u32) {
         let at = layout::entry(stream);
         let left = [0, permitted, random.between(0..=permitted)];
@@ -122,7 +125,7 @@ impl Octets {
         self.record[at + layout::PLACE] = random.between(u32::from(CURRENT)..=u32::from(LAST)) as u8;
         put_two(&mut self.record, at + layout::LEFT, random.pick(&left));
         put_two(&mut self.record, at + layout::PERMITTED, permitted);
-        self.record[at + layout::DRAINING] = any_draining(random);
+        self.record[at + layout::DRAINING] = NOT_DRAINING;
         self.record[at + layout::BOUND] = no_mark(random);
     }
 
@@ -173,10 +176,9 @@ pub fn no_mark(random: &mut Random) -> u8 {
     random.pick(&[0, 2, 255, other])
 }
 
-/// The draining count of a reserved stream: most often that of one that does not drain, else any.
+/// The draining count of a stream that drains, any.
 fn any_draining(random: &mut Random) -> u8 {
-    let ticks = random.between(1..=u32::from(DRAINING_TICKS)) as u8;
-    random.pick(&[NOT_DRAINING, NOT_DRAINING, NOT_DRAINING, NOT_DRAINING, ticks])
+    random.between(1..=u32::from(DRAINING_TICKS)) as u8
 }
 
 /// The start of a queue, anywhere, its ends more often.

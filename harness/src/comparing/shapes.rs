@@ -87,7 +87,7 @@ pub fn extreme(random: &mut Random) -> Octets {
         let place = octets.record[at + layout::PLACE];
         octets.record[at + layout::PLACE] = random.pick(&[0, 4, 255, place, place, place]);
         let draining = octets.record[at + layout::DRAINING];
-        octets.record[at + layout::DRAINING] = random.pick(&[0, 1, 5, 255, draining, draining, draining]);
+        octets.record[at + layout::DRAINING] = if random.chance(10) { random.pick(&[0, 1, 5, 255]) } else { draining };
     }
     put_extreme(random, &mut octets.record, layout::LINK, &[0, 1_541, 1_542, 1_625, 23_047, u16::MAX]);
     put_extreme(random, &mut octets.record, layout::WAITS, &[0, u16::MAX]);

@@ -3,7 +3,7 @@
 use crate::call::hexadecimal;
 use crate::model::capture::{
     first_index, next_index, Refused, BEST_EFFORT, KIND_AT, LETTERS, MOST_OCTETS, NO_STREAM, NUMBER_A_AT, NUMBER_B_AT, OPEN, PORTS,
-    RECORD_OCTETS, STREAM_AT, STREAM_OF_BEST_EFFORT, TICK, TRANSMIT, ZEROS_AT,
+    RECORD_OCTETS, STREAM_AT, STREAM_OF_BEST_EFFORT, TICK, TRANSMIT, WITHDRAW, ZEROS_AT,
 };
 use crate::model::octets::{number, FOUR};
 use crate::model::refusal::{CAPTURE_HEADER, CAPTURE_INDEX, CAPTURE_LENGTH, CAPTURE_RECORD};
@@ -111,7 +111,7 @@ fn wrong_record(record: &[u8]) -> String {
         _ => None,
     };
     match due {
-        _ if !(OPEN..=TRANSMIT).contains(&kind) => format!("kind {kind} is none of {OPEN} to {TRANSMIT}"),
+        _ if !(OPEN..=WITHDRAW).contains(&kind) => format!("kind {kind} is none of {OPEN} to {WITHDRAW}"),
         Some(due) if stream != due => format!("the stream octet of kind {kind} is {stream} and not {due}"),
         _ if record[ZEROS_AT..].iter().any(|&octet| octet != 0) => String::from("its zero octets are not all zero"),
         _ => format!("an unused number of kind {kind} is not 0"),

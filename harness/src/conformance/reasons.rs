@@ -1,8 +1,8 @@
-//! Why the rule replies what it does to an event: the steps of document 01 with the numbers of the port before the event.
+//! Why the rule replies what it does to an event: the steps of documents 01 and 02 with the numbers of the port before the event.
 
 use crate::call::{Call, Reply};
-use crate::model::port::{permitted_sum, share, Port, BEST_EFFORT, CURRENT, LAST};
-use crate::model::refusal::{BEST_EFFORT_EXCEEDED, DISCARD, SHARE_EXCEEDED};
+use crate::model::port::{permitted_sum, share, Port, BEST_EFFORT, CURRENT, DRAINING_TICKS, LAST};
+use crate::model::refusal::{BEST_EFFORT_EXCEEDED, DISCARD, DRAINING, SHARE_EXCEEDED};
 use crate::timeline::words::ROLES;
 
 /// The steps that lead to a reply to a call on a port as it was before; of a refusal also the order of the call's checks.
@@ -13,8 +13,15 @@ pub fn steps(call: &Call, reply: &Reply, before: &Port) -> Vec<String> {
         (Call::BestEffort { charge, .. }, 0 | BEST_EFFORT_EXCEEDED) => vec![best_effort(before, *charge)],
         (Call::Tick, 0) => vec![format!("{} in prior before it", waiting(before, before.prior))],
         (Call::Transmit, 0) => vec![transmit(before)],
+        (Call::Withdraw { stream }, 0) => vec![withdrawal(before, usize::from(*stream))],
+        (Call::Reserve { stream, .. } | Call::Arrive { stream, .. } | Call::Withdraw { stream }, DRAINING) => {
+            vec![draining(before, usize::from(*stream))]
+        }
         _ => Vec::new(),
     };
+    if matches!((call, reply.refusal), (Call::Reserve { .. }, SHARE_EXCEEDED) | (Call::BestEffort { .. }, BEST_EFFORT_EXCEEDED)) {
+        steps.extend(of_draining(before));
+    }
     if reply.refusal != 0 {
         steps.push(format!("{} is the first that holds of the call's checks, in their order {}", reply.refusal, checks(call)));
     }
@@ -40,6 +47,26 @@ fn reservation(before: &Port, permitted: u32) -> String {
     let sum = reserved + u64::from(permitted);
     let compared = if sum <= u64::from(share) { "within" } else { "above" };
     format!("R {reserved} and P {permitted} make {sum}, {compared} the share {share}")
+}
+
+/// What a withdrawal begins.
+fn withdrawal(before: &Port, number: usize) -> String {
+    format!("stream {number}, whose P is {}, drains from here on, and is free at tick {DRAINING_TICKS}", before.streams[number].permitted)
+}
+
+/// How long a stream still drains.
+fn draining(before: &Port, number: usize) -> String {
+    match before.streams[number].draining {
+        1 => format!("stream {number} drains, and is free at the next tick"),
+        ticks => format!("stream {number} drains, and is free at tick {ticks} from here"),
+    }
+}
+
+/// How much of R is of draining streams, where some is.
+fn of_draining(before: &Port) -> Option<String> {
+    let draining = before.streams.iter().filter(|stream| stream.is_draining());
+    let octets: u32 = draining.map(|stream| stream.permitted).sum();
+    (octets > 0).then(|| format!("of R, {octets} are of draining streams"))
 }
 
 /// Where the stream is, and each step that the frame makes from there.

@@ -151,8 +151,10 @@ fn before(playing: &Playing, event: &Event) -> Vec<String> {
 /// The last event of an arrival's stream among those that are not told, where none of it is among those that are.
 fn earlier(call: &Call, untold: &[(Call, Reply)], told: &[(Call, Reply)]) -> Option<String> {
     let Call::Arrive { stream, .. } = call else { return None };
-    let is_own =
-        |event: &(Call, Reply)| matches!(&event.0, Call::Reserve { stream: own, .. } | Call::Arrive { stream: own, .. } if own == stream);
+    let is_own = |event: &(Call, Reply)| match &event.0 {
+        Call::Reserve { stream: own, .. } | Call::Arrive { stream: own, .. } | Call::Withdraw { stream: own } => own == stream,
+        _ => false,
+    };
     let last = untold.iter().rposition(is_own).filter(|_| !told.iter().any(is_own))?;
     Some(format!("{}, the last of this stream; then", words::event(last + 1, &untold[last].0, &untold[last].1)))
 }

@@ -1,8 +1,8 @@
 //! The quick calls as plain Rust in place, on the layout of the record and the memory: what the quick calls are held against on records of any
 //! content, and what the benchmark measures them beside. Written from their definition (`crates/port/specs/Quick.antt` and the steps below it), which
 //! is total: the queue in a role is (prior + role) modulo 4 for every prior, a ring's place is taken modulo 256 for every start, a place that
-//! is none of the three goes by the same sentences, a draining count of any size falls by one at a tick, W falls to no less than 0, and so does what L leaves beside R; of streams that are bound to
-//! one pair the first counts, reserved or not.
+//! is none of the three goes by the same sentences, a draining count of any size falls by one at a tick, W falls to no less than 0, and so does what
+//! L leaves beside R; of streams that are bound to one pair the first counts, reserved or not.
 
 mod bindings;
 mod fields;

@@ -54,11 +54,11 @@ fn quick_calls_between_fences(run: &mut Run) -> Result<(), String> {
 
 /// Each call on records of every shape at every pair of lengths, against fences before and after.
 fn between_fences(run: &mut Run, side: Side) -> Result<(), String> {
-    try_lengths(run, 12, |run, random, octets| {
+    try_lengths(run, 20, |run, random, octets| {
         let edges = [(); 3].map(|()| random.pick(&EDGES));
         Compared::fenced(side, run, &octets.record, &octets.memory, edges)
     })?;
     run.demand(&[(Seen::FitRecord, 100), (Seen::UnfitRecord, 500), (Seen::Ticked, 40), (Seen::Opened, 40), (Seen::BestEffort, 40)])?;
     run.demand(&[(Seen::Bound, 20), (Seen::FrameArrived, 20), (Seen::FrameBestEffort, 40), (Seen::FrameRefused(FRAME_LENGTH), 20)])?;
-    run.demand(&[(Seen::Withdrawn, 40), (Seen::Freed, 40), (Seen::Refused(DRAINING), 20)])
+    run.demand(&[(Seen::Withdrawn, 40), (Seen::Freed, 20), (Seen::Refused(DRAINING), 20)])
 }

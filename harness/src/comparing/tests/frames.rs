@@ -229,7 +229,7 @@ fn frames_of_the_first_that_is_bound(run: &mut Run) -> Result<(), String> {
 
 /// The steps of lists of frames.
 const OF_FRAMES: Weights =
-    Weights { reserve: 15, arrive: 10, tick: 8, transmit: 30, best_effort: 5, bind: 15, frame: 100, withdraw: 2, ..NEVER };
+    Weights { reserve: 15, arrive: 10, tick: 8, transmit: 30, best_effort: 5, bind: 15, frame: 100, withdraw: 1, ..NEVER };
 
 /// The profile of lists of frames: many Binds, and Frames more often than all else.
 const FRAMES: Profile = Profile { weights: Weights { open: 1, close: 1, ..OF_FRAMES }, edges: 10, ..ORDINARY };
@@ -240,8 +240,8 @@ fn frames_in_lists(run: &mut Run) -> Result<(), String> {
         play(run, sides, &Plan { lists: 150, calls: 500, begin: a_closed_port }, |_| FRAMES)?;
     }
     never_met_from_opening(run)?;
-    run.demand(&[(Seen::Bound, 2_000), (Seen::FrameArrived, 10_000), (Seen::FrameBestEffort, 5_000)])?;
-    run.demand(&[VID_OUTSIDE, BOUND_ALREADY, PAIR_BOUND_ALREADY].map(|refusal| (Seen::Refused(refusal), 50)))?;
+    run.demand(&[(Seen::Bound, 2_000), (Seen::FrameArrived, 7_000), (Seen::FrameBestEffort, 5_000)])?;
+    run.demand(&[VID_OUTSIDE, BOUND_ALREADY, PAIR_BOUND_ALREADY].map(|refusal| (Seen::Refused(refusal), 20)))?;
     run.demand(&[DISCARD, BEST_EFFORT_EXCEEDED, FRAME_LENGTH].map(|refusal| (Seen::FrameRefused(refusal), 500)))
 }
 

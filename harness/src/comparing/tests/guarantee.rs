@@ -195,7 +195,7 @@ fn of_withdrawn_streams(run: &mut Run) -> Result<(), String> {
 /// The same where the link sends too little, so that ticks purge: numbers, share and replies are what they are all the same.
 fn of_withdrawn_streams_where_ticks_purge(run: &mut Run) -> Result<(), String> {
     hold(run, &PROVED, 500, in_manner(&WITHDRAWN_AND_SHORT))?;
-    demand(run, &[(Link(Failed), 400), (Purging, 150), (Withdrawal, 2_000), (RefusedDraining, 8_000), (GrantedAgain, 1_000)])?;
+    demand(run, &[(Link(Failed), 400), (Purging, 80), (Withdrawal, 2_000), (RefusedDraining, 8_000), (GrantedAgain, 1_000)])?;
     demand(run, &[(Pair, 600), (ArrivalCompared, 25_000), (WithdrawalCompared, 800)])
 }
 

@@ -87,7 +87,7 @@ fn ring_starts_anywhere(run: &mut Run) -> Result<(), String> {
     run.demand(&[(Seen::Refused(QUEUE_FULL), 1_500), (Seen::JoinedWrapped, 800), (Seen::SentFromBestEffort, 800)])?;
     run.demand(&[(Seen::SentFromPrior, 3_000), (Seen::SentFromCurrent, 3_000), (Seen::SentNothing, 500)])?;
     run.demand(&[(Seen::BestEffortWrapped, 100), (Seen::BestEffortFullAndAbove, 50)])?;
-    run.demand(&[QUEUE_FULL, BEST_EFFORT_FULL].map(|refusal| (Seen::FrameRefused(refusal), 500)))
+    run.demand(&[QUEUE_FULL, BEST_EFFORT_FULL].map(|refusal| (Seen::FrameRefused(refusal), 200)))
 }
 
 /// Best effort of 256 frames and one more, from any start: a limit that K raises far above them, or that reservations lower.
@@ -175,9 +175,9 @@ fn opened_again(run: &mut Run) -> Result<(), String> {
 fn arguments_out_of_range(run: &mut Run) -> Result<(), String> {
     play(run, SIDES, &Plan { lists: 200, calls: 600, begin: a_closed_port }, |_| WRONG_ARGUMENTS)?;
     never_met_from_opening(run)?;
-    run.demand(&OF_PLANNER.map(|refusal| (Seen::Refused(refusal), 500)))?;
+    run.demand(&OF_PLANNER.map(|refusal| (Seen::Refused(refusal), 400)))?;
     run.demand(&OF_SENDER.map(|refusal| (Seen::Refused(refusal), 500)))?;
-    run.demand(&[(Seen::Refused(VID_OUTSIDE), 500), (Seen::Refused(BOUND_ALREADY), 50), (Seen::Refused(PAIR_BOUND_ALREADY), 200)])?;
+    run.demand(&[(Seen::Refused(VID_OUTSIDE), 400), (Seen::Refused(BOUND_ALREADY), 30), (Seen::Refused(PAIR_BOUND_ALREADY), 200)])?;
     run.demand(&[(Seen::FrameRefused(FRAME_LENGTH), 2_000), (Seen::FrameRefused(PORT_CLOSED), 200)])?;
     run.demand(&[(Seen::Withdrawn, 300), (Seen::Refused(DRAINING), 1_000)])
 }
@@ -191,7 +191,7 @@ fn mixture(run: &mut Run) -> Result<(), String> {
     run.demand(&[(Seen::Opened, 500), (Seen::Reserved, 1_500), (Seen::Ticked, 5_000), (Seen::Refused(DISCARD), 1_000)])?;
     run.demand(&[(Seen::BestEffort, 3_000), (Seen::SentFromBestEffort, 1_000), (Seen::Refused(BEST_EFFORT_EXCEEDED), 1_000)])?;
     run.demand(&[(Seen::Bound, 1_000), (Seen::FrameArrived, 2_000), (Seen::FrameBestEffort, 5_000)])?;
-    run.demand(&[(Seen::Withdrawn, 1_000), (Seen::Freed, 1_000), (Seen::GrantedAgain, 200), (Seen::Refused(DRAINING), 2_000)])
+    run.demand(&[(Seen::Withdrawn, 800), (Seen::Freed, 600), (Seen::GrantedAgain, 60), (Seen::Refused(DRAINING), 2_000)])
 }
 
 /// A demand for each of the three places.

@@ -101,5 +101,5 @@ fn as_defined_on_broken_clauses(run: &mut Run) -> Result<(), String> {
 fn as_defined_at_all_lengths(run: &mut Run) -> Result<(), String> {
     try_lengths(run, 12, |run, _, octets| Compared::guarded(WITH_DEFINITION, run, &octets.record, &octets.memory))?;
     run.demand(&[MEMORY_SHORT, RECORD_UNFIT, PORT_CLOSED].map(|refusal| (Seen::Refused(refusal), 100)))?;
-    run.demand(&[(Seen::Opened, 50), (Seen::Ticked, 50), (Seen::Withdrawn, 50), (Seen::Freed, 50)])
+    run.demand(&[(Seen::Opened, 50), (Seen::Ticked, 50), (Seen::Withdrawn, 50), (Seen::Freed, 20)])
 }

@@ -96,7 +96,7 @@ fn records_with_bindings_of_every_sort(run: &mut Run) -> Result<(), String> {
 fn lengths(run: &mut Run) -> Result<(), String> {
     try_lengths(run, 8, |run, _, octets| Compared::guarded(SIDES, run, &octets.record, &octets.memory))?;
     run.demand(&[MEMORY_SHORT, RECORD_UNFIT, PORT_CLOSED].map(|refusal| (Seen::Refused(refusal), 100)))?;
-    run.demand(&[(Seen::Opened, 40), (Seen::Ticked, 30), (Seen::Withdrawn, 30), (Seen::Freed, 30)])
+    run.demand(&[(Seen::Opened, 40), (Seen::Ticked, 30), (Seen::Withdrawn, 30), (Seen::Freed, 10)])
 }
 
 /// 19 for what the record says of prior, of starts and of counts.

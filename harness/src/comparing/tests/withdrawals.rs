@@ -396,7 +396,7 @@ fn withdrawals_in_lists_from_any_port(run: &mut Run) -> Result<(), String> {
         let profile = |random: &mut Random| Profile { streams: random.pick(&[6, 12, 64]), ..WITHDRAWING };
         play(run, sides, &Plan { lists: 200, calls: 200, begin: an_open_port }, profile)?;
     }
-    demand_withdrawals(run, 1_000)
+    demand_withdrawals(run, 400)
 }
 
 /// Lists in which the host closes ports whose streams drain, and opens them again.

@@ -1,4 +1,4 @@
-//! The seeded captures, in groups: each group has a generator of its own, and is about one part of document 01. They are frozen: a capture is what
+//! The seeded captures, in groups: each group has a generator of its own, and is about one part of documents 01 and 02. They are frozen: a capture is what
 //! its group, its seed and its variant make it, and its checksum stands in conformance/sums. Of the comparing tests they use the random numbers and
 //! nothing else; a change of those would be seen by the sums.
 
@@ -11,6 +11,7 @@ mod best_effort;
 mod chains;
 mod damaged;
 mod discards;
+mod drains;
 mod fits;
 mod mixed;
 mod numbers;
@@ -24,6 +25,9 @@ mod reservations;
 mod rings;
 mod streams;
 mod transmits;
+mod withdraw_files;
+mod withdraw_refusals;
+mod withdrawals;
 mod without_events;
 
 /// The seed that all random numbers of the set begin from.
@@ -39,7 +43,7 @@ pub struct Group {
 }
 
 /// Every group, in the order in which they are run.
-pub const GROUPS: [Group; 16] = [
+pub const GROUPS: [Group; 20] = [
     Group {
         name: "phases",
         about: "the same traffic with the tick at every phase",
@@ -151,6 +155,34 @@ pub const GROUPS: [Group; 16] = [
         seeds: 20,
         variants: 1,
         make: |random, _| without_events::capture(random),
+    },
+    Group {
+        name: "withdrawals",
+        about: "a stream that is withdrawn, the same questions after none to five ticks, and its number granted again",
+        seeds: 24,
+        variants: withdrawals::TICKS,
+        make: |random, ticks| on_port_0(&withdrawals::events(random, ticks)),
+    },
+    Group {
+        name: "drains",
+        about: "streams withdrawn in any epoch while their frames wait, and numbers and share granted again",
+        seeds: 120,
+        variants: 1,
+        make: |random, _| on_port_0(&drains::events(random)),
+    },
+    Group {
+        name: "withdraw_refusals",
+        about: "calls of draining streams of which other things are wrong too, so that the order of the checks decides",
+        seeds: 80,
+        variants: 1,
+        make: |random, _| on_port_0(&withdraw_refusals::events(random)),
+    },
+    Group {
+        name: "withdraw_files",
+        about: "files with records of kind 7 on several ports, good ones and such that are refused",
+        seeds: 6,
+        variants: withdraw_files::WAYS,
+        make: withdraw_files::capture,
     },
 ];
 

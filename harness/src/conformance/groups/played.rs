@@ -45,6 +45,11 @@ impl Played {
         self.play(Call::BestEffort { charge, tag: self.next_number() });
     }
 
+    /// Adds a withdrawal.
+    pub fn withdraw(&mut self, stream: u8) {
+        self.play(Call::Withdraw { stream });
+    }
+
     /// Adds so many ticks.
     pub fn tick(&mut self, times: usize) {
         (0..times).for_each(|_| {
@@ -72,6 +77,16 @@ impl Played {
     /// What is left at the place of a stream.
     pub fn left(&self, stream: u8) -> u32 {
         self.port.streams[usize::from(stream)].left
+    }
+
+    /// Whether a stream drains.
+    pub fn is_draining(&self, stream: u8) -> bool {
+        self.port.streams[usize::from(stream)].is_draining()
+    }
+
+    /// Whether a number is that of a stream of an open port, and not reserved.
+    pub fn is_free(&self, stream: u8) -> bool {
+        self.port.is_open() && self.port.streams.get(usize::from(stream)).is_some_and(|stream| !stream.is_reserved())
     }
 
     /// The streams that are reserved.

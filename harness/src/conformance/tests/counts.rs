@@ -10,7 +10,7 @@ use crate::model::rule;
 use crate::timeline::words::ROLES;
 
 /// How often each thing must happen at least, by its name.
-const DEMANDED: [(&str, usize); 43] = [
+const DEMANDED: [(&str, usize); 52] = [
     ("open granted", 1_500),
     ("open refused 2", 1_000),
     ("open refused 3", 100),
@@ -21,6 +21,8 @@ const DEMANDED: [(&str, usize); 43] = [
     ("reserve refused 6", 500),
     ("reserve refused 7", 500),
     ("reserve refused 8", 500),
+    ("reserve refused 25", 500),
+    ("reserve grants a number again", 1_500),
     ("arrive joins current", 50_000),
     ("arrive joins next", 20_000),
     ("arrive joins last", 10_000),
@@ -34,6 +36,7 @@ const DEMANDED: [(&str, usize); 43] = [
     ("arrive refused 12", 500),
     ("arrive refused 13", 500),
     ("arrive refused 14", 10_000),
+    ("arrive refused 25", 2_000),
     ("best effort granted", 20_000),
     ("best effort at the limit", 1_000),
     ("best effort one above the limit", 300),
@@ -43,12 +46,18 @@ const DEMANDED: [(&str, usize); 43] = [
     ("best effort refused 16", 2_000),
     ("tick purges nothing", 20_000),
     ("tick purges frames", 10_000),
+    ("tick frees a stream", 1_500),
     ("tick refused 1", 50),
     ("transmit from prior", 20_000),
     ("transmit from current", 20_000),
     ("transmit of best effort", 10_000),
     ("transmit of nothing", 10_000),
     ("transmit refused 1", 100),
+    ("withdraw granted", 2_000),
+    ("withdraw refused 1", 50),
+    ("withdraw refused 5", 80),
+    ("withdraw refused 12", 300),
+    ("withdraw refused 25", 500),
     ("file refused 21", 40),
     ("file refused 22", 20),
     ("file refused 23", 60),
@@ -129,8 +138,10 @@ fn done(event: &Call, reply: &Reply, before: &Port, after: &Port) -> Vec<String>
         Call::BestEffort { charge, .. } => best_effort(charge, reply, after),
         _ if reply.refusal != 0 => vec![format!("{} refused {}", kind(event), reply.refusal)],
         Call::Arrive { stream, .. } => joined(usize::from(stream), reply, before, after),
-        Call::Tick if reply.first == 0 => vec![String::from("tick purges nothing")],
-        Call::Tick => vec![String::from("tick purges frames")],
+        Call::Tick => tick(reply, before, after),
+        Call::Reserve { stream, .. } if before.streams[usize::from(stream)].permitted > 0 => {
+            vec![String::from("reserve granted"), String::from("reserve grants a number again")]
+        }
         Call::Transmit => vec![String::from(match reply.first {
             NOTHING => "transmit of nothing",
             BEST_EFFORT_STREAM => "transmit of best effort",
@@ -139,6 +150,13 @@ fn done(event: &Call, reply: &Reply, before: &Port, after: &Port) -> Vec<String>
         })],
         _ => vec![format!("{} granted", kind(event))],
     }
+}
+
+/// What a tick purged, and whether it freed a stream.
+fn tick(reply: &Reply, before: &Port, after: &Port) -> Vec<String> {
+    let purges = if reply.first == 0 { "tick purges nothing" } else { "tick purges frames" };
+    let frees = before.streams.iter().zip(&after.streams).any(|(before, after)| before.is_reserved() && !after.is_reserved());
+    [(true, purges), (frees, "tick frees a stream")].iter().filter(|(is, _)| *is).map(|(_, what)| String::from(*what)).collect()
 }
 
 /// The kind of an event in words.

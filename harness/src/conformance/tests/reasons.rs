@@ -58,7 +58,7 @@ fn a_discard() {
             "stream 5, whose P is 200, is at next with left 200",
             "201 is above 200, and the place is not last: it advances to last, and left becomes P, 200",
             "201 is above 200, and the place is last: the frame is discarded, and left becomes 0",
-            "14 is the first that holds of the call's checks, in their order 1 5 12 13 14",
+            "14 is the first that holds of the call's checks, in their order 1 5 25 12 13 14",
         ],
     );
 }
@@ -68,7 +68,7 @@ fn a_reservation() {
     let reserve = |permitted| Call::Reserve { stream: 6, permitted };
     are_told(after(&[]), reserve(400), &["R 200 and P 400 make 600, within the share 600"]);
     let above = "R 200 and P 401 make 601, above the share 600";
-    are_told(after(&[]), reserve(401), &[above, "8 is the first that holds of the call's checks, in their order 1 5 6 7 8"]);
+    are_told(after(&[]), reserve(401), &[above, "8 is the first that holds of the call's checks, in their order 1 5 25 6 7 8"]);
 }
 
 #[test]
@@ -78,6 +78,37 @@ fn best_effort() {
     are_told(after(&[frame(1_542)]), frame(400), &[within]);
     let above = "W 1542 and the charge 401 make 1943, above K × (L − R), 1 × (2142 − 200) = 1942";
     are_told(after(&[frame(1_542)]), frame(401), &[above, "16 is the first that holds of the call's checks, in their order 1 13 15 16"]);
+}
+
+#[test]
+fn a_withdrawal() {
+    let withdraw = |stream| Call::Withdraw { stream };
+    are_told(after(&[]), withdraw(5), &["stream 5, whose P is 200, drains from here on, and is free at tick 4"]);
+    let drains = |ticks| ["stream 5 drains, and is free at tick ", ticks, " from here"].concat();
+    let checks = "25 is the first that holds of the call's checks, in their order 1 5 25 12";
+    are_told(after(&[withdraw(5)]), withdraw(5), &[&drains("4"), checks]);
+    let two_ticks = after(&[withdraw(5), Call::Tick, Call::Tick]);
+    are_told(two_ticks.clone(), arrive(84), &[&drains("2"), &format!("{checks} 13 14")]);
+    let three_ticks = after(&[withdraw(5), Call::Tick, Call::Tick, Call::Tick]);
+    let reserve = Call::Reserve { stream: 5, permitted: 84 };
+    let at_the_next =
+        ["stream 5 drains, and is free at the next tick", "25 is the first that holds of the call's checks, in their order 1 5 25 6 7 8"];
+    are_told(three_ticks, reserve, &at_the_next);
+    are_told(after(&[]), withdraw(6), &["12 is the first that holds of the call's checks, in their order 1 5 25 12"]);
+}
+
+#[test]
+fn what_draining_streams_keep() {
+    let withdraw = Call::Withdraw { stream: 5 };
+    let of_r = "of R, 200 are of draining streams";
+    let reserve = Call::Reserve { stream: 6, permitted: 401 };
+    let above = "R 200 and P 401 make 601, above the share 600";
+    let checks = "8 is the first that holds of the call's checks, in their order 1 5 25 6 7 8";
+    are_told(after(&[withdraw.clone()]), reserve, &[above, of_r, checks]);
+    let frame = |charge| Call::BestEffort { charge, tag: 8 };
+    let above = "W 1542 and the charge 401 make 1943, above K × (L − R), 1 × (2142 − 200) = 1942";
+    let checks = "16 is the first that holds of the call's checks, in their order 1 13 15 16";
+    are_told(after(&[withdraw, frame(1_542)]), frame(401), &[above, of_r, checks]);
 }
 
 #[test]
@@ -92,7 +123,7 @@ fn what_waits() {
 #[test]
 fn refusals_of_arguments() {
     are_told(after(&[]), Call::Open { link: 0, delay: 0 }, &["2 is the first that holds of the call's checks, in their order 2 3 4"]);
-    are_told(after(&[]), arrive(83), &["13 is the first that holds of the call's checks, in their order 1 5 12 13 14"]);
+    are_told(after(&[]), arrive(83), &["13 is the first that holds of the call's checks, in their order 1 5 25 12 13 14"]);
     are_told(Port::closed(), Call::Tick, &["1 is the first that holds of the call's checks, in their order 1"]);
 }
 

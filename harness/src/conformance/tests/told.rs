@@ -196,7 +196,7 @@ fn a_file_that_the_rule_refuses_is_told_with_the_record() {
         "the rule:     refused 24 3   the capture is refused with 24: kind, stream octet, unused number or zero octets (record 3)",
         "the program:  refused 23 3   the capture is refused with 23: first or next index (record 3)",
         "why the rule says so:",
-        "  kind 9 is none of 1 to 6",
+        "  kind 9 is none of 1 to 7",
         "  the checks run 21, 22, then port after port: its first index, 23, and each record of its chain, 24 and then 23",
         "record 3 of 0 to 8, on the chain of port 0",
         "09 05 00 01 00 00 00 78 00 00 00 07 00 00 00 00: kind 9, stream octet 5, next index 1, A 120, B 7, zero octets 00 00 00 00",
