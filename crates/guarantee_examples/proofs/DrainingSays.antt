@@ -6,20 +6,31 @@ use mathlib.Core.List.{List, _∷_}
 use native.Mathlib.Omega.{arith}
 use borrow.Author.Tests.{eq-eqb, ne-eqb, le-ltb}
 use lib.Dec.{eqb}
+use Rattle.lists.specs.Turns.{sumTo}
+use Rattle.octets.specs.Numbers.{twoOf}
+use Rattle.stream.specs.State.{reserveOf}
 use Rattle.lists.proofs.TurnLaws.{sumTo-change}
 use Rattle.record.specs.Layout.{streamCount}
 use Rattle.record.specs.Queues.{queuesAt}
-use Rattle.record.specs.Entry.{streamAt, drainsAt}
+use Rattle.record.specs.Entry.{streamAt, withStream, drainsAt}
 use Rattle.record.specs.Reservations.{permittedOf, permittedSum}
 use Rattle.ranges.specs.Ranges.{shareOf, permittedFits}
 use Rattle.record.specs.Head.{openAt, linkAt}
 use Rattle.gates.specs.Refusals.{reserveRefusal}
 use Rattle.steps.specs.Call.{withdrawing, ticking}
 use Rattle.port.specs.Calls.{called}
+use Rattle.port_laws.specs.Lists.{freshRecord}
 use Rattle.guarantee.specs.Draining.{leftBy, Taken, RefusedDraining, Free}
 use Rattle.guarantee.proofs.DrainingLaws.{drains-exactly}
 use Rattle.guarantee_examples.specs.Withdrawn.{betweenCalls}
-use Rattle.guarantee_examples.specs.WithdrawnShown.{othersPermitted, DrainingSays, AllDrain}
+use Rattle.guarantee_examples.specs.DrainingSays.{othersPermitted, NoOthers, DrainingSays, AllDrain}
+
+others-none : othersPermitted 5 (withStream freshRecord 5 (reserveOf 200)) ≡ 0
+unfolding sumTo twoOf streamAt withStream
+others-none = refl
+
+pub no-others : NoOthers
+no-others = others-none
 
 -- R is a stream's part of it and that of the others
 with-others : (s : ℕ) (l : List ℕ) → s < streamCount → permittedSum l ≡ othersPermitted s l + permittedOf (streamAt l s)
