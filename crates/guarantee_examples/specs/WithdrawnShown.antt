@@ -51,7 +51,7 @@ FreeBeyond queues es =
 
 pub record WithdrawnShow : Type 0 where
   pub happen : WithdrawnHappen
-  -- the share is sent in every epoch, before the share is granted again and after it
+  -- the link condition is met, before the share is granted again and after it
   pub handed-6-links : LinkCondition (shareOf 1626) (handed 6)
   pub handed-5-links : LinkCondition (shareOf 1626) (handed 5)
   -- a stream's withdrawals are among its own calls: two lists that differ in a Withdraw alone give its arrival other replies
@@ -62,7 +62,7 @@ pub record WithdrawnShow : Type 0 where
   pub withdrawn-offers : OffersWithin 5 200 withdrawnAfter
   pub withdrawn-not-prompt : PromptBeyond withdrawn → ⊥
   pub withdrawn-not-alone : ownReplies 5 withdrawnAfter ≡ repliesAlone 200 (own 5 withdrawnAfter) → ⊥
-  -- of how long a stream drains neither less nor more can be said, and of how long it is free not more
+  -- a later tick cannot be said to end the draining, nor an earlier one, and the stream is free only until it is reserved again
   pub tried-not-longer : DrainsUntil (leastQueues + 1) tried → ⊥
   pub tried-not-sooner : FreeFrom (leastQueues - 1) tried → ⊥
   pub tried-not-beyond : FreeBeyond leastQueues tried → ⊥
@@ -72,8 +72,8 @@ pub record WithdrawnShow : Type 0 where
 
 -- what follows from the theorems on lists
 pub record WithdrawnSays : Type 0 where
-  -- `all-sent`: the last frame of the withdrawn stream is sent before the tick that frees it, and the last one of the stream that has the share then before
-  -- the fourth tick after it
+  -- `all-sent`: the last frame of the withdrawn stream is sent before the tick that frees it, and the last one of the stream that has the share after
+  -- that before the fourth tick after it
   pub handed-third : (s : ℕ) (sent : Sent) (said shown : Reply) → let es = handedWith s (transmitted sent said shown) (granted 0 0) (handedLast s) (granted 0 0) in
       Happens es → LinkCondition (shareOf 1626) es → sent ≡ reservedSent thirdFrame
   pub handed-last : (s : ℕ) (sent : Sent) (said shown : Reply) → let es = handedWith s handedThird (granted 0 0) (transmitted sent said shown) (granted 0 0) in
