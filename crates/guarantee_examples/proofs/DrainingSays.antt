@@ -2,24 +2,35 @@
 use Prim.Native.Nat.{ℕ, _+_, _≤_, _<_}
 use mathlib.Core.Bool.{true, cond}
 use mathlib.Core.Path.{_≡_, refl}
-use mathlib.Core.List.{List, _∷_}
+use mathlib.Core.List.{List}
 use native.Mathlib.Omega.{arith}
 use borrow.Author.Tests.{eq-eqb, ne-eqb, le-ltb}
 use lib.Dec.{eqb}
+use Rattle.lists.specs.Turns.{sumTo}
+use Rattle.octets.specs.Numbers.{twoOf}
+use Rattle.stream.specs.State.{reserveOf}
 use Rattle.lists.proofs.TurnLaws.{sumTo-change}
 use Rattle.record.specs.Layout.{streamCount}
 use Rattle.record.specs.Queues.{queuesAt}
-use Rattle.record.specs.Entry.{streamAt, drainsAt}
+use Rattle.record.specs.Entry.{streamAt, withStream, drainsAt}
 use Rattle.record.specs.Reservations.{permittedOf, permittedSum}
 use Rattle.ranges.specs.Ranges.{shareOf, permittedFits}
 use Rattle.record.specs.Head.{openAt, linkAt}
 use Rattle.gates.specs.Refusals.{reserveRefusal}
-use Rattle.steps.specs.Call.{withdrawing, ticking}
+use Rattle.steps.specs.Call.{withdrawing}
 use Rattle.port.specs.Calls.{called}
-use Rattle.guarantee.specs.Draining.{leftBy, Taken, RefusedDraining, Free}
+use Rattle.port_laws.specs.Lists.{freshRecord}
+use Rattle.guarantee.specs.Draining.{Taken, RefusedDraining, Free}
 use Rattle.guarantee.proofs.DrainingLaws.{drains-exactly}
 use Rattle.guarantee_examples.specs.Withdrawn.{betweenCalls}
-use Rattle.guarantee_examples.specs.WithdrawnShown.{othersPermitted, DrainingSays, AllDrain}
+use Rattle.guarantee_examples.specs.DrainingSays.{othersPermitted, NoOthers, stillDraining, drained, DrainingSays, AllDrain}
+
+others-none : othersPermitted 5 (withStream freshRecord 5 (reserveOf 200)) ≡ 0
+unfolding sumTo twoOf streamAt withStream
+others-none = refl
+
+pub no-others : NoOthers
+no-others = others-none
 
 -- R is a stream's part of it and that of the others
 with-others : (s : ℕ) (l : List ℕ) → s < streamCount → permittedSum l ≡ othersPermitted s l + permittedOf (streamAt l s)
@@ -29,15 +40,14 @@ with-others s l below =
     omega (arith, none, sumTo-change one (λ r. cond (eqb r s) 0 (one r)) streamCount s below (λ r other. rw (ne-eqb r s other)))
 
 module _ (p m : List ℕ) (is : called (withdrawing 5) p m .reply .refusal ≡ 0) where
-  -- the record three ticks after the withdrawal, the memory, and the record after one tick more
   abbrev port : List ℕ
-  port = leftBy (withdrawing 5 ∷ betweenCalls) p m .port
+  port = stillDraining p m .port
 
   abbrev memory : List ℕ
-  memory = leftBy (withdrawing 5 ∷ betweenCalls) p m .memory
+  memory = stillDraining p m .memory
 
   abbrev after : List ℕ
-  after = called ticking port memory .port
+  after = drained p m
 
   taken : Taken 5 p port
   unfolding queuesAt

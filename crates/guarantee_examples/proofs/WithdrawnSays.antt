@@ -20,9 +20,9 @@ use Rattle.guarantee.specs.Withdrawal.{RefusedAsDraining, NotGranted, RefusedAs
 use Rattle.guarantee.specs.Instances.{replied, quietTick, withdrawalOf5}
 use Rattle.guarantee.proofs.Theorem.{withdrawals}
 use Rattle.guarantee_examples.specs.Examples.{Happens}
-use Rattle.guarantee_examples.specs.LeftOpen.{transmitted, crowdedPlace, busyLastArrival, busyThird, thirdFrame, purgesNone}
+use Rattle.guarantee_examples.specs.LeftOpen.{transmitted, crowdedPlace, busyLastArrival, thirdFrame, purgesNone}
 use Rattle.guarantee_examples.specs.AddUp.{repliesAlone}
-use Rattle.guarantee_examples.specs.Withdrawn.{drainingReply, freeReply, handedBefore, handedToThirdTick, handedToFourthTick, handedGrant, handedLastArrival, handedEpochs, handedToLastTick, handedAfter, handedFromGrant, handedWith, handedFrame, handedLast, withdrawnOpening, withdrawnGrant, leavingToFirst, leavingSecond, leavingToSecondTick, leavingAfter, leavingWith, leavingFrame, leaving, leftAloneWith, leavingAnswers, triedBefore, triedWhile, triedFree, triedReserved, triedArrival, triedAfter, triedWith}
+use Rattle.guarantee_examples.specs.Withdrawn.{drainingReply, freeReply, handedBefore, handedThird, handedToThird, handedToFourthTick, handedGrant, handedLastArrival, handedEpochs, handedToLastTick, handedAfter, handedFromGrant, handedWith, handedFrame, handedLast, withdrawnOpening, withdrawnGrant, leavingToFirst, leavingSecond, leavingToSecondTick, leavingAfter, leavingWith, leavingFrame, leaving, leftAloneWith, leavingAnswers, triedBefore, triedWhile, triedFree, triedReserved, triedArrival, triedAfter, triedWith}
 use Rattle.guarantee_examples.specs.WithdrawnShown.{WithdrawnSays}
 use Rattle.guarantee_examples.proofs.LinkTest.{link-holds}
 use Rattle.guarantee_examples.proofs.OffersTest.{within-holds}
@@ -35,38 +35,38 @@ module _ (s : ℕ) (sent : Sent) (said shown : Reply) where
   unknown = transmitted sent said shown
 
   -- from `all-sent`, the last frame of the stream that is withdrawn
-  third-sends : Happens (handedWith s unknown purgesNone (handedLast s) purgesNone) → LinkCondition (shareOf 1626) (handedWith s unknown purgesNone (handedLast s) purgesNone)
+  third-sends : Happens (handedWith s unknown (granted 0 0) (handedLast s) (granted 0 0)) → LinkCondition (shareOf 1626) (handedWith s unknown (granted 0 0) (handedLast s) (granted 0 0))
       → Some (Sends thirdFrame) (handedToFourthTick unknown)
   third-sends happens link =
-      promised-of (handedWith s unknown purgesNone (handedLast s) purgesNone) happens link .all-sent
-      handedBefore (handedToFourthTick unknown ++ (replied ticking purgesNone ∷ handedFromGrant s (handedLast s) purgesNone)) busyLastArrival
-      5 84 7 refl refl refl (handedToFourthTick unknown) (handedFromGrant s (handedLast s) purgesNone) (replied ticking purgesNone) refl refl refl
+      promised-of (handedWith s unknown (granted 0 0) (handedLast s) (granted 0 0)) happens link .all-sent
+      handedBefore (handedToFourthTick unknown ++ (quietTick ∷ handedFromGrant s (handedLast s) (granted 0 0))) busyLastArrival
+      5 84 7 refl refl refl (handedToFourthTick unknown) (handedFromGrant s (handedLast s) (granted 0 0)) quietTick refl refl refl
 
   -- and of the one that has the share after it
   abbrev beforeLastArrival : List Event
-  beforeLastArrival = handedBefore ++ (busyLastArrival ∷ (handedToFourthTick busyThird ++ (replied ticking purgesNone ∷ handedGrant s)))
+  beforeLastArrival = handedBefore ++ (busyLastArrival ∷ (handedToFourthTick handedThird ++ (quietTick ∷ handedGrant s)))
 
-  last-sends : Happens (handedWith s busyThird purgesNone unknown purgesNone) → LinkCondition (shareOf 1626) (handedWith s busyThird purgesNone unknown purgesNone)
+  last-sends : Happens (handedWith s handedThird (granted 0 0) unknown (granted 0 0)) → LinkCondition (shareOf 1626) (handedWith s handedThird (granted 0 0) unknown (granted 0 0))
       → Some (Sends (handedFrame s)) (handedToLastTick s unknown)
   last-sends happens link =
-      promised-of (handedWith s busyThird purgesNone unknown purgesNone) happens link .all-sent
-      beforeLastArrival (handedAfter s unknown purgesNone) (handedLastArrival s)
-      s 84 8 refl refl refl (handedToLastTick s unknown) [] (replied ticking purgesNone) refl refl refl
+      promised-of (handedWith s handedThird (granted 0 0) unknown (granted 0 0)) happens link .all-sent
+      beforeLastArrival (handedAfter s unknown (granted 0 0)) (handedLastArrival s)
+      s 84 8 refl refl refl (handedToLastTick s unknown) [] quietTick refl refl refl
 
 -- a tick that purges nothing, by its numbers
 quiet : (reply : Reply) → reply ≡ granted 0 0 → reply ≡ purgesNone
 quiet reply z =
     by-numbers reply purgesNone (omega (arith, ap (λ (r : Reply). r .refusal) z)) (omega (arith, ap (λ (r : Reply). r .first) z)) (omega (arith, ap (λ (r : Reply). r .second) z))
 
-module _ (s : ℕ) (fourth reply : Reply) (happens : Happens (handedWith s busyThird fourth (handedLast s) reply)) where
+module _ (s : ℕ) (fourth reply : Reply) (happens : Happens (handedWith s handedThird fourth (handedLast s) reply)) where
   -- from `no-purge`
-  no-purges : All PurgesNothing (handedWith s busyThird fourth (handedLast s) reply)
+  no-purges : All PurgesNothing (handedWith s handedThird fourth (handedLast s) reply)
   no-purges =
-      let es = handedWith s busyThird fourth (handedLast s) reply in
+      let es = handedWith s handedThird fourth (handedLast s) reply in
       promised-of es happens (link-holds (shareOf 1626) es refl) .no-purge
 
   abbrev toFourthTick : List Event
-  toFourthTick = handedBefore ++ (busyLastArrival ∷ handedToFourthTick busyThird)
+  toFourthTick = handedBefore ++ (busyLastArrival ∷ handedToFourthTick handedThird)
 
   abbrev fromFourthTick : List Event
   fromFourthTick = replied ticking fourth ∷ (handedGrant s ++ (handedLastArrival s ∷ handedToLastTick s (handedLast s)))
@@ -156,7 +156,7 @@ pub withdrawn-says : WithdrawnSays
 withdrawn-says =
     record {
       handed-third = λ s sent said shown happens link.
-          only thirdFrame handedToThirdTick [] (transmitted sent said shown) refl refl (third-sends s sent said shown happens link);
+          only thirdFrame handedToThird [] (transmitted sent said shown) refl refl (third-sends s sent said shown happens link);
       handed-last = λ s sent said shown happens link.
           only (handedFrame s) (handedEpochs s) [] (transmitted sent said shown) refl refl (last-sends s sent said shown happens link);
       handed-zeros = zeros;

@@ -18,9 +18,9 @@ use Rattle.guarantee.specs.Own.{own, ownReplies}
 use Rattle.guarantee.specs.Withdrawal.{RefusedAsDraining, DrainsUntil, FreeFrom}
 use Rattle.guarantee.specs.Instances.{replied, quietTick, withdrawalOf5}
 use Rattle.guarantee_examples.specs.Examples.{permitted200}
-use Rattle.guarantee_examples.specs.LeftOpen.{busyLastArrival, busyToSecondTick, busySecond, busyThird}
+use Rattle.guarantee_examples.specs.LeftOpen.{busyLastArrival, busyToSecondTick}
 use Rattle.guarantee_examples.specs.AddUp.{repliesAlone}
-use Rattle.guarantee_examples.specs.Withdrawn.{drainingReply, freeReply, handedBefore, handed, withdrawnOpening, withdrawnGrant, withdrawnArrival, withdrawnAfter, withdrawn, triedBefore, triedToThirdTick, triedThirdEpoch, triedWhile, triedFree, triedReserved, triedArrival, triedAfter, tried, hurry}
+use Rattle.guarantee_examples.specs.Withdrawn.{handedBefore, handedSecond, handedThird, handed, withdrawnOpening, withdrawnGrant, withdrawnArrival, withdrawnAfter, withdrawn, triedBefore, triedToThirdTick, triedThirdEpoch, triedWhile, triedFree, triedReserved, triedArrival, triedAfter, tried, hurry}
 use Rattle.guarantee_examples.specs.WithdrawnShown.{PromptBeyond, FreeBeyond, WithdrawnShow}
 use Rattle.guarantee_examples.proofs.LinkTest.{link-holds}
 use Rattle.guarantee_examples.proofs.OffersTest.{within-holds}
@@ -46,26 +46,26 @@ not-alone e = let z : _≡_ {A = ℕ} 25 0 = ap firstRefusal e in omega arith
 -- after the fourth tick an arrival is refused, and not as draining
 not-longer : DrainsUntil (leastQueues + 1) tried → ⊥
 not-longer drains =
-    let while = triedWhile drainingReply drainingReply drainingReply drainingReply ++ (quietTick ∷ triedFree freeReply freeReply) in
+    let while = triedWhile (refusedBy 25) (refusedBy 25) (refusedBy 25) (refusedBy 25) ++ (quietTick ∷ triedFree (refusedBy 12) (refusedBy 12)) in
     let d = drains 5 triedBefore while (triedReserved (refusedBy 7) (granted 400 0) ++ (triedArrival ∷ [])) withdrawalOf5 refl (refl, refl) (omega arith) in
-    let z : _≡_ {A = ℕ} 12 25 = ap (λ (r : Reply). r .refusal) (all-rest (RefusedAsDraining 5) (triedWhile drainingReply drainingReply drainingReply drainingReply ++ (quietTick ∷ [])) (triedFree freeReply freeReply) d .1 .0 refl) in
+    let z : _≡_ {A = ℕ} 12 25 = ap (λ (r : Reply). r .refusal) (all-rest (RefusedAsDraining 5) (triedWhile (refusedBy 25) (refusedBy 25) (refusedBy 25) (refusedBy 25) ++ (quietTick ∷ [])) (triedFree (refusedBy 12) (refusedBy 12)) d .1 .0 refl) in
     omega arith
 
 -- after the third tick a reservation is refused, and not for its P
 not-sooner : FreeFrom (leastQueues - 1) tried → ⊥
 not-sooner free =
-    let f = free 5 triedBefore (triedToThirdTick drainingReply drainingReply drainingReply) (triedThirdEpoch drainingReply)
-    (quietTick ∷ triedAfter freeReply freeReply (refusedBy 7) (granted 400 0)) withdrawalOf5 quietTick refl (refl, refl) refl refl
+    let f = free 5 triedBefore (triedToThirdTick (refusedBy 25) (refusedBy 25) (refusedBy 25)) (triedThirdEpoch (refusedBy 25))
+    (quietTick ∷ triedAfter (refusedBy 12) (refusedBy 12) (refusedBy 7) (granted 400 0)) withdrawalOf5 quietTick refl (refl, refl) refl refl
     (λ e. differ (sym e), (λ e z. omega (arith, z), tt)) in
     ⊎-elim
-    (λ (e : drainingReply ≡ refusedBy 7). (let z : _≡_ {A = ℕ} 25 7 = ap (λ (r : Reply). r .refusal) e in omega arith))
-    (λ (e : drainingReply ≡ refusedBy 8). (let z : _≡_ {A = ℕ} 25 8 = ap (λ (r : Reply). r .refusal) e in omega arith))
+    (λ (e : refusedBy 25 ≡ refusedBy 7). (let z : _≡_ {A = ℕ} 25 7 = ap (λ (r : Reply). r .refusal) e in omega arith))
+    (λ (e : refusedBy 25 ≡ refusedBy 8). (let z : _≡_ {A = ℕ} 25 8 = ap (λ (r : Reply). r .refusal) e in omega arith))
     (f .1 .0 .1 refl)
 
 -- after the stream is reserved again its frame is accepted
 not-beyond : FreeBeyond leastQueues tried → ⊥
 not-beyond free =
-    let f = free 5 triedBefore (triedWhile drainingReply drainingReply drainingReply drainingReply) (triedAfter freeReply freeReply (refusedBy 7) (granted 400 0)) []
+    let f = free 5 triedBefore (triedWhile (refusedBy 25) (refusedBy 25) (refusedBy 25) (refusedBy 25)) (triedAfter (refusedBy 12) (refusedBy 12) (refusedBy 7) (granted 400 0)) []
     withdrawalOf5 quietTick refl (refl, refl) refl refl in
     let z : _≡_ {A = ℕ} 0 12 = ap (λ (r : Reply). r .refusal) (f .1 .1 .1 .1 .1 .0 .0 refl) in
     omega arith
@@ -75,7 +75,7 @@ abbrev hurryBefore : List Event
 hurryBefore =
     handedBefore
     ++ (busyLastArrival ∷ withdrawalOf5 ∷ (busyToSecondTick
-    ++ (quietTick ∷ replied (reserving 6 84) (granted 0 0) ∷ replied (arriving 6 84 8) (granted 1 84) ∷ busySecond ∷ quietTick ∷ busyThird ∷ [])))
+    ++ (quietTick ∷ replied (reserving 6 84) (granted 0 0) ∷ replied (arriving 6 84 8) (granted 1 84) ∷ handedSecond ∷ quietTick ∷ handedThird ∷ [])))
 
 hurry-purged : All PurgesNothing hurry → ⊥
 hurry-purged none =

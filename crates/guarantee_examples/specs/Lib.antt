@@ -6,3 +6,4 @@ pub mod Withdrawn
 pub mod AddUp
 pub mod Derived
 pub mod WithdrawnShown
+pub mod DrainingSays

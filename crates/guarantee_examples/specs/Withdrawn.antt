@@ -17,9 +17,9 @@ use Rattle.guarantee.specs.Events.{Marked, reservedSent, none, Event, action}
 use Rattle.guarantee.specs.Claims.{isTick, isReserveOf, isArriveOf}
 use Rattle.guarantee.specs.Instances.{replied, markedFrame, quietTick, withdrawalOf5}
 use Rattle.guarantee_examples.specs.Examples.{sending, address, taggedTo}
-use Rattle.guarantee_examples.specs.LeftOpen.{transmitted, busyBefore, busyNextArrival, busyLastArrival, busyToSecondTick, busyToThirdTick, busySecond, busyThird, thirdFrame, purgesNone}
+use Rattle.guarantee_examples.specs.LeftOpen.{busyBefore, busyNextArrival, busyLastArrival, busyToSecondTick, busyToThirdTick}
 
--- what is replied to calls on a draining stream, and on a free one
+-- what the theorems have replied to calls on a draining stream, and on a free one
 abbrev pub drainingReply : Reply
 drainingReply = refusedBy 25
 
@@ -33,13 +33,19 @@ abbrev pub handedBefore : List Event
 handedBefore = busyBefore ++ (busyNextArrival ∷ [])
 
 abbrev pub handedTries : List Event
-handedTries = replied (reserving 5 84) drainingReply ∷ replied (reserving 6 84) (refusedBy 8) ∷ []
+handedTries = replied (reserving 5 84) (refusedBy 25) ∷ replied (reserving 6 84) (refusedBy 8) ∷ []
 
-abbrev pub handedToThirdTick : List Event
-handedToThirdTick = withdrawalOf5 ∷ (busyToThirdTick busySecond ++ (quietTick ∷ handedTries))
+abbrev pub handedSecond : Event
+handedSecond = sending (reservedSent (markedFrame 5 84 7 3)) (granted 5 7)
+
+abbrev pub handedThird : Event
+handedThird = sending (reservedSent (markedFrame 5 84 7 4)) (granted 5 7)
+
+abbrev pub handedToThird : List Event
+handedToThird = withdrawalOf5 ∷ (busyToThirdTick handedSecond ++ (quietTick ∷ handedTries))
 
 abbrev pub handedToFourthTick : Event → List Event
-handedToFourthTick third = handedToThirdTick ++ (third ∷ [])
+handedToFourthTick third = handedToThird ++ (third ∷ [])
 
 -- right after that tick stream s is granted the whole share; no reserved frame waits, and it fills its places at once
 abbrev pub handedGrant : ℕ → List Event
@@ -77,19 +83,20 @@ abbrev pub handedWith : ℕ → Event → Reply → Event → Reply → List Eve
 handedWith s third fourth last reply =
     handedBefore ++ (busyLastArrival ∷ (handedToFourthTick third ++ (replied ticking fourth ∷ handedFromGrant s last reply)))
 
--- the frame of the stream's last arrival, the transmit that sends it, and the whole as it happens
+-- the last transmit, and the whole as it happens
+abbrev pub handedLast : ℕ → Event
+handedLast s = sending (reservedSent (markedFrame s 84 8 19)) (granted s 8)
+
+abbrev pub handed : ℕ → List Event
+handed s = handedWith s handedThird (granted 0 0) (handedLast s) (granted 0 0)
+
+-- the frame of the stream's last arrival, as demand 3 has it sent
 abbrev pub handedFrame : ℕ → Marked
 handedFrame s = markedFrame s 84 8 19
 
-abbrev pub handedLast : ℕ → Event
-handedLast s = transmitted (reservedSent (handedFrame s)) (granted s 8) (granted s 19)
-
-abbrev pub handed : ℕ → List Event
-handed s = handedWith s busyThird purgesNone (handedLast s) purgesNone
-
 -- the list `permitted200` with a withdrawal of its stream before the arrival: what comes after the grant, and the whole
 abbrev pub withdrawnArrival : Event
-withdrawnArrival = replied (arriving 5 120 7) drainingReply
+withdrawnArrival = replied (arriving 5 120 7) (refusedBy 25)
 
 abbrev pub withdrawnGrant : Event
 withdrawnGrant = replied (reserving 5 200) (granted 400 0)
@@ -112,7 +119,7 @@ remainingOthers s (e ∷ es) =
 -- a conforming stream that is withdrawn before its frame is sent, and then offers more than its P; the frame is sent after the first tick. Open are the
 -- reply to its arrival and the first transmit
 abbrev pub leavingToFirst : List Event
-leavingToFirst = withdrawalOf5 ∷ replied (arriving 5 84 8) drainingReply ∷ quietTick ∷ []
+leavingToFirst = withdrawalOf5 ∷ replied (arriving 5 84 8) (refusedBy 25) ∷ quietTick ∷ []
 
 abbrev pub leavingSecond : List Event
 leavingSecond = sending none (granted nothing 0) ∷ []
@@ -126,15 +133,15 @@ leavingAfter first = leavingToSecondTick first ++ (quietTick ∷ [])
 abbrev pub leavingWith : Reply → Event → List Event
 leavingWith reply first = withdrawnOpening ++ (withdrawnGrant ∷ replied (arriving 5 120 7) reply ∷ leavingAfter first)
 
--- its frame, and the whole as it happens
-abbrev pub leavingFrame : Marked
-leavingFrame = markedFrame 5 120 7 2
-
+-- the whole as it happens, and its frame, as demand 3 has it sent
 abbrev pub leavingFirst : Event
-leavingFirst = transmitted (reservedSent leavingFrame) (granted 5 7) (granted 5 2)
+leavingFirst = sending (reservedSent (markedFrame 5 120 7 2)) (granted 5 7)
 
 abbrev pub leaving : List Event
 leaving = leavingWith (granted 1 80) leavingFirst
+
+abbrev pub leavingFrame : Marked
+leavingFrame = markedFrame 5 120 7 2
 
 -- the same stream alone on a port with another L and K, with the ticks and its own calls as in `leaving`; the link condition fails, and a tick purges.
 -- Open are the replies to its arrivals
@@ -150,11 +157,12 @@ leftAloneWith first second =
     ∷ replied ticking (granted 1 120)
     ∷ []
 
+abbrev pub leftAlone : List Event
+leftAlone = leftAloneWith (granted 1 80) (refusedBy 25)
+
+-- the replies, as demand 3 has them
 abbrev pub leavingAnswers : List Reply
 leavingAnswers = granted 1 80 ∷ drainingReply ∷ []
-
-abbrev pub leftAlone : List Event
-leftAlone = leftAloneWith (granted 1 80) drainingReply
 
 -- a bound stream that is withdrawn, and tried before every tick after that, by a call of another sort each time, a Frame to its pair among them; calls
 -- that are refused for something else come in between. The link condition fails, and a tick purges its frame
@@ -204,7 +212,7 @@ triedToThirdTick first second third =
     ∷ []
 
 abbrev pub triedThirdEpoch : Reply → List Event
-triedThirdEpoch fourth = replied (binding 5 address 101) drainingReply ∷ replied (reserving 5 200) fourth ∷ []
+triedThirdEpoch fourth = replied (binding 5 address 101) (refusedBy 25) ∷ replied (reserving 5 200) fourth ∷ []
 
 abbrev pub triedWhile : Reply → Reply → Reply → Reply → List Event
 triedWhile first second third fourth = triedToThirdTick first second third ++ (quietTick ∷ triedThirdEpoch fourth)
@@ -231,7 +239,7 @@ triedWith first second third fourth fifth sixth seventh last =
     triedBefore ++ (withdrawalOf5 ∷ (triedWhile first second third fourth ++ (quietTick ∷ triedAfter fifth sixth seventh last)))
 
 abbrev pub tried : List Event
-tried = triedWith drainingReply drainingReply drainingReply drainingReply freeReply freeReply (refusedBy 7) (granted 400 0)
+tried = triedWith (refusedBy 25) (refusedBy 25) (refusedBy 25) (refusedBy 25) (refusedBy 12) (refusedBy 12) (refusedBy 7) (granted 400 0)
 
 -- calls between a withdrawal and the last tick of the draining, two of them refused
 abbrev pub betweenCalls : List Call
@@ -263,8 +271,8 @@ hurry =
     ++ (quietTick
     ∷ replied (reserving 6 84) (granted 0 0)
     ∷ replied (arriving 6 84 8) (granted 1 84)
-    ∷ busySecond
+    ∷ handedSecond
     ∷ quietTick
-    ∷ busyThird
+    ∷ handedThird
     ∷ replied ticking (granted 1 84)
     ∷ [])))

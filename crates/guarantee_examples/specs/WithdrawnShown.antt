@@ -1,36 +1,27 @@
 -- What the lists with a withdrawal show: that demand 3 cannot promise more of a withdrawn stream than it does, nor a machine drain for much less; and what
 -- follows of their open parts from the theorem that each comment names, and would be lost with it.
-use Prim.Native.Nat.{ℕ, _+_, _-_, _≤_}
-use mathlib.Core.Bool.{true, false, cond}
+use Prim.Native.Nat.{ℕ, _+_, _-_}
+use mathlib.Core.Bool.{true}
 use mathlib.Core.Path.{_≡_}
 use mathlib.Core.Logic.{_⊎_}
 use mathlib.Core.List.{List, [], _∷_, _++_}
 use lib.ListN.{length}
-use lib.Dec.{eqb}
 use Rattle.lists.specs.Each.{All}
-use Rattle.lists.specs.Turns.{sumTo}
 use Rattle.stream.specs.declared.Reply.{Reply}
 use Rattle.stream.specs.State.{leastQueues}
-use Rattle.stream.specs.Replies.{refusedBy}
-use Rattle.record.specs.Layout.{streamCount}
-use Rattle.record.specs.Head.{openAt, linkAt}
-use Rattle.record.specs.Entry.{streamAt, boundAt, vidAt, addressAt}
-use Rattle.record.specs.Reservations.{permittedOf, permittedSum}
-use Rattle.ranges.specs.Ranges.{chargeFits, shareOf, permittedFits}
-use Rattle.gates.specs.Refusals.{reserveRefusal}
+use Rattle.stream.specs.Replies.{granted, refusedBy}
+use Rattle.ranges.specs.Ranges.{chargeFits, shareOf}
 use Rattle.stream.specs.Alone.{arrival}
-use Rattle.steps.specs.Call.{reserving, withdrawing, arriving, ticking, binding}
-use Rattle.port.specs.Calls.{called}
+use Rattle.steps.specs.Call.{reserving, arriving}
 use Rattle.port_laws.specs.Lists.{freshRecord, freshMemory}
 use Rattle.guarantee.specs.Events.{Sent, reservedSent, Event, events}
 use Rattle.guarantee.specs.Claims.{Tick, tickCount, LinkCondition, PurgesNothing, OffersWithin, Prompt, grants, answers}
 use Rattle.guarantee.specs.Own.{own, ownReplies}
 use Rattle.guarantee.specs.Withdrawal.{WithdrawalOf, DrainsUntil, RefusedAsFree, FreeFrom}
-use Rattle.guarantee.specs.Draining.{leftBy}
 use Rattle.guarantee_examples.specs.Examples.{Happens, permitted200, callsOf}
-use Rattle.guarantee_examples.specs.LeftOpen.{transmitted, crowdedPlace, busyThird, thirdFrame, purgesNone}
+use Rattle.guarantee_examples.specs.LeftOpen.{transmitted, crowdedPlace, thirdFrame, purgesNone}
 use Rattle.guarantee_examples.specs.AddUp.{repliesAlone}
-use Rattle.guarantee_examples.specs.Withdrawn.{drainingReply, freeReply, handedWith, handedFrame, handedLast, handed, withdrawnAfter, withdrawn, remainingOthers, leavingWith, leavingFrame, leaving, leftAloneWith, leavingAnswers, leftAlone, triedWith, tried, betweenCalls, hurriedly, hurry}
+use Rattle.guarantee_examples.specs.Withdrawn.{drainingReply, freeReply, handedThird, handedWith, handedFrame, handedLast, handed, withdrawnAfter, withdrawn, remainingOthers, leavingWith, leavingFrame, leaving, leftAloneWith, leavingAnswers, leftAlone, triedWith, tried, hurriedly, hurry}
 
 -- the lists happen with the open parts as they are written: the share goes to another stream, and to the same number again
 pub record WithdrawnHappen : Type 0 where
@@ -60,7 +51,7 @@ FreeBeyond queues es =
 
 pub record WithdrawnShow : Type 0 where
   pub happen : WithdrawnHappen
-  -- the share is sent in every epoch, before the share is granted again and after it
+  -- the link condition is met, before the share is granted again and after it
   pub handed-6-links : LinkCondition (shareOf 1626) (handed 6)
   pub handed-5-links : LinkCondition (shareOf 1626) (handed 5)
   -- a stream's withdrawals are among its own calls: two lists that differ in a Withdraw alone give its arrival other replies
@@ -71,7 +62,7 @@ pub record WithdrawnShow : Type 0 where
   pub withdrawn-offers : OffersWithin 5 200 withdrawnAfter
   pub withdrawn-not-prompt : PromptBeyond withdrawn → ⊥
   pub withdrawn-not-alone : ownReplies 5 withdrawnAfter ≡ repliesAlone 200 (own 5 withdrawnAfter) → ⊥
-  -- of how long a stream drains neither less nor more can be said, and of how long it is free not more
+  -- a later tick cannot be said to end the draining, nor an earlier one, and the stream is free only until it is reserved again
   pub tried-not-longer : DrainsUntil (leastQueues + 1) tried → ⊥
   pub tried-not-sooner : FreeFrom (leastQueues - 1) tried → ⊥
   pub tried-not-beyond : FreeBeyond leastQueues tried → ⊥
@@ -81,14 +72,14 @@ pub record WithdrawnShow : Type 0 where
 
 -- what follows from the theorems on lists
 pub record WithdrawnSays : Type 0 where
-  -- `all-sent`: the last frame of the withdrawn stream is sent before the tick that frees it, and the last one of the stream that has the share then before
-  -- the fourth tick after it
-  pub handed-third : (s : ℕ) (sent : Sent) (said shown : Reply) → let es = handedWith s (transmitted sent said shown) purgesNone (handedLast s) purgesNone in
+  -- `all-sent`: the last frame of the withdrawn stream is sent before the tick that frees it, and the last one of the stream that has the share after
+  -- that before the fourth tick after it
+  pub handed-third : (s : ℕ) (sent : Sent) (said shown : Reply) → let es = handedWith s (transmitted sent said shown) (granted 0 0) (handedLast s) (granted 0 0) in
       Happens es → LinkCondition (shareOf 1626) es → sent ≡ reservedSent thirdFrame
-  pub handed-last : (s : ℕ) (sent : Sent) (said shown : Reply) → let es = handedWith s busyThird purgesNone (transmitted sent said shown) purgesNone in
+  pub handed-last : (s : ℕ) (sent : Sent) (said shown : Reply) → let es = handedWith s handedThird (granted 0 0) (transmitted sent said shown) (granted 0 0) in
       Happens es → LinkCondition (shareOf 1626) es → sent ≡ reservedSent (handedFrame s)
   -- `no-purge`: neither the tick that frees it nor the fourth one after the grant purges
-  pub handed-zeros : (s : ℕ) (fourth reply : Reply) → Happens (handedWith s busyThird fourth (handedLast s) reply) → (fourth ≡ purgesNone) × (reply ≡ purgesNone)
+  pub handed-zeros : (s : ℕ) (fourth reply : Reply) → Happens (handedWith s handedThird fourth (handedLast s) reply) → (fourth ≡ purgesNone) × (reply ≡ purgesNone)
   -- `prompt`: a frame that a conforming stream offers before its withdrawal joins current, and is sent before the second tick, which comes after it
   pub leaving-joins : (reply : Reply) (sent : Sent) (said shown : Reply) → let es = leavingWith reply (transmitted sent said shown) in
       Happens es → LinkCondition (shareOf 2142) es → (reply .refusal ≡ 0) × (reply .first ≡ crowdedPlace)
@@ -110,31 +101,3 @@ pub record WithdrawnSays : Type 0 where
   -- .. until one is granted, which it is before a frame is accepted
   pub tried-granted : (first second third fourth fifth sixth last : Reply) → Happens (triedWith first second third fourth fifth sixth (refusedBy 7) last)
       → last .refusal ≡ 0
-
--- the sum of the other reserved streams' P
-abbrev pub othersPermitted : ℕ → List ℕ → ℕ
-othersPermitted s p = sumTo (λ r. cond (eqb r s) 0 (permittedOf (streamAt p r))) streamCount
-
--- what follows from `drains-exactly`, of a record and memory on which a withdrawal of stream 5 is granted
-pub record DrainingSays (p m : List ℕ) : Type 0 where
-  -- three ticks after it, with refused calls in between, number, share and binding are taken
-  pub still-reserved : streamAt (leftBy (withdrawing 5 ∷ betweenCalls) p m .port) 5 .reserved ≡ true
-  pub still-permitted : let k = leftBy (withdrawing 5 ∷ betweenCalls) p m .port in permittedSum k ≡ othersPermitted 5 k + permittedOf (streamAt p 5)
-  pub still-bound : boundAt (leftBy (withdrawing 5 ∷ betweenCalls) p m .port) 5 ≡ boundAt p 5
-  pub still-vid : vidAt (leftBy (withdrawing 5 ∷ betweenCalls) p m .port) 5 ≡ vidAt p 5
-  pub still-address : addressAt (leftBy (withdrawing 5 ∷ betweenCalls) p m .port) 5 ≡ addressAt p 5
-  -- and its four calls are refused with 25
-  pub still-no-arrival : (charge tag : ℕ) → let k = leftBy (withdrawing 5 ∷ betweenCalls) p m in called (arriving 5 charge tag) (k .port) (k .memory) .reply ≡ drainingReply
-  pub still-no-reservation : (permitted : ℕ) → let k = leftBy (withdrawing 5 ∷ betweenCalls) p m in
-      called (reserving 5 permitted) (k .port) (k .memory) .reply ≡ drainingReply
-  pub still-no-binding : (address : List ℕ) (vid : ℕ) → let k = leftBy (withdrawing 5 ∷ betweenCalls) p m in
-      called (binding 5 address vid) (k .port) (k .memory) .reply ≡ drainingReply
-  pub still-no-withdrawal : let k = leftBy (withdrawing 5 ∷ betweenCalls) p m in called (withdrawing 5) (k .port) (k .memory) .reply ≡ drainingReply
-  -- after a fourth tick a Reserve asks only that its P is permitted and that the share has it, of which the stream has none, and it is not bound
-  pub then-reserved : (permitted : ℕ) → let k = leftBy (withdrawing 5 ∷ betweenCalls) p m in let q = called ticking (k .port) (k .memory) .port in
-      openAt q ≡ true → permittedFits permitted ≡ true → permittedSum q + permitted ≤ shareOf (linkAt q) → reserveRefusal q 5 permitted ≡ 0
-  pub then-permitted : let k = leftBy (withdrawing 5 ∷ betweenCalls) p m in let q = called ticking (k .port) (k .memory) .port in permittedSum q ≡ othersPermitted 5 q
-  pub then-not-bound : let k = leftBy (withdrawing 5 ∷ betweenCalls) p m in boundAt (called ticking (k .port) (k .memory) .port) 5 ≡ false
-
-abbrev pub AllDrain : Type 0
-AllDrain = (p m : List ℕ) → called (withdrawing 5) p m .reply .refusal ≡ 0 → DrainingSays p m
