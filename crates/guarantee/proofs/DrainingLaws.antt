@@ -36,7 +36,7 @@ use Rattle.port_laws.proofs.BesideCalls.{call-beside}
 use Rattle.port_laws.proofs.DrainTick.{DrainsFor, Freed, beside-drains, tick-drains, tick-frees}
 use Rattle.guarantee.specs.Claims.{isTick}
 use Rattle.guarantee.proofs.NextTick.{ticked-link}
-use Rattle.guarantee.specs.Draining.{leftBy, ticksIn, Taken, RefusedDraining, Free, Draining, DrainsExactly}
+use Rattle.guarantee.specs.Draining.{lentAfter, ticksIn, Taken, RefusedDraining, Free, Draining, DrainsExactly}
 
 -- a call whose action is a tick is Tick
 is-ticking : (c : Call) → isTick (actionOf c) ≡ true → c ≡ ticking
@@ -146,11 +146,11 @@ module _ (s : ℕ) (below : s < streamCount) (p : List ℕ) (was : streamAt p s 
           (next-call ticks k m (omega arith) state c (λ f. true≢false (sym (ap (λ (d : Call). isTick (actionOf d)) f) ∙ e)))
 
   -- any calls, while fewer ticks come than it drains for
-  run : (cs : List Call) (ticks : ℕ) (k m : List ℕ) → ticksIn cs < ticks → State ticks k m → State (ticks - ticksIn cs) (leftBy cs k m .port) (leftBy cs k m .memory)
+  run : (cs : List Call) (ticks : ℕ) (k m : List ℕ) → ticksIn cs < ticks → State ticks k m → State (ticks - ticksIn cs) (lentAfter cs k m .port) (lentAfter cs k m .memory)
   run [] ticks k m h state = subst (λ (n : ℕ). State n k m) (omega arith) state
   run (c ∷ cs) ticks k m h state =
       let o = called c k m in
-      subst (λ (n : ℕ). State n (leftBy cs (o .port) (o .memory) .port) (leftBy cs (o .port) (o .memory) .memory)) (omega arith)
+      subst (λ (n : ℕ). State n (lentAfter cs (o .port) (o .memory) .port) (lentAfter cs (o .port) (o .memory) .memory)) (omega arith)
       (run cs (ticks - ticksIn (c ∷ [])) (o .port) (o .memory) (omega arith) (next c ticks k m (omega arith) state))
 
 module _ (p m : List ℕ) (s : ℕ) (e : called (withdrawing s) p m .reply .refusal ≡ 0) where
@@ -199,10 +199,10 @@ module _ (p m : List ℕ) (s : ℕ) (e : called (withdrawing s) p m .reply .refu
   -- the calls after it
   module _ (cs : List Call) (h : ticksIn cs < queuesAt p) where
     abbrev port : List ℕ
-    port = leftBy (withdrawing s ∷ cs) p m .port
+    port = lentAfter (withdrawing s ∷ cs) p m .port
 
     abbrev memory : List ℕ
-    memory = leftBy (withdrawing s ∷ cs) p m .memory
+    memory = lentAfter (withdrawing s ∷ cs) p m .memory
 
     goes-on : Begun (queuesAt p - ticksIn cs) port memory
     goes-on = run s (allowed .stream) p (allowed .reserved) cs (queuesAt p) _ _ h begins

@@ -15,13 +15,13 @@ use Rattle.port_laws.specs.Counting.{actionOf}
 use Rattle.guarantee.specs.Claims.{isTick}
 
 -- the record and the memory that a list of calls leaves, each call with both as the one before it left them
-pub record Left : Type 0 where
+pub record Lent : Type 0 where
   pub port : List ℕ
   pub memory : List ℕ
 
-abbrev pub leftBy : List Call → List ℕ → List ℕ → Left
-leftBy [] p m = record { port = p; memory = m }
-leftBy (c ∷ cs) p m = let o = called c p m in leftBy cs (o .port) (o .memory)
+abbrev pub lentAfter : List Call → List ℕ → List ℕ → Lent
+lentAfter [] p m = record { port = p; memory = m }
+lentAfter (c ∷ cs) p m = let o = called c p m in lentAfter cs (o .port) (o .memory)
 
 -- how many of the calls are ticks
 abbrev pub ticksIn : List Call → ℕ
@@ -52,11 +52,11 @@ pub record Free (s : ℕ) (k : List ℕ) : Type 0 where
 -- withdrawal of s on record p and memory m
 pub record Draining (s : ℕ) (p m : List ℕ) (cs : List Call) : Type 0 where
   -- before that tick
-  pub taken : ticksIn cs < queuesAt p → Taken s p (leftBy (withdrawing s ∷ cs) p m .port)
-  pub refused : ticksIn cs < queuesAt p → RefusedDraining s (leftBy (withdrawing s ∷ cs) p m .port) (leftBy (withdrawing s ∷ cs) p m .memory)
+  pub taken : ticksIn cs < queuesAt p → Taken s p (lentAfter (withdrawing s ∷ cs) p m .port)
+  pub refused : ticksIn cs < queuesAt p → RefusedDraining s (lentAfter (withdrawing s ∷ cs) p m .port) (lentAfter (withdrawing s ∷ cs) p m .memory)
   -- after it
   pub free : ticksIn cs + 1 ≡ queuesAt p
-      → Free s (called ticking (leftBy (withdrawing s ∷ cs) p m .port) (leftBy (withdrawing s ∷ cs) p m .memory) .port)
+      → Free s (called ticking (lentAfter (withdrawing s ∷ cs) p m .port) (lentAfter (withdrawing s ∷ cs) p m .memory) .port)
 
 -- of every record and memory, every granted withdrawal, and all calls after it
 abbrev pub DrainsExactly : Type 0

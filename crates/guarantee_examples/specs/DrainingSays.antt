@@ -16,7 +16,7 @@ use Rattle.gates.specs.Refusals.{reserveRefusal}
 use Rattle.steps.specs.Call.{reserving, withdrawing, arriving, ticking, binding}
 use Rattle.port.specs.Calls.{called}
 use Rattle.port_laws.specs.Lists.{freshRecord}
-use Rattle.guarantee.specs.Draining.{Left, leftBy}
+use Rattle.guarantee.specs.Draining.{Lent, lentAfter}
 use Rattle.guarantee_examples.specs.Withdrawn.{drainingReply, betweenCalls}
 
 -- the sum of the other reserved streams' P
@@ -28,8 +28,8 @@ abbrev pub NoOthers : Type 0
 NoOthers = othersPermitted 5 (withStream freshRecord 5 (reserveOf 200)) ≡ 0
 
 -- what is left of a record and memory three ticks after a withdrawal, with refused calls in between, and the record that one tick more leaves
-abbrev pub stillDraining : List ℕ → List ℕ → Left
-stillDraining p m = leftBy (withdrawing 5 ∷ betweenCalls) p m
+abbrev pub stillDraining : List ℕ → List ℕ → Lent
+stillDraining p m = lentAfter (withdrawing 5 ∷ betweenCalls) p m
 
 abbrev pub drained : List ℕ → List ℕ → List ℕ
 drained p m = called ticking (stillDraining p m .port) (stillDraining p m .memory) .port
