@@ -1,12 +1,10 @@
 -- What is said of the record while a withdrawn stream drains, and after that, follows from `drains-exactly`. Assumes nothing.
 use Prim.Native.Nat.{ℕ, _+_, _≤_, _<_}
-use mathlib.Core.Bool.{true, cond}
+use mathlib.Core.Bool.{true}
 use mathlib.Core.Path.{_≡_, refl}
 use mathlib.Core.List.{List}
 use native.Mathlib.Omega.{arith}
 use borrow.Author.Tests.{eq-eqb, ne-eqb, le-ltb}
-use lib.Dec.{eqb}
-use Rattle.lists.specs.Turns.{sumTo}
 use Rattle.octets.specs.Numbers.{twoOf}
 use Rattle.stream.specs.State.{reserveOf}
 use Rattle.lists.proofs.TurnLaws.{sumTo-change}
@@ -23,21 +21,21 @@ use Rattle.port_laws.specs.Lists.{freshRecord}
 use Rattle.guarantee.specs.Draining.{Taken, RefusedDraining, Free}
 use Rattle.guarantee.proofs.DrainingLaws.{drains-exactly}
 use Rattle.guarantee_examples.specs.Withdrawn.{betweenCalls}
-use Rattle.guarantee_examples.specs.DrainingSays.{othersPermitted, NoOthers, stillDraining, drained, DrainingSays, AllDrain}
+use Rattle.guarantee_examples.specs.DrainingSays.{othersPart, othersPermitted, NoOwnPart, stillDraining, drained, DrainingSays, AllDrain}
 
-others-none : othersPermitted 5 (withStream freshRecord 5 (reserveOf 200)) ≡ 0
-unfolding sumTo twoOf streamAt withStream
-others-none = refl
+own-part : othersPart 5 (withStream freshRecord 5 (reserveOf 200)) 5 ≡ 0
+unfolding streamAt withStream twoOf
+own-part = refl
 
-pub no-others : NoOthers
-no-others = others-none
+pub no-own-part : NoOwnPart
+no-own-part = own-part
 
 -- R is a stream's part of it and that of the others
 with-others : (s : ℕ) (l : List ℕ) → s < streamCount → permittedSum l ≡ othersPermitted s l + permittedOf (streamAt l s)
 with-others s l below =
     let one : ℕ → ℕ = λ r. permittedOf (streamAt l r) in
-    let none : cond (eqb s s) 0 (one s) ≡ 0 = rw (eq-eqb s s refl) in
-    omega (arith, none, sumTo-change one (λ r. cond (eqb r s) 0 (one r)) streamCount s below (λ r other. rw (ne-eqb r s other)))
+    let none : othersPart s l s ≡ 0 = rw (eq-eqb s s refl) in
+    omega (arith, none, sumTo-change one (othersPart s l) streamCount s below (λ r other. rw (ne-eqb r s other)))
 
 module _ (p m : List ℕ) (is : called (withdrawing 5) p m .reply .refusal ≡ 0) where
   abbrev port : List ℕ

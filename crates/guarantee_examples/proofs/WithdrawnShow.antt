@@ -20,12 +20,16 @@ use Rattle.guarantee.specs.Instances.{replied, quietTick, withdrawalOf5}
 use Rattle.guarantee_examples.specs.Examples.{permitted200}
 use Rattle.guarantee_examples.specs.LeftOpen.{busyLastArrival, busyToSecondTick}
 use Rattle.guarantee_examples.specs.AddUp.{repliesAlone}
-use Rattle.guarantee_examples.specs.Withdrawn.{handedBefore, handedSecond, handedThird, handed, withdrawnOpening, withdrawnGrant, withdrawnArrival, withdrawnAfter, withdrawn, triedBefore, triedToThirdTick, triedThirdEpoch, triedWhile, triedFree, triedReserved, triedArrival, triedAfter, tried, hurry}
+use Rattle.guarantee_examples.specs.Withdrawn.{handedBefore, handedSecond, handedThird, handed, withdrawnOpening, withdrawnGrant, withdrawnArrival, withdrawnAfter, withdrawn, remainingOthers, triedBefore, triedToThirdTick, triedThirdEpoch, triedWhile, triedFree, triedReserved, triedArrival, triedAfter, tried, hurry}
 use Rattle.guarantee_examples.specs.WithdrawnShown.{PromptBeyond, FreeBeyond, WithdrawnShow}
 use Rattle.guarantee_examples.proofs.LinkTest.{link-holds}
 use Rattle.guarantee_examples.proofs.OffersTest.{within-holds}
 use Rattle.guarantee_examples.proofs.ExamplesShow.{firstRefusal}
 use Rattle.guarantee_examples.proofs.WithdrawnHappen.{withdrawn-happen}
+
+-- but for the withdrawal the stream's calls are the same
+same-calls : remainingOthers 5 permitted200 ≡ remainingOthers 5 withdrawn
+same-calls = refl
 
 -- the arrival is accepted without the withdrawal, and refused as draining after it
 answers-differ : answers 5 permitted200 ≡ answers 5 withdrawn → ⊥
@@ -88,7 +92,7 @@ withdrawn-show =
       happen = withdrawn-happen;
       handed-6-links = link-holds (shareOf 1626) (handed 6) refl;
       handed-5-links = link-holds (shareOf 1626) (handed 5) refl;
-      withdrawn-same-calls = refl;
+      withdrawn-same-calls = same-calls;
       withdrawn-same-grants = refl;
       withdrawn-other-answers = answers-differ;
       withdrawn-offers = within-holds 5 200 withdrawnAfter refl;

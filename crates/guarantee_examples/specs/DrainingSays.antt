@@ -19,13 +19,16 @@ use Rattle.port_laws.specs.Lists.{freshRecord}
 use Rattle.guarantee.specs.Draining.{Lent, lentAfter}
 use Rattle.guarantee_examples.specs.Withdrawn.{drainingReply, betweenCalls}
 
--- the sum of the other reserved streams' P
-abbrev pub othersPermitted : ℕ → List ℕ → ℕ
-othersPermitted s p = sumTo (λ r. cond (eqb r s) 0 (permittedOf (streamAt p r))) streamCount
+-- the sum of the other reserved streams' P, and what stream r adds to it
+abbrev pub othersPart : ℕ → List ℕ → ℕ → ℕ
+othersPart s p r = cond (eqb r s) 0 (permittedOf (streamAt p r))
 
--- a record on which stream 5 alone is reserved: there is no other P
-abbrev pub NoOthers : Type 0
-NoOthers = othersPermitted 5 (withStream freshRecord 5 (reserveOf 200)) ≡ 0
+abbrev pub othersPermitted : ℕ → List ℕ → ℕ
+othersPermitted s p = sumTo (othersPart s p) streamCount
+
+-- the stream's own P is no part of it
+abbrev pub NoOwnPart : Type 0
+NoOwnPart = othersPart 5 (withStream freshRecord 5 (reserveOf 200)) 5 ≡ 0
 
 -- what is left of a record and memory three ticks after a withdrawal, with refused calls in between, and the record that one tick more leaves
 abbrev pub stillDraining : List ℕ → List ℕ → Lent
