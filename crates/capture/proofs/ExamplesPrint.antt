@@ -13,7 +13,7 @@ use Rattle.record.specs.Head.{openAt, withOpen, priorAt, withPrior, delayAt, wi
 use Rattle.record.specs.Entry.{streamAt, withStream, drainAt, drainsAt, boundAt, vidAt, dropped}
 use Rattle.fitness.specs.Fit.{recordFits, lentRefusal}
 use Rattle.opening.specs.Opening.{openedRecord}
-use Rattle.gates.specs.Refusals.{openRefusal, reserveRefusal, withdrawRefusal}
+use Rattle.gates.specs.Refusals.{openRefusal, reserveRefusal, withdrawRefusal, closedRefusal}
 use Rattle.gates.specs.Table.{refusalOf}
 use Rattle.capture_file.specs.File.{letters, lettersOf, firstOf, kindOf, streamOctetOf, nextOf, numberA, numberB, endOf, chainWithin}
 use Rattle.capture_file.specs.Checks.{headerGood, firstGood, nextGood, recordGood, recordRefusal, chainRefusal, portRefusal, portsRefusal, fileRefusal}
@@ -51,5 +51,5 @@ refused-first = refl
 
 -- kind 7 is a withdrawal of its stream octet: an open port refuses one above 63
 pub kind-7-withdraws : refusalOf (callOf 7 64 0 0) (1 ∷ []) ≡ 5
-unfolding openAt withdrawRefusal
+unfolding openAt withdrawRefusal closedRefusal
 kind-7-withdraws = refl

@@ -101,7 +101,7 @@ short-frame-itself = refl
 arrive-itself : octetsOf (actionOf (countsAs bound1 (arriving 5 120 7))) ≡ 120
 arrive-itself = refl
 
-withdraw-itself : streamOf (actionOf (countsAs bound1 (withdrawing 5))) ≡ 5
+withdraw-itself : sortOf (actionOf (countsAs bound1 (withdrawing 5))) ≡ 7
 withdraw-itself = refl
 
 best-effort-itself : sortOf (actionOf (countsAs bound1 (joiningBestEffort 300 7))) ≡ 5
