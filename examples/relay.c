@@ -1,14 +1,19 @@
 /*
  * A host that relays two frames over an epoch's end: it opens a port, reserves a stream and binds it to an address and a VID, takes two frames of
  * which the second has to wait for the next epoch, and sends them. Of the first it knows the stream and the charge; the second it gives with its
- * octets, and the port finds both. The set-up goes through the calls that test the whole record. After the granted Open nothing but these calls
- * writes the record and the memory, so the traffic goes through the calls that scan nothing, whose replies are then the same.
+ * octets, and the port finds both. Then the machine that sends the stream is taken off the line, and another one gets its share: the host withdraws
+ * the stream, sends the frame that still waits, and asks for the other stream after each tick until it is granted. The set-up goes through the calls
+ * that test the whole record. After the granted Open nothing but these calls writes the record and the memory, so the traffic goes through the calls
+ * that scan nothing, whose replies are then the same.
  */
 #include <stdio.h>
 #include <stdlib.h>
 #include <string.h>
 
 #include "bunnysolder.h"
+
+/* The epochs for which stream 6 waits for its octets at most. */
+#define MOST_EPOCHS 8
 
 static uint8_t port[BUNNYSOLDER_RECORD_LENGTH];
 static uint8_t memory[BUNNYSOLDER_MEMORY_LENGTH];
@@ -27,19 +32,42 @@ static void granted(const char *call, uint8_t refusal)
 static const uint8_t address[BUNNYSOLDER_ADDRESS_LENGTH] = { 0x01, 0x00, 0x5E, 0x00, 0x00, 0x05 };
 static const uint8_t vlan_tag[] = { 0x81, 0x00, 0xE0, 0x64 };
 
-/* Where a frame of stream 5 has joined. */
-static void joined(const char *call, uint32_t tag)
+/* A stream asks for octets per epoch. Whether they are granted. */
+static int reserve(uint8_t stream, uint32_t permitted)
+{
+    uint8_t refusal = bunnysolder_reserve(port, sizeof port, memory, sizeof memory, stream, permitted, &first, &second);
+
+    if (refusal == BUNNYSOLDER_GRANTED)
+        printf("reserve: stream %u has %u octets per epoch, %u are still free\n", stream, permitted, first);
+    else
+        printf("reserve: stream %u is refused with %u\n", stream, refusal);
+    return refusal == BUNNYSOLDER_GRANTED;
+}
+
+/* A stream gets the address and VID 100. */
+static void bind(uint8_t stream)
+{
+    granted("bind", bunnysolder_bind(port, sizeof port, memory, sizeof memory, stream, address, 100, &first, &second));
+    printf("bind: stream %u has an address and VID 100\n", stream);
+}
+
+/* What became of a frame of stream 5: where it has joined, or that the stream drains. */
+static void came(const char *call, uint32_t tag, uint8_t refusal)
 {
     static const char *const places[] = { "", "current", "next", "last" };
 
+    if (refusal == BUNNYSOLDER_DRAINING) {
+        printf("%s: frame %u is refused with %u, its stream drains\n", call, tag, refusal);
+        return;
+    }
+    granted(call, refusal);
     printf("%s: frame %u joins %s, and its stream has %u octets left at its place\n", call, tag, places[first], second);
 }
 
 /* A frame of stream 5 arrives. */
 static void arrive(uint32_t charge, uint32_t tag)
 {
-    granted("arrive", bunnysolder_arrive_unscanned(port, sizeof port, memory, sizeof memory, 5, charge, tag, &first, &second));
-    joined("arrive", tag);
+    came("arrive", tag, bunnysolder_arrive_unscanned(port, sizeof port, memory, sizeof memory, 5, charge, tag, &first, &second));
 }
 
 /* A frame of a length comes from the wire: by its header it is one of stream 5. */
@@ -49,8 +77,7 @@ static void frame(size_t length, uint32_t tag)
 
     memcpy(octets, address, sizeof address);
     memcpy(octets + 12, vlan_tag, sizeof vlan_tag);
-    granted("frame", bunnysolder_frame_unscanned(port, sizeof port, memory, sizeof memory, octets, length, tag, &first, &second));
-    joined("frame", tag);
+    came("frame", tag, bunnysolder_frame_unscanned(port, sizeof port, memory, sizeof memory, octets, length, tag, &first, &second));
 }
 
 /* The link can send. */
@@ -70,19 +97,43 @@ static void tick(void)
     printf("tick: %u frames purged\n", first);
 }
 
-int main(void)
+/* Two frames of stream 5 over an epoch's end. */
+static void relay(void)
 {
-    granted("open", bunnysolder_open(port, sizeof port, memory, sizeof memory, 2142, 1, &first, &second));
-    printf("open: the share is %u octets\n", first);
-    granted("reserve", bunnysolder_reserve(port, sizeof port, memory, sizeof memory, 5, 200, &first, &second));
-    printf("reserve: stream 5 has 200 octets per epoch, %u are still free\n", first);
-    granted("bind", bunnysolder_bind(port, sizeof port, memory, sizeof memory, 5, address, 100, &first, &second));
-    printf("bind: stream 5 has an address and VID 100\n");
     arrive(120, 7);
     frame(76, 8);
     transmit();
     transmit();
     tick();
     transmit();
+}
+
+/* Stream 5 is taken off the line while its frame 9 waits for the next epoch. Stream 6 gets more than was free beside it, and its address; the rest is
+ * for a new stream 5. */
+static void take_off_the_line(void)
+{
+    int epochs;
+
+    arrive(120, 9);
+    granted("withdraw", bunnysolder_withdraw(port, sizeof port, memory, sizeof memory, 5, &first, &second));
+    printf("withdraw: stream 5 takes no more frames\n");
+    arrive(84, 10);
+    frame(60, 11);
+    tick();
+    transmit();
+    for (epochs = 0; epochs < MOST_EPOCHS && !reserve(6, 500); epochs++)
+        tick();
+    bind(6);
+    reserve(5, 100);
+}
+
+int main(void)
+{
+    granted("open", bunnysolder_open(port, sizeof port, memory, sizeof memory, 2142, 1, &first, &second));
+    printf("open: the share is %u octets\n", first);
+    reserve(5, 200);
+    bind(5);
+    relay();
+    take_off_the_line();
     return EXIT_SUCCESS;
 }

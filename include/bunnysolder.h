@@ -1,6 +1,7 @@
 /*
  * The calls of a paternoster port, for a host that lends it a record and a memory for frames. The rule of the port and the numbers of its
- * refusals are those of the project's document 01; each function is proved to meet the definition that was drawn from it.
+ * refusals are those of the project's document 01 and of the requests of document 02 up to BUNNYSOLDER_EDITION; each function is proved to meet the
+ * definition that was drawn from them.
  *
  * What is lent. `port` is the port record: BUNNYSOLDER_RECORD_LENGTH octets or more. `memory` holds the waiting frames:
  * BUNNYSOLDER_MEMORY_LENGTH octets or more. Octets past these lengths are neither read nor written. Both may hold anything: a call tests what
@@ -22,7 +23,7 @@
  * and a granted Open of either sort leaves a fit record. So a host that opens its port by a granted Open, lets nothing but these calls write record
  * and memory from then on, and always lends the two together, gets the same from both sorts. On a record that is not fit an unscanned call
  * still ends, and reads and writes nothing but record, memory, the two numbers and what it is given to read, but its reply and what it leaves need
- * not be document 01's.
+ * not be the rule's.
  */
 #ifndef BUNNYSOLDER_H
 #define BUNNYSOLDER_H
@@ -34,6 +35,9 @@
 extern "C" {
 #endif
 
+/* The edition of the rule: the number of the last request of document 02 that the rule has; 0 is document 01 alone. */
+#define BUNNYSOLDER_EDITION 1
+
 /* The octets of a port record, and of the memory for 1,280 frames. */
 #define BUNNYSOLDER_RECORD_LENGTH 1088
 #define BUNNYSOLDER_MEMORY_LENGTH 10240
@@ -41,7 +45,7 @@ extern "C" {
 /* The octets of a destination address. */
 #define BUNNYSOLDER_ADDRESS_LENGTH 6
 
-/* The refusals, with document 01's numbers. */
+/* The refusals of the calls, with the rule's numbers; 21 to 24 are those of captures, which no call replies. */
 enum bunnysolder_refusal {
     BUNNYSOLDER_GRANTED = 0,
     BUNNYSOLDER_CLOSED = 1,              /* the port is closed */
@@ -63,7 +67,8 @@ enum bunnysolder_refusal {
     BUNNYSOLDER_FRAME_LENGTH = 17,       /* the frame is outside 60 to 1,518 octets */
     BUNNYSOLDER_SHORT_MEMORY = 18,       /* the memory is shorter than BUNNYSOLDER_MEMORY_LENGTH */
     BUNNYSOLDER_UNFIT_RECORD = 19,       /* the record is unfit, or shorter than BUNNYSOLDER_RECORD_LENGTH */
-    BUNNYSOLDER_QUEUE_FULL = 20          /* the chosen queue holds 256 frames; never met from a granted Open on, while nobody else writes */
+    BUNNYSOLDER_QUEUE_FULL = 20,         /* the chosen queue holds 256 frames; never met from a granted Open on, while nobody else writes */
+    BUNNYSOLDER_DRAINING = 25            /* the stream was withdrawn, and drains */
 };
 
 /* The first reply number of Arrive, also where a Frame becomes one: the queue that the frame has joined. */
@@ -73,8 +78,8 @@ enum bunnysolder_place { BUNNYSOLDER_CURRENT = 1, BUNNYSOLDER_NEXT = 2, BUNNYSOL
 enum bunnysolder_sent { BUNNYSOLDER_NOTHING = 254, BUNNYSOLDER_BEST_EFFORT = 255 };
 
 /*
- * Open(L, K): empties the queues, drops all reservations and bindings. `link` is L, the link octets in an epoch; `delay` is K, the best-effort
- * delay bound in epochs. Replies the share, L - 1,542, and 0. Refusals: 18 19 2 3 4.
+ * Open(L, K): empties the queues, drops all reservations and bindings, and ends all draining. `link` is L, the link octets in an epoch; `delay` is
+ * K, the best-effort delay bound in epochs. Replies the share, L - 1,542, and 0. Refusals: 18 19 2 3 4.
  */
 uint8_t bunnysolder_open(uint8_t *port, size_t port_length, const uint8_t *memory, size_t memory_length,
                          uint32_t link, uint32_t delay, uint32_t *first, uint32_t *second);
@@ -83,7 +88,7 @@ uint8_t bunnysolder_open_unscanned(uint8_t *port, size_t port_length, const uint
 
 /*
  * Reserve(s, P): `permitted` is P, the stream's permitted octets per epoch. Replies the share still free, with the new P taken from it, and 0.
- * Refusals: 18 19 1 5 6 7 8.
+ * Refusals: 18 19 1 5 25 6 7 8.
  */
 uint8_t bunnysolder_reserve(uint8_t *port, size_t port_length, const uint8_t *memory, size_t memory_length,
                             uint8_t stream, uint32_t permitted, uint32_t *first, uint32_t *second);
@@ -93,7 +98,7 @@ uint8_t bunnysolder_reserve_unscanned(uint8_t *port, size_t port_length, const u
 /*
  * Arrive(s, a, tag): a frame arrives on the stream. `charge` is a, the octets that it costs on the wire: its length without check sequence plus
  * 24. `tag` is the host's own number for it. Replies the queue that the frame has joined (enum bunnysolder_place) and the octets left to
- * the stream at its place afterwards. Refusals: 18 19 1 5 12 13, then 14 or 20. Of all calls this one, Best effort and Frame alone write the memory.
+ * the stream at its place afterwards. Refusals: 18 19 1 5 25 12 13, then 14 or 20. Of all calls this one, Best effort and Frame alone write the memory.
  */
 uint8_t bunnysolder_arrive(uint8_t *port, size_t port_length, uint8_t *memory, size_t memory_length,
                            uint8_t stream, uint32_t charge, uint32_t tag, uint32_t *first, uint32_t *second);
@@ -101,7 +106,7 @@ uint8_t bunnysolder_arrive_unscanned(uint8_t *port, size_t port_length, uint8_t 
                                      uint8_t stream, uint32_t charge, uint32_t tag, uint32_t *first, uint32_t *second);
 
 /*
- * Tick: an epoch ends. Replies how many frames were purged, and their octets. Refusals: 18 19 1.
+ * Tick: an epoch ends. Replies how many frames were purged, and their octets. Frees each stream whose draining ends with it. Refusals: 18 19 1.
  */
 uint8_t bunnysolder_tick(uint8_t *port, size_t port_length, const uint8_t *memory, size_t memory_length,
                          uint32_t *first, uint32_t *second);
@@ -120,7 +125,7 @@ uint8_t bunnysolder_transmit_unscanned(uint8_t *port, size_t port_length, const 
 /*
  * Best effort(a, tag): a frame of no stream arrives. `charge` is a and `tag` the host's own number for it, as in Arrive. It waits until neither
  * prior nor current has a frame. Replies W, the sum of the charges that wait in best effort, with this one in it, and 0. R is the sum of the
- * reserved streams' P; a later Reserve may leave W above K x (L - R), and that is no fault. Refusals: 18 19 1 13 15 16.
+ * reserved streams' P, those that drain among them; a later Reserve may leave W above K x (L - R), and that is no fault. Refusals: 18 19 1 13 15 16.
  */
 uint8_t bunnysolder_best_effort(uint8_t *port, size_t port_length, uint8_t *memory, size_t memory_length,
                                 uint32_t charge, uint32_t tag, uint32_t *first, uint32_t *second);
@@ -129,7 +134,8 @@ uint8_t bunnysolder_best_effort_unscanned(uint8_t *port, size_t port_length, uin
 
 /*
  * Bind(s, address, VID): gives a reserved stream a destination address and a VLAN id, so that a Frame that has both arrives on it. No two streams
- * are bound to one pair; a binding stands until the next granted Open. Replies two zeros. Refusals: 18 19 1 5 12 9 10 11.
+ * are bound to one pair; a binding stands until the tick that frees its stream, or the next granted Open. Replies two zeros.
+ * Refusals: 18 19 1 5 25 12 9 10 11.
  */
 uint8_t bunnysolder_bind(uint8_t *port, size_t port_length, const uint8_t *memory, size_t memory_length,
                          uint8_t stream, const uint8_t address[BUNNYSOLDER_ADDRESS_LENGTH], uint32_t vid, uint32_t *first, uint32_t *second);
@@ -142,12 +148,24 @@ uint8_t bunnysolder_bind_unscanned(uint8_t *port, size_t port_length, const uint
  * Octets 0 to 5 are the destination; where octets 12 and 13 are 81 00 (hexadecimal), the VID is the low 12 bits of octets 14 and 15, high octet
  * first. A frame whose destination and VID are bound is an Arrive on their stream, every other a Best effort, each with its length plus 24 as its
  * charge, and replies as that call. A length of 0 is refused (17) as any other outside 60 to 1,518; `octets` is not null even then. Nothing is
- * kept of the octets. Refusals: 18 19 1 17, then 14 or 20, or 15 16.
+ * kept of the octets. Refusals: 18 19 1 17, then of an Arrive 25, then 14 or 20, of a Best effort 15 16.
  */
 uint8_t bunnysolder_frame(uint8_t *port, size_t port_length, uint8_t *memory, size_t memory_length,
                           const uint8_t *octets, size_t octets_length, uint32_t tag, uint32_t *first, uint32_t *second);
 uint8_t bunnysolder_frame_unscanned(uint8_t *port, size_t port_length, uint8_t *memory, size_t memory_length,
                                     const uint8_t *octets, size_t octets_length, uint32_t tag, uint32_t *first, uint32_t *second);
+
+/*
+ * Withdraw(s): takes a reserved stream off the line. Its frames that wait stay in their queues and are sent as before; it takes no more. It drains for
+ * as many ticks as the port has queues for reserved traffic, which are four. Meanwhile each Reserve, Arrive, Bind and Withdraw of it is refused with
+ * 25, and so is a Frame that becomes an Arrive on it; its P still counts in R and has its part of the share, and its binding stands against others
+ * (11). The last of these ticks frees it: its number may be reserved again, its part of the share is free, and its binding is gone. Replies two zeros.
+ * Refusals: 18 19 1 5 25 12.
+ */
+uint8_t bunnysolder_withdraw(uint8_t *port, size_t port_length, const uint8_t *memory, size_t memory_length,
+                             uint8_t stream, uint32_t *first, uint32_t *second);
+uint8_t bunnysolder_withdraw_unscanned(uint8_t *port, size_t port_length, const uint8_t *memory, size_t memory_length,
+                                       uint8_t stream, uint32_t *first, uint32_t *second);
 
 #ifdef __cplusplus
 }

@@ -47,6 +47,7 @@ declare! {
     bunnysolder_best_effort_unscanned: &mut Memory, (charge: u32, tag: u32);
     bunnysolder_bind_unscanned: &Memory, (stream: u8, address: &Address, vid: u32);
     bunnysolder_frame_unscanned: &mut Memory, (octets: *const u8, octets_length: usize, tag: u32);
+    bunnysolder_withdraw_unscanned: &Memory, (stream: u8);
 }
 
 /// Lends a call its two numbers, and reads what it returned and left there.
@@ -118,14 +119,20 @@ pub fn frame(port: &mut Record, memory: &mut Memory, octets: &[u8], tag: u32) ->
     })
 }
 
+/// The quick Withdraw(s).
+pub fn withdraw(port: &mut Record, memory: &Memory, stream: u8) -> Replied {
+    // SAFETY: the two lengths are those of the record's and the memory's types.
+    replied(|first, second| unsafe { bunnysolder_withdraw_unscanned(port, RECORD_OCTETS, memory, MEMORY_OCTETS, stream, first, second) })
+}
+
 #[cfg(test)]
 mod tests {
     use super::*;
 
-    /// A refusal outside 1 to 20 is handed on as none of them.
+    /// A number that is no refusal of a call's is handed on as none of them.
     #[test]
-    #[should_panic(expected = "the refusal 21 is none of document 01's")]
-    fn a_refusal_outside_the_document_stops() {
+    #[should_panic(expected = "the refusal 21 is none of the rule's")]
+    fn a_refusal_outside_the_rule_stops() {
         let _ = replied(|_, _| 21);
     }
 
@@ -140,5 +147,6 @@ mod tests {
         };
         assert_eq!(replied(leaving(0)), Ok((1, 80)));
         assert_eq!(replied(leaving(14)), Err(Refusal::Discard));
+        assert_eq!(replied(leaving(25)), Err(Refusal::Draining));
     }
 }

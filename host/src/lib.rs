@@ -1,10 +1,10 @@
 //! The proved port for a host in Rust.
 //!
 //! A [`Port`] runs the paternoster algorithm of document 01: four epoch queues for reserved streams and one for best effort. It owns its record and
-//! the memory for its frames, and its methods are calls of the library that is proved to hold to document 01. The host calls
-//! [`tick`](Port::tick) where an epoch ends, [`transmit`](Port::transmit) when the link can send a frame, and [`arrive`](Port::arrive),
-//! [`best_effort`](Port::best_effort) or [`frame`](Port::frame) when a frame comes; it keeps the frames themselves, under their tags. What a port
-//! guarantees in return, docs/GUARANTEE.md says.
+//! the memory for its frames, and its methods are calls of the library that is proved to hold to the rule, docs/RULE.md, of the edition
+//! [`EDITION`]. The host calls [`tick`](Port::tick) where an epoch ends, [`transmit`](Port::transmit) when the link can send a frame, and
+//! [`arrive`](Port::arrive), [`best_effort`](Port::best_effort) or [`frame`](Port::frame) when a frame comes; it keeps the frames themselves, under
+//! their tags. It takes a stream off the line by [`withdraw`](Port::withdraw). What a port guarantees in return, docs/GUARANTEE.md says.
 //!
 //! The library is built, with its proofs, by `bash examples/run` in the repository.
 //!
@@ -54,6 +54,9 @@
 //! ```
 
 #![deny(unsafe_code, unsafe_op_in_unsafe_fn, missing_docs)]
+
+/// The edition of the rule: the number of the last request of document 02 that the rule has; 0 is document 01 alone.
+pub const EDITION: u32 = 1;
 
 #[allow(unsafe_code)]
 mod exports;

@@ -39,7 +39,7 @@ mod comparing;
 ///
 /// # Panics
 ///
-/// A reply that is none of document 01's cannot come, since the contracts say what comes. Should one come all the same, then the library that is
+/// A reply that is none of the rule's cannot come, since the contracts say what comes. Should one come all the same, then the library that is
 /// linked is not the proved one, or something else has written the program's memory: the method panics with that reply in its message, and hands on
 /// no value.
 ///
@@ -86,8 +86,9 @@ impl Port {
 
     /// Reserve(s, P): the stream has `permitted` octets, P, in each epoch, and is at current with all of them left. Replies the share still free.
     ///
-    /// Refusals, in this order: [`StreamRange`](Refusal::StreamRange) (5), [`ReservedAlready`](Refusal::ReservedAlready) (6),
-    /// [`PermittedRange`](Refusal::PermittedRange) (7), [`ShareExceeded`](Refusal::ShareExceeded) (8).
+    /// Refusals, in this order: [`StreamRange`](Refusal::StreamRange) (5), [`Draining`](Refusal::Draining) (25),
+    /// [`ReservedAlready`](Refusal::ReservedAlready) (6), [`PermittedRange`](Refusal::PermittedRange) (7),
+    /// [`ShareExceeded`](Refusal::ShareExceeded) (8).
     pub fn reserve(&mut self, stream: u8, permitted: u32) -> Result<Reserved, Refusal> {
         exports::reserve(&mut self.record, &self.memory, stream, permitted).map(Reserved::of)
     }
@@ -95,15 +96,17 @@ impl Port {
     /// Arrive(s, a, tag): a frame arrives on a reserved stream. `charge` is a, the octets that it costs on the wire: its length without check
     /// sequence plus 24. `tag` is the host's own number for it. Replies the queue that it has joined, and what is left.
     ///
-    /// Refusals, in this order: [`StreamRange`](Refusal::StreamRange) (5), [`NotReserved`](Refusal::NotReserved) (12),
-    /// [`ChargeRange`](Refusal::ChargeRange) (13), [`Discard`](Refusal::Discard) (14), which leaves the stream at last with nothing left.
+    /// Refusals, in this order: [`StreamRange`](Refusal::StreamRange) (5), [`Draining`](Refusal::Draining) (25),
+    /// [`NotReserved`](Refusal::NotReserved) (12), [`ChargeRange`](Refusal::ChargeRange) (13), [`Discard`](Refusal::Discard) (14), which leaves the
+    /// stream at last with nothing left.
     pub fn arrive(&mut self, stream: u8, charge: u32, tag: u32) -> Result<Joined, Refusal> {
         exports::arrive(&mut self.record, &mut self.memory, stream, charge, tag).map(Joined::of)
     }
 
-    /// Tick: an epoch of this port ends. Replies what was purged: the frames that still waited in prior.
+    /// Tick: an epoch of this port ends. Replies what was purged: the frames that still waited in prior. It frees each stream whose draining ends
+    /// with it ([`withdraw`](Port::withdraw)).
     ///
-    /// Refusals: none. Document 01 has 18, 19 and 1 here, in this order, and a port of this type never meets them.
+    /// Refusals: none. The rule has 18, 19 and 1 here, in this order, and a port of this type never meets them.
     pub fn tick(&mut self) -> Result<Purged, Refusal> {
         exports::tick(&mut self.record, &self.memory).map(Purged::of)
     }
@@ -111,7 +114,7 @@ impl Port {
     /// Transmit: the link can send a frame. Replies which one it is to send, and the port has it no longer: the oldest of prior; if none, of current;
     /// if none, of best effort.
     ///
-    /// Refusals: none. Document 01 has 18, 19 and 1 here, in this order, and a port of this type never meets them.
+    /// Refusals: none. The rule has 18, 19 and 1 here, in this order, and a port of this type never meets them.
     pub fn transmit(&mut self) -> Result<Sent, Refusal> {
         exports::transmit(&mut self.record, &self.memory).map(Sent::of)
     }
@@ -126,10 +129,11 @@ impl Port {
     }
 
     /// Bind(s, address, VID): from now on a [`frame`](Port::frame) with this destination and this VLAN id arrives on this reserved stream. A stream
-    /// has one binding, and keeps it.
+    /// has one binding, and keeps it until it is free again ([`withdraw`](Port::withdraw)).
     ///
-    /// Refusals, in this order: [`StreamRange`](Refusal::StreamRange) (5), [`NotReserved`](Refusal::NotReserved) (12),
-    /// [`VidRange`](Refusal::VidRange) (9), [`BoundAlready`](Refusal::BoundAlready) (10), [`PairBoundAlready`](Refusal::PairBoundAlready) (11).
+    /// Refusals, in this order: [`StreamRange`](Refusal::StreamRange) (5), [`Draining`](Refusal::Draining) (25),
+    /// [`NotReserved`](Refusal::NotReserved) (12), [`VidRange`](Refusal::VidRange) (9), [`BoundAlready`](Refusal::BoundAlready) (10),
+    /// [`PairBoundAlready`](Refusal::PairBoundAlready) (11).
     ///
     /// ```
     /// use bunnysolder::{Port, Refusal};
@@ -153,8 +157,9 @@ impl Port {
     /// a stream it is an Arrive on that stream, otherwise a Best effort, with its length plus 24 as its charge. Replies as that call. Nothing is
     /// kept of the octets: the host keeps the frame, under its tag.
     ///
-    /// Refusals, in this order: [`FrameLength`](Refusal::FrameLength) (17); then of an arrival [`Discard`](Refusal::Discard) (14), of a best-effort
-    /// frame [`BestEffortFull`](Refusal::BestEffortFull) (15), [`LimitExceeded`](Refusal::LimitExceeded) (16).
+    /// Refusals, in this order: [`FrameLength`](Refusal::FrameLength) (17); then of an arrival [`Draining`](Refusal::Draining) (25),
+    /// [`Discard`](Refusal::Discard) (14), of a best-effort frame [`BestEffortFull`](Refusal::BestEffortFull) (15),
+    /// [`LimitExceeded`](Refusal::LimitExceeded) (16).
     ///
     /// ```
     /// use bunnysolder::{Framed, Joined, Port, Queue, Refusal, Waiting};
@@ -179,6 +184,42 @@ impl Port {
     /// ```
     pub fn frame(&mut self, octets: &[u8], tag: u32) -> Result<Framed, Refusal> {
         exports::frame(&mut self.record, &mut self.memory, octets, tag).map(Framed::of)
+    }
+
+    /// Withdraw(s): takes a reserved stream off the line. Its frames that wait stay in their queues and are sent as before; it takes no more. It
+    /// drains for as many ticks as the port has queues for reserved traffic, which are four. Meanwhile every call that names it is refused with
+    /// [`Draining`](Refusal::Draining), and so is a frame that would arrive on it; its P still counts in R and has its part of the share, and its
+    /// binding stands against others. The last of these ticks frees it: its number may be reserved again, its part of the share is free, and its
+    /// binding is gone.
+    ///
+    /// Refusals, in this order: [`StreamRange`](Refusal::StreamRange) (5), [`Draining`](Refusal::Draining) (25),
+    /// [`NotReserved`](Refusal::NotReserved) (12).
+    ///
+    /// ```
+    /// use bunnysolder::{Joined, Port, Queue, Refusal, Reserved, Sent};
+    ///
+    /// // Stream 5 has the whole share, 600, and a frame that waits.
+    /// let mut port = Port::open(2_142, 1)?;
+    /// port.reserve(5, 600)?;
+    /// assert_eq!(port.arrive(5, 120, 7)?, Joined { queue: Queue::Current, left: 480 });
+    ///
+    /// // It is taken off the line: it takes no frame any more, and the one that waits is sent.
+    /// port.withdraw(5)?;
+    /// assert_eq!(port.arrive(5, 100, 8), Err(Refusal::Draining));
+    /// assert_eq!(port.transmit()?, Sent::Reserved { stream: 5, tag: 7 });
+    ///
+    /// // Until the fourth tick it still has the share, so nothing is free for stream 6; then all is.
+    /// for _ in 0..3 {
+    ///     port.tick()?;
+    ///     assert_eq!(port.reserve(6, 600), Err(Refusal::ShareExceeded));
+    /// }
+    /// port.tick()?;
+    /// assert_eq!(port.reserve(6, 600)?, Reserved { free: 0 });
+    /// assert_eq!(port.arrive(5, 100, 8), Err(Refusal::NotReserved));
+    /// # Ok::<(), Refusal>(())
+    /// ```
+    pub fn withdraw(&mut self, stream: u8) -> Result<(), Refusal> {
+        exports::withdraw(&mut self.record, &self.memory, stream).map(reply::withdrawn)
     }
 }
 

@@ -1,4 +1,4 @@
-//! The refusals of the calls, with document 01's numbers and words.
+//! The refusals of the calls, with the rule's numbers and words.
 
 use std::error::Error;
 use std::fmt;
@@ -14,7 +14,7 @@ macro_rules! refusals {
         }
 
         impl Refusal {
-            /// The refusal of a number; none has 0, which is a grant, or one above 20.
+            /// The refusal of a number; none of a call has 0, which is a grant, 21 to 24, which are those of captures, or one above 25.
             pub const fn from_number(number: u8) -> Option<Refusal> {
                 match number {
                     $($number => Some(Refusal::$name),)*
@@ -33,11 +33,11 @@ macro_rules! refusals {
 }
 
 refusals! {
-    /// Why a call was refused: document 01's numbers 1 to 20, in its words.
+    /// Why a call was refused: the rule's numbers 1 to 20 and 25, in its words.
     ///
     /// A refusal leaves the port as it was. [`Discard`](Refusal::Discard) alone also moves its stream: to place last, with nothing left.
     ///
-    /// A [`Port`](crate::Port) never meets 1, 2, 18, 19 and 20; its documentation says why. They are here because document 01 has them.
+    /// A [`Port`](crate::Port) never meets 1, 2, 18, 19 and 20; its documentation says why. They are here because the rule has them.
     ///
     /// ```
     /// use bunnysolder::{Port, Refusal};
@@ -69,10 +69,11 @@ refusals! {
     ShortMemory = 18, "the lent memory is under 1,280 places";
     UnfitRecord = 19, "the port record is unfit";
     QueueFull = 20, "the chosen queue holds 256 frames";
+    Draining = 25, "the stream was withdrawn, and drains";
 }
 
 impl Refusal {
-    /// Document 01's number.
+    /// The rule's number.
     pub const fn number(self) -> u8 {
         self as u8
     }

@@ -86,11 +86,11 @@ pub enum Framed {
     BestEffort(Waiting),
 }
 
-/// Stops at a reply that is none of document 01's. The contracts of the exports say that none such comes, so the library that is linked is not the
+/// Stops at a reply that is none of the rule's. The contracts of the exports say that none such comes, so the library that is linked is not the
 /// proved one, or something else wrote this program's memory.
 #[cold]
 pub(crate) fn outside(reply: &str) -> ! {
-    panic!("{reply} is none of document 01's: the library that is linked is not the proved one (`bash examples/run` builds it)")
+    panic!("{reply} is none of the rule's: the library that is linked is not the proved one (`bash examples/run` builds it)")
 }
 
 /// Stops at two numbers that a call does not reply.
@@ -112,6 +112,14 @@ pub(crate) fn bound(numbers: Numbers) {
     match numbers {
         (0, 0) => (),
         _ => no_reply(numbers, "Bind"),
+    }
+}
+
+/// Withdraw's reply, "two zeros".
+pub(crate) fn withdrawn(numbers: Numbers) {
+    match numbers {
+        (0, 0) => (),
+        _ => no_reply(numbers, "Withdraw"),
     }
 }
 
@@ -241,5 +249,11 @@ mod tests {
     fn bindings_are_read() {
         bound((0, 0));
         assert!([(1, 0), (0, 1)].into_iter().all(|numbers| stops(bound, numbers)));
+    }
+
+    #[test]
+    fn withdrawals_are_read() {
+        withdrawn((0, 0));
+        assert!([(1, 0), (0, 1)].into_iter().all(|numbers| stops(withdrawn, numbers)));
     }
 }

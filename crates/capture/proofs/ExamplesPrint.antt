@@ -1,4 +1,4 @@
--- What small files print, by the definitions: two ports on one chain, and two refused files. Assumes nothing.
+-- What small files print, by the definitions: two ports on one chain, and two refused files; and the call of kind 7. Assumes nothing.
 use Prim.Native.Nat.{ℕ}
 use mathlib.Core.Path.{_≡_, refl}
 use mathlib.Core.List.{List, [], _∷_, _++_}
@@ -13,10 +13,11 @@ use Rattle.record.specs.Head.{openAt, withOpen, priorAt, withPrior, delayAt, wi
 use Rattle.record.specs.Entry.{streamAt, withStream, drainAt, drainsAt, boundAt, vidAt, dropped}
 use Rattle.fitness.specs.Fit.{recordFits, lentRefusal}
 use Rattle.opening.specs.Opening.{openedRecord}
-use Rattle.gates.specs.Refusals.{openRefusal, reserveRefusal}
+use Rattle.gates.specs.Refusals.{openRefusal, reserveRefusal, withdrawRefusal}
+use Rattle.gates.specs.Table.{refusalOf}
 use Rattle.capture_file.specs.File.{letters, lettersOf, firstOf, kindOf, streamOctetOf, nextOf, numberA, numberB, endOf, chainWithin}
 use Rattle.capture_file.specs.Checks.{headerGood, firstGood, nextGood, recordGood, recordRefusal, chainRefusal, portRefusal, portsRefusal, fileRefusal}
-use Rattle.capture.specs.Events.{callAt, eventLine, linesOf}
+use Rattle.capture.specs.Events.{callOf, callAt, eventLine, linesOf}
 use Rattle.capture.specs.Output.{portsText, refusedWord, output}
 
 -- a header with these first indices for ports 0 and 1
@@ -47,3 +48,8 @@ refused-record = refl
 pub refused-first : output (header 0 3 ++ events 0) ≡ refusedWord ++ lineOf (23 ∷ 0 ∷ [])
 unfolding octetsEqual allTo twoOf fourOf lettersOf firstOf kindOf streamOctetOf nextOf numberA numberB endOf headerGood firstGood nextGood recordGood recordRefusal chainRefusal portRefusal portsRefusal fileRefusal output
 refused-first = refl
+
+-- kind 7 is a withdrawal of its stream octet: an open port refuses one above 63
+pub kind-7-withdraws : refusalOf (callOf 7 64 0 0) (1 ∷ []) ≡ 5
+unfolding openAt withdrawRefusal
+kind-7-withdraws = refl

@@ -1,2 +1,3 @@
 pub mod ChainLaws
 pub mod FileLaws
+pub mod KindCases

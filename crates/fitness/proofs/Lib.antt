@@ -3,3 +3,4 @@ mod GatherLaws
 pub mod TestLaws
 pub mod FitLaws
 pub mod RepeatExamples
+pub mod DrainCases

@@ -8,7 +8,7 @@ pub mod Delay
 pub mod Conforming
 pub mod OwnRun
 pub mod Alone
-pub mod Draining
+pub mod WithdrawalRun
 pub mod Tied
 pub mod Held
 pub mod BestEffortWritten
@@ -25,3 +25,4 @@ pub mod Play
 pub mod Theorem
 pub mod ClaimCases
 pub mod WithdrawalCases
+pub mod DrainingLaws

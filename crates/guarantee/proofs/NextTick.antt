@@ -1,6 +1,6 @@
 -- Tick on a port that holds a view: prior is purged, each queue and each stream comes a place nearer, and a stream that drains a tick nearer to its
 -- freedom. Assumes nothing.
-use Prim.Native.Nat.{ℕ, zero, suc, _-_, _≤_, _<_}
+use Prim.Native.Nat.{ℕ, suc, _-_, _≤_, _<_}
 use mathlib.Core.Bool.{Bool, true, false, cond}
 use mathlib.Core.Path.{_≡_, refl, sym, ap, ap₂, _∙_}
 use mathlib.Core.Logic.{inl, ⊎-elim}
@@ -22,13 +22,14 @@ use Rattle.lists.proofs.EachLaws.{differ}
 use Rattle.record.specs.Layout.{Whole, queueRoom, streamCount}
 use Rattle.record.specs.Queues.{queuesAt, bestEffortAt}
 use Rattle.record.specs.Head.{priorAt, withPrior, queueAt, withQueue}
-use Rattle.record.specs.Entry.{streamAt, withPlace, drainAt, withDrain, dropped}
+use Rattle.record.specs.Entry.{streamAt, drainAt, withDrain, dropped}
 use Rattle.record.proofs.QueueLaws.{queues-least, queues-most, queues-dropped}
-use Rattle.record.proofs.HeadPairs.{prior-prior, queue-prior, stream-prior, queue-queue, other-queue, stream-queue}
-use Rattle.record.proofs.EntryPairs.{stream-place, other-place, prior-place, queue-place}
-use Rattle.record.proofs.DrainPairs.{drain-drain, other-drain, stream-drain, prior-drain, queue-drain, drain-prior, drain-queue, drain-place}
-use Rattle.record.proofs.DropPairs.{length-dropped, open-dropped, prior-dropped, link-dropped, queue-dropped, stream-dropped, other-stream-dropped, other-drain-dropped}
+use Rattle.record.proofs.HeadPairs.{prior-prior, queue-prior, queue-queue, other-queue}
+use Rattle.record.proofs.EntryPairs.{stream-place, prior-place, queue-place}
+use Rattle.record.proofs.DrainPairs.{drain-drain, stream-drain, prior-drain, queue-drain, drain-place}
+use Rattle.record.proofs.DropPairs.{open-dropped, prior-dropped, link-dropped, queue-dropped, stream-dropped}
 use Rattle.record.proofs.KeepLaws.{Keeps, keeps-both, keeps-prior, keeps-queue, keeps-place, keeps-drain}
+use Rattle.record.proofs.BesideLaws.{Beside, beside-stream, beside-drain}
 use Rattle.fitness.proofs.FitLaws.{fit-record}
 use Rattle.steps.specs.Roles.{roleAt, priorRole, currentRole}
 use Rattle.steps.specs.Moves.{moved}
@@ -38,6 +39,7 @@ use Rattle.gates.specs.Refusals.{closedRefusal}
 use Rattle.steps.specs.Call.{Call, ticking}
 use Rattle.port.specs.Calls.{called}
 use Rattle.port_laws.proofs.TurnKeeps.{ticked-keeps}
+use Rattle.port_laws.proofs.TurnBeside.{atTurn, at-turn, at-turn-whole, after-turn}
 use Rattle.port_laws.proofs.GateNumbers.{closed-passes}
 use Rattle.guarantee.specs.Events.{Marked, reservedSent, marked}
 use Rattle.guarantee.proofs.Reservation.{Reservation, reservation, ticked, ticked-frees, ticked-moves, ticked-keeping, ticked-free}
@@ -48,14 +50,6 @@ use Rattle.guarantee.proofs.Next.{SameLink, link-kept, link-both, Next,
 
 -- one stream's turn
 module _ (i : ℕ) (l : List ℕ) where
-  turn-long : length (tickedAt i l) ≡ length l
-  turn-long =
-      ticked-keeps (λ k. length k ≡ length l) i
-      (λ k e. length-dropped k i ∙ e)
-      (λ k e. keeps-drain k i (drainAt k i - 1) .long ∙ e)
-      (λ k place left e. keeps-place k i place left .long ∙ e)
-      l refl
-
   turn-link : SameLink l (tickedAt i l)
   turn-link =
       ticked-keeps (SameLink l) i
@@ -80,14 +74,9 @@ module _ (i : ℕ) (l : List ℕ) where
       (λ k place left e. queue-place k i place left q b ∙ e)
       l refl
 
-  -- no other stream
-  turn-else : (s : ℕ) → (s ≡ i → ⊥) → reservationAt (tickedAt i l) s ≡ reservationAt l s
-  turn-else s o =
-      ticked-keeps (λ k. reservationAt k s ≡ reservationAt l s) i
-      (λ k e. same-reservation k (dropped k i) s (other-stream-dropped k i s o) (other-drain-dropped k i s o) ∙ e)
-      (λ k e. same-reservation k (withDrain k i (drainAt k i - 1)) s (stream-drain k i (drainAt k i - 1) s) (other-drain k i (drainAt k i - 1) s o) ∙ e)
-      (λ k place left e. same-reservation k (withPlace k i place left) s (other-place k i place left s o) (drain-place k i s place left) ∙ e)
-      l refl
+-- a write beside a stream's entry keeps its reservation
+beside-reservation : (s : ℕ) (l k : List ℕ) → Beside s l k → reservationAt k s ≡ reservationAt l s
+beside-reservation s l k beside = same-reservation l k s (beside-stream s l k beside) (beside-drain s l k beside)
 
 -- a reserved stream drains, if it does, by its count
 module _ (i : ℕ) (l : List ℕ) (x : Reservation) (whole : Whole l) (b : i < streamCount) (same : reservationAt l i ≡ reservation (tickOf (x .stream)) (x .drain))
@@ -147,10 +136,7 @@ turn-here i l whole b = told (streamAt l i .reserved) refl
     told false e = seen-free (reservationAt l i) e ∙ sym ticked-free ∙ ap ticked (sym (seen-free (reservationAt l i) e))
 
 -- all turns
-module _ (l : List ℕ) (whole : Whole l) where
-  turns-long : (n : ℕ) → length (iterate tickedAt n l) ≡ length l
-  turns-long n = iterate-keeps (λ k. length k ≡ length l) tickedAt n l (λ i k h. turn-long i k ∙ h) refl
-
+module _ (l : List ℕ) where
   turns-link : (n : ℕ) → SameLink l (iterate tickedAt n l)
   turns-link n = iterate-keeps (SameLink l) tickedAt n l (λ i k h. link-both l k (tickedAt i k) h (turn-link i k)) (refl, (refl, refl))
 
@@ -159,23 +145,6 @@ module _ (l : List ℕ) (whole : Whole l) where
 
   turns-queue : (n q : ℕ) → q < queueRoom → queueAt (iterate tickedAt n l) q ≡ queueAt l q
   turns-queue n q b = iterate-keeps (λ k. queueAt k q ≡ queueAt l q) tickedAt n l (λ i k h. turn-queue i k q b ∙ h) refl
-
-  -- a stream whose turn is still to come is as it was
-  turns-before : (n s : ℕ) → n ≤ s → reservationAt (iterate tickedAt n l) s ≡ reservationAt l s
-  unfolding iterate
-  turns-before zero s b = refl
-  turns-before (suc n) s b = turn-else n (iterate tickedAt n l) s (λ e. omega arith) ∙ turns-before n s (omega arith)
-
-  turns-after : (n s : ℕ) → s < n → n ≤ streamCount → seen (reservationAt (iterate tickedAt n l) s) ≡ ticked (seen (reservationAt l s))
-  unfolding iterate
-  turns-after zero s b c = absurd (omega arith)
-  turns-after (suc n) s b c =
-      ⊎-elim
-      (λ (e : s ≡ n).
-      rw e
-      (turn-here n (iterate tickedAt n l) (omega (arith, turns-long n)) (omega arith) ∙ ap (λ (x : Reservation). ticked (seen x)) (turns-before n n (omega arith))))
-      (λ (z : s < n). ap seen (turn-else n (iterate tickedAt n l) s (λ e. omega arith)) ∙ turns-after n s z (omega arith))
-      (eq-or-lt-of-le (omega arith))
 
 module _ (p : List ℕ) (whole : Whole p) where
   -- the record before the streams' turns: prior is empty, and current is prior
@@ -187,17 +156,14 @@ module _ (p : List ℕ) (whole : Whole p) where
       keeps-both p _ _ (keeps-queue p (roleAt p priorRole) emptyQueue (omega (arith, role-below p priorRole, queues-most p)))
       (keeps-prior (withQueue p (roleAt p priorRole) emptyQueue) (roleAt p currentRole))
 
-  turned-whole : Whole turned
-  turned-whole = omega (arith, turned-keeps .long)
-
-  ticked-link : SameLink p (tickedRecord p)
+  pub ticked-link : SameLink p (tickedRecord p)
   unfolding tickedRecord
-  ticked-link = link-both p turned _ (link-kept _ _ turned-keeps) (turns-link turned turned-whole streamCount)
+  ticked-link = link-both p turned _ (link-kept _ _ turned-keeps) (turns-link turned streamCount)
 
   ticked-prior : priorAt (tickedRecord p) ≡ roleAt p currentRole
   unfolding tickedRecord
   ticked-prior =
-      turns-prior turned turned-whole streamCount
+      turns-prior turned streamCount
       ∙ prior-prior (withQueue p (roleAt p priorRole) emptyQueue) (roleAt p currentRole)
       (omega (arith, keeps-queue p (roleAt p priorRole) emptyQueue (omega (arith, role-below p priorRole, queues-most p)) .long))
 
@@ -208,26 +174,22 @@ module _ (p : List ℕ) (whole : Whole p) where
   ticked-purged : queueAt (tickedRecord p) (roleAt p priorRole) ≡ emptyQueue
   unfolding tickedRecord
   ticked-purged =
-      turns-queue turned turned-whole streamCount (roleAt p priorRole) (omega (arith, role-below p priorRole, queues-most p))
+      turns-queue turned streamCount (roleAt p priorRole) (omega (arith, role-below p priorRole, queues-most p))
       ∙ queue-prior (withQueue p (roleAt p priorRole) emptyQueue) (roleAt p currentRole) (roleAt p priorRole)
       ∙ queue-queue p (roleAt p priorRole) emptyQueue whole (omega (arith, role-below p priorRole, queues-most p))
 
   ticked-other : (q : ℕ) → q ≤ bestEffortAt p → (q ≡ roleAt p priorRole → ⊥) → queueAt (tickedRecord p) q ≡ queueAt p q
   unfolding tickedRecord
   ticked-other q b o =
-      turns-queue turned turned-whole streamCount q (omega (arith, queues-most p))
+      turns-queue turned streamCount q (omega (arith, queues-most p))
       ∙ queue-prior (withQueue p (roleAt p priorRole) emptyQueue) (roleAt p currentRole) q
       ∙ other-queue p (roleAt p priorRole) emptyQueue q o
 
   ticked-stream : (s : ℕ) → s < streamCount → seen (reservationAt (tickedRecord p) s) ≡ ticked (seen (reservationAt p s))
-  unfolding tickedRecord
   ticked-stream s b =
-      let q = withQueue p (roleAt p priorRole) emptyQueue in
-      turns-after turned turned-whole streamCount s b (omega arith)
-      ∙ ap (λ (x : Reservation). ticked (seen x))
-      (same-reservation p turned s
-      (stream-prior q (roleAt p currentRole) s ∙ stream-queue p (roleAt p priorRole) emptyQueue s (omega (arith, role-below p priorRole, queues-most p)))
-      (drain-prior q s (roleAt p currentRole) ∙ drain-queue p s (roleAt p priorRole) emptyQueue (omega (arith, role-below p priorRole, queues-most p))))
+      ap seen (beside-reservation s (tickedAt s (atTurn p s)) (tickedRecord p) (after-turn p s b))
+      ∙ turn-here s (atTurn p s) (at-turn-whole p s whole) b
+      ∙ ap (λ (x : Reservation). ticked (seen x)) (beside-reservation s p (atTurn p s) (at-turn p s))
 
   -- the frames of each role but last are those of the role after it
   ticked-frames : (l : List ℕ) (role : ℕ) → suc role < queuesAt p → inRole (tickedRecord p) l role ≡ inRole p l (suc role)

@@ -44,7 +44,7 @@ use Rattle.guarantee.proofs.Delay.{sent-by-reply, all-sent}
 use Rattle.guarantee.proofs.Conforming.{prompt}
 use Rattle.guarantee.proofs.OwnRun.{replied-alone}
 use Rattle.guarantee.proofs.Alone.{alike}
-use Rattle.guarantee.proofs.Draining.{withdrawal-holds}
+use Rattle.guarantee.proofs.WithdrawalRun.{withdrawal-holds}
 use Rattle.guarantee.proofs.Tied.{tied-empty}
 use Rattle.guarantee.proofs.Held.{Holds, reservationAt, seenAt, seen-below, seen-above, seen-free}
 use Rattle.guarantee.proofs.Play.{Plays, one, plays, quick-plays}

@@ -142,7 +142,7 @@ OffersWithin s permitted es =
 abbrev pub Prompt : Marked → Event → List Event → Type 0
 Prompt f e after = (e .reply .refusal ≡ 0) × ((e .reply .first ≡ currentPlace) × SentBefore 2 f after)
 
--- whether an action is a withdrawal of the stream, and an event that is none which is granted
+-- whether an action is a withdrawal of the stream, and an event at which the stream stays: no withdrawal of it that is granted
 abbrev pub isWithdrawOf : ℕ → Action → Bool
 isWithdrawOf s toTick = false
 isWithdrawOf s toTransmit = false
@@ -167,7 +167,8 @@ ConformingPrompt es =
     → e .call ≡ arriving s charge tag → chargeFits charge ≡ true
     → Prompt (record { stream = s; charge = charge; tag = tag; number = length before + 1 + length earlier }) e (later ++ rest)
 
--- "A stream's own calls are the Reserves and Arrives that name it", and its withdrawals: lists have "withdrawals in [them] and a stream's own calls"
+-- "A stream's own calls are the Reserves and Arrives that name it", and its withdrawals: the guarantee "has withdrawals in its lists and a stream's own
+-- calls"
 abbrev pub isReserveOf : ℕ → Action → Bool
 isReserveOf s toTick = false
 isReserveOf s toTransmit = false

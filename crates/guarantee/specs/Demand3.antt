@@ -11,7 +11,7 @@ use Rattle.guarantee.specs.Events.{Made, Event, bothRuns, eventsAfter}
 use Rattle.guarantee.specs.Claims.{SameRecord, LinkCondition, PurgesNothing, SaysWhatItSends, AlikeMarked, AllSentBefore, ConformingPrompt, Alike, NotByHost}
 
 -- "The first is a granted Open, whatever record and memory it was given": these two, the Open's terms, and the calls after it; "lists hold [Bind and
--- Frame] too, each Frame with its octets"
+-- Frame] too, each Frame with its octets", and there are "withdrawals in its lists"
 pub record CallList : Type 0 where
   pub port : List ℕ
   pub memory : List ℕ
@@ -41,7 +41,7 @@ pub record Promised (queues : ℕ) (es : List Event) : Type 0 where
   -- "every accepted reserved frame is sent before the fourth tick after it": in general, the tick whose number is that of the queues
   pub all-sent : AllSentBefore queues es
   -- "a stream that never offers more than its permitted octets between ticks has each frame accepted as current and sent before the second tick
-  -- after it"
+  -- after it", from a grant to the withdrawal
   pub prompt : ConformingPrompt es
 
 -- the claim, of one list

@@ -94,9 +94,7 @@ denied = replied (reserving 5 200) (refusedBy 8) ∷ replied (arriving 5 120 7) 
 abbrev pub tooSmall : Event
 tooSmall = replied (arriving 5 83 7) (refusedBy 13)
 
--- a withdrawal that is granted,
--- one that is refused since the stream drains,
--- and one of another stream
+-- a withdrawal that is granted, one that is refused since the stream drains, and one of another stream
 abbrev pub withdrawalOf5 : Event
 withdrawalOf5 = replied (withdrawing 5) (granted 0 0)
 
@@ -106,26 +104,23 @@ withdrawalRefused = replied (withdrawing 5) (refusedBy 25)
 abbrev pub withdrawalOf6 : Event
 withdrawalOf6 = replied (withdrawing 6) (granted 0 0)
 
--- an arrival on a stream that drains,
--- and one on a stream that is not reserved
+-- an arrival on a stream that drains, and one on a stream that is not reserved
 abbrev pub drainingArrival : Event
 drainingArrival = replied (arriving 5 120 7) (refusedBy 25)
 
 abbrev pub freeArrival : Event
 freeArrival = replied (arriving 5 120 7) (refusedBy 12)
 
--- a grant, and an arrival after the withdrawal:
--- what follows that,
--- and all of it
+-- a grant, and an arrival after the withdrawal: what follows the grant, and the whole list
 abbrev pub afterGrant : List Event
 afterGrant = withdrawalOf5 ∷ drainingArrival ∷ []
 
 abbrev pub withdrawnSoon : List Event
 withdrawnSoon = grantOf5 ∷ afterGrant
 
--- a withdrawal after which the stream's arrival is accepted, before any tick,
--- one after which it drains, after one tick,
--- and one after which it does not, after one tick
+-- a withdrawal after which an arrival on the stream is accepted,
+-- one after which the stream drains after a tick,
+-- and one after which it is free after a tick
 abbrev pub acceptedStill : List Event
 acceptedStill = withdrawalOf5 ∷ joinsCurrent ∷ []
 
@@ -135,8 +130,7 @@ drainingYet = withdrawalOf5 ∷ quietTick ∷ drainingArrival ∷ []
 abbrev pub freeSoon : List Event
 freeSoon = withdrawalOf5 ∷ quietTick ∷ freeArrival ∷ []
 
--- a part of a list offers no more
--- than the whole list
+-- a part of a list offers no more than the whole list, by which a wrong claim is seen to be false
 pub part-offers : (s : ℕ) (before between after : List Event) → offers s between ≤ offers s (before ++ (between ++ after))
 part-offers s [] [] after = omega arith
 part-offers s [] (e ∷ between) after = omega (arith, part-offers s [] between after)

@@ -6,3 +6,4 @@ pub mod Own
 pub mod Beyond
 pub mod Withdrawal
 pub mod Instances
+pub mod Draining

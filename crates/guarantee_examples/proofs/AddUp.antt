@@ -4,17 +4,27 @@ use mathlib.Core.Bool.{true, false}
 use mathlib.Core.Path.{_≡_, refl}
 use mathlib.Core.List.{[], _∷_, _++_, map}
 use lib.ListN.{length}
-use lib.Dec.{eqb}
+use lib.Dec.{eqb, ltb}
+use Rattle.octets.specs.Numbers.{twoOf}
+use Rattle.stream.specs.State.{leastQueues, reserveOf}
+use Rattle.stream.specs.Replies.{granted, refusedBy}
 use Rattle.stream.specs.Steps.{attempt, arriveOf}
 use Rattle.record.specs.Queues.{queuesAt}
-use Rattle.record.specs.Head.{priorAt}
+use Rattle.record.specs.Head.{openAt, withOpen, priorAt}
+use Rattle.record.specs.Entry.{streamAt, withStream, drainAt, withDrain, drainsAt}
 use Rattle.header.specs.Header.{lengthFits}
 use Rattle.fitness.specs.Clauses.{priorFits}
-use Rattle.guarantee.specs.Claims.{tickCount, reservedOctets, answers}
+use Rattle.steps.specs.Outcome.{outcome}
+use Rattle.gates.specs.Refusals.{withdrawRefusal}
+use Rattle.port_laws.specs.Counting.{toWithdraw}
+use Rattle.port_laws.specs.Lists.{freshRecord}
+use Rattle.guarantee.specs.Claims.{tickCount, reservedOctets, offers, answers}
 use Rattle.guarantee.specs.Own.{own}
-use Rattle.guarantee.specs.Instances.{chargeIn}
+use Rattle.guarantee.specs.Draining.{ticksIn}
+use Rattle.guarantee.specs.Instances.{chargeIn, quietTick}
 use Rattle.guarantee_examples.specs.Examples.{busy, light, withheld, permitted200, untagged}
-use Rattle.guarantee_examples.specs.LeftOpen.{crowdedOpening, crowdedGrant, crowdedBefore, crowdedPlace, crowdedFrame, tooSoon, crowded, crowdedOwn, busyBefore, busyNextArrival, busyWith, secondFrame, thirdFrame, busySecond, busyThird, purgesNone, aloneOwn, sixAnswers, alone, discards, queueFull, shortestFrame, unfitRecord, keptTag, numberTag}
+use Rattle.guarantee_examples.specs.LeftOpen.{crowdedOpening, crowdedGrant, crowdedBefore, crowdedPlace, crowdedFrame, tooSoon, crowded, crowdedOwn, busyBefore, busyNextArrival, busyLastArrival, busyWith, secondFrame, thirdFrame, busySecond, busyThird, purgesNone, aloneOwn, sixAnswers, alone, discards, queueFull, shortestFrame, unfitRecord, keptTag, numberTag}
+use Rattle.guarantee_examples.specs.Withdrawn.{drainingReply, freeReply, handedBefore, handedThird, handedToFourthTick, handedGrant, handedFrame, withdrawnOpening, withdrawnGrant, withdrawn, remainingOthers, leavingAfter, leavingFrame, leavingFirst, triedWhile, betweenCalls, hurried}
 use Rattle.guarantee_examples.specs.AddUp.{sentAt, broughtAt, accepted, purged, framesAccepted, framesSent, framesPurged, byRule, tagSent, numberSent, EventsAddUp}
 
 light-frame : sentAt light 5 ≡ broughtAt light 3
@@ -68,6 +78,39 @@ tag-of-call = refl
 number-of-call : numberTag ≡ numberSent (broughtAt permitted200 2)
 number-of-call = refl
 
+handed-number : handedFrame 6 .number ≡ length (handedBefore ++ (busyLastArrival ∷ (handedToFourthTick handedThird ++ (quietTick ∷ handedGrant 6))))
+handed-number = refl
+
+leaving-number : leavingFrame .number ≡ length (withdrawnOpening ++ (withdrawnGrant ∷ []))
+leaving-number = refl
+
+tried-ticks : tickCount (triedWhile (refusedBy 25) (refusedBy 25) (refusedBy 25) (refusedBy 25)) + 1 ≡ leastQueues
+tried-ticks = refl
+
+between-ticks : ticksIn betweenCalls + 1 ≡ leastQueues
+between-ticks = refl
+
+withdrawn-calls : length (remainingOthers 5 withdrawn) ≡ length (remainingOthers 5 permitted200)
+withdrawn-calls = refl
+
+leaving-offers : ltb 200 (120 + offers 5 (leavingAfter leavingFirst)) ≡ true
+leaving-offers = refl
+
+draining-gate : withdrawRefusal (withDrain (withStream (withOpen freshRecord) 5 (reserveOf 200)) 5 leastQueues) 5 ≡ drainingReply .refusal
+unfolding openAt withOpen streamAt withStream drainAt withDrain drainsAt twoOf withdrawRefusal
+draining-gate = refl
+
+free-gate : withdrawRefusal (withOpen freshRecord) 5 ≡ freeReply .refusal
+unfolding openAt withOpen streamAt drainAt drainsAt twoOf withdrawRefusal
+free-gate = refl
+
+withdrawn-answer : answers 5 withdrawn ≡ drainingReply ∷ []
+withdrawn-answer = refl
+
+hurried-drain : drainAt (hurried (toWithdraw 5) (outcome (granted 0 0) freshRecord []) .port) 5 + 2 ≡ leastQueues
+unfolding queuesAt drainAt withDrain
+hurried-drain = refl
+
 pub events-add-up : EventsAddUp
 events-add-up =
     record {
@@ -87,4 +130,14 @@ events-add-up =
       full-no-discard = full-no-discard;
       tag-of-call = tag-of-call;
       number-of-call = number-of-call;
+      handed-number = handed-number;
+      leaving-number = leaving-number;
+      tried-ticks = tried-ticks;
+      between-ticks = between-ticks;
+      withdrawn-calls = withdrawn-calls;
+      leaving-offers = leaving-offers;
+      draining-gate = draining-gate;
+      free-gate = free-gate;
+      withdrawn-answer = withdrawn-answer;
+      hurried-drain = hurried-drain;
     }

@@ -17,6 +17,7 @@ use Rattle.guarantee_examples.specs.LeftOpen.{transmitted, crowdedOpenin
 use Rattle.guarantee_examples.specs.Derived.{DemandSays}
 use Rattle.guarantee_examples.proofs.LinkTest.{link-holds}
 use Rattle.guarantee_examples.proofs.OffersTest.{within-holds}
+use Rattle.guarantee_examples.proofs.StaysTest.{stays-hold}
 use Rattle.guarantee_examples.proofs.AddUp.{crowded-six}
 use Rattle.guarantee_examples.proofs.Applied.{by-numbers, promised-of, alike-of, records-of, says-of, marks-of, not-by-host-of, only}
 use Rattle.guarantee_examples.proofs.OpenPartsHappen.{crowded-made, listOf}
@@ -25,7 +26,7 @@ module _ (reply : Reply) (sent : Sent) (said shown : Reply) where
   abbrev third : Event
   third = transmitted sent said shown
 
-  -- the events after the grant of stream 5, and that they are within its P
+  -- the events after the grant of stream 5
   abbrev granted5 : List Event
   granted5 = crowdedBefore ++ (replied (arriving 5 120 7) reply ∷ crowdedAfter third)
 
@@ -34,7 +35,7 @@ module _ (reply : Reply) (sent : Sent) (said shown : Reply) where
       → Prompt crowdedFrame (replied (arriving 5 120 7) reply) (crowdedAfter third)
   crowded-prompt happens link =
       promised-of (crowdedWith reply third) happens link .prompt 5 200 crowdedOpening granted5 [] crowdedGrant refl refl refl
-      (within-holds 5 200 granted5 refl) crowdedBefore (crowdedAfter third) (replied (arriving 5 120 7) reply) 120 7 refl refl refl
+      (within-holds 5 200 granted5 refl) (stays-hold 5 granted5 refl) crowdedBefore (crowdedAfter third) (replied (arriving 5 120 7) reply) 120 7 refl refl refl
 
   crowded-sends : Happens (crowdedWith reply third) → LinkCondition (shareOf 2142) (crowdedWith reply third)
       → Some (Sends crowdedFrame) (crowdedToSecondTick third)

@@ -11,13 +11,13 @@ use Rattle.queue.specs.Ring.{joinedMemory, frontOf}
 use Rattle.queue.specs.Waiting.{waiting}
 use Rattle.record.specs.Queues.{queuesAt}
 use Rattle.record.specs.Head.{openAt, withOpen, priorAt, withPrior, delayAt, withDelay, linkAt, withLink, waitsAt, withWaits, queueAt, withQueue}
-use Rattle.record.specs.Entry.{streamAt, withStream, withPlace, boundAt, vidAt, addressAt, withBinding, dropped}
+use Rattle.record.specs.Entry.{streamAt, withStream, withPlace, drainAt, drainsAt, boundAt, vidAt, addressAt, withBinding, dropped}
 use Rattle.header.specs.Header.{chargeOf, lengthFits, taggedFrame, vidOf}
 use Rattle.fitness.specs.Fit.{recordFits, lentRefusal}
 use Rattle.steps.specs.Roles.{roleAt}
 use Rattle.opening.specs.Opening.{openedRecord}
 use Rattle.arriving.specs.Arriving.{arriveStep}
-use Rattle.ticking.specs.Ticking.{tickedRecord, tickStep}
+use Rattle.ticking.specs.Ticking.{drainedAt, tickedRecord, tickStep}
 use Rattle.sending.specs.Sending.{transmitStep}
 use Rattle.best_effort.specs.BestEffort.{bestEffortStep}
 use Rattle.binding.specs.Finding.{lookupFrom, lookup, frameLookup}
@@ -41,7 +41,7 @@ afterFirst [] = []
 afterFirst (e ∷ es) = callsOf es
 
 pub all-happen : AllHappen
-unfolding allTo sumTo listTo iterate twoOf fourOf attempt arriveOf tickOf frameAt withFrame joinedMemory frontOf waiting openAt withOpen priorAt withPrior delayAt withDelay linkAt withLink waitsAt withWaits queueAt queuesAt withQueue streamAt withStream withPlace boundAt vidAt addressAt withBinding dropped recordFits lentRefusal roleAt openedRecord arriveStep tickedRecord tickStep transmitStep bestEffortStep openRefusal reserveRefusal arriveRefusal closedRefusal bestEffortRefusal bindRefusal frameRefusal lookupFrom lookup frameLookup octetsEqual chargeOf lengthFits taggedFrame vidOf
+unfolding allTo sumTo listTo iterate twoOf fourOf attempt arriveOf tickOf frameAt withFrame joinedMemory frontOf waiting openAt withOpen priorAt withPrior delayAt withDelay linkAt withLink waitsAt withWaits queueAt queuesAt withQueue streamAt withStream withPlace drainAt drainsAt boundAt vidAt addressAt withBinding dropped recordFits lentRefusal roleAt openedRecord arriveStep drainedAt tickedRecord tickStep transmitStep bestEffortStep openRefusal reserveRefusal arriveRefusal closedRefusal bestEffortRefusal bindRefusal frameRefusal lookupFrom lookup frameLookup octetsEqual chargeOf lengthFits taggedFrame vidOf
 all-happen =
     record {
       busy-happens = record { list = fromFresh 1626 1 (afterFirst busy) refl; so = refl };

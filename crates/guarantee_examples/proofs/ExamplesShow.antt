@@ -20,7 +20,7 @@ use Rattle.guarantee_examples.proofs.LinkTest.{link-holds, none-idle}
 use Rattle.guarantee_examples.proofs.ExamplesHappen.{all-happen}
 
 -- the refusal of the first reply
-abbrev firstRefusal : List Reply → ℕ
+abbrev pub firstRefusal : List Reply → ℕ
 firstRefusal [] = 0
 firstRefusal (r ∷ rs) = r .refusal
 

@@ -12,13 +12,13 @@ use Rattle.queue.specs.Ring.{joinedMemory, frontOf}
 use Rattle.queue.specs.Waiting.{waiting}
 use Rattle.record.specs.Queues.{queuesAt}
 use Rattle.record.specs.Head.{openAt, withOpen, priorAt, withPrior, delayAt, withDelay, linkAt, withLink, waitsAt, withWaits, queueAt, withQueue}
-use Rattle.record.specs.Entry.{streamAt, withStream, withPlace, boundAt, vidAt, addressAt, withBinding, dropped}
+use Rattle.record.specs.Entry.{streamAt, withStream, withPlace, drainAt, drainsAt, boundAt, vidAt, addressAt, withBinding, dropped}
 use Rattle.header.specs.Header.{chargeOf, lengthFits, taggedFrame, vidOf}
 use Rattle.fitness.specs.Fit.{recordFits, lentRefusal}
 use Rattle.steps.specs.Roles.{roleAt}
 use Rattle.opening.specs.Opening.{openedRecord}
 use Rattle.arriving.specs.Arriving.{arriveStep}
-use Rattle.ticking.specs.Ticking.{tickedRecord, tickStep}
+use Rattle.ticking.specs.Ticking.{drainedAt, tickedRecord, tickStep}
 use Rattle.sending.specs.Sending.{transmitStep}
 use Rattle.best_effort.specs.BestEffort.{bestEffortStep}
 use Rattle.binding.specs.Finding.{lookupFrom, lookup, frameLookup}
@@ -46,15 +46,15 @@ listOf {link} {delay} {later} made =
     record { port = freshRecord; memory = freshMemory; terms = terms link delay; later = later; opened = made .opened }
 
 pub crowded-made : OnFresh 2142 1 (laterCalls crowded) crowded
-unfolding allTo sumTo listTo iterate twoOf fourOf attempt arriveOf tickOf frameAt withFrame joinedMemory frontOf waiting openAt withOpen priorAt withPrior delayAt withDelay linkAt withLink waitsAt withWaits queueAt queuesAt withQueue streamAt withStream withPlace boundAt vidAt addressAt withBinding dropped recordFits lentRefusal roleAt openedRecord arriveStep tickedRecord tickStep transmitStep bestEffortStep openRefusal reserveRefusal arriveRefusal closedRefusal bestEffortRefusal bindRefusal frameRefusal lookupFrom lookup frameLookup octetsEqual chargeOf lengthFits taggedFrame vidOf
+unfolding allTo sumTo listTo iterate twoOf fourOf attempt arriveOf tickOf frameAt withFrame joinedMemory frontOf waiting openAt withOpen priorAt withPrior delayAt withDelay linkAt withLink waitsAt withWaits queueAt queuesAt withQueue streamAt withStream withPlace drainAt drainsAt boundAt vidAt addressAt withBinding dropped recordFits lentRefusal roleAt openedRecord arriveStep drainedAt tickedRecord tickStep transmitStep bestEffortStep openRefusal reserveRefusal arriveRefusal closedRefusal bestEffortRefusal bindRefusal frameRefusal lookupFrom lookup frameLookup octetsEqual chargeOf lengthFits taggedFrame vidOf
 crowded-made = record { opened = refl; so = refl }
 
 pub nearly-made : OnFresh 2142 1 (laterCalls nearly) nearly
-unfolding allTo sumTo listTo iterate twoOf fourOf attempt arriveOf tickOf frameAt withFrame joinedMemory frontOf waiting openAt withOpen priorAt withPrior delayAt withDelay linkAt withLink waitsAt withWaits queueAt queuesAt withQueue streamAt withStream withPlace boundAt vidAt addressAt withBinding dropped recordFits lentRefusal roleAt openedRecord arriveStep tickedRecord tickStep transmitStep bestEffortStep openRefusal reserveRefusal arriveRefusal closedRefusal bestEffortRefusal bindRefusal frameRefusal lookupFrom lookup frameLookup octetsEqual chargeOf lengthFits taggedFrame vidOf
+unfolding allTo sumTo listTo iterate twoOf fourOf attempt arriveOf tickOf frameAt withFrame joinedMemory frontOf waiting openAt withOpen priorAt withPrior delayAt withDelay linkAt withLink waitsAt withWaits queueAt queuesAt withQueue streamAt withStream withPlace drainAt drainsAt boundAt vidAt addressAt withBinding dropped recordFits lentRefusal roleAt openedRecord arriveStep drainedAt tickedRecord tickStep transmitStep bestEffortStep openRefusal reserveRefusal arriveRefusal closedRefusal bestEffortRefusal bindRefusal frameRefusal lookupFrom lookup frameLookup octetsEqual chargeOf lengthFits taggedFrame vidOf
 nearly-made = record { opened = refl; so = refl }
 
 pub alone-made : OnFresh 1742 3 aloneCalls alone
-unfolding allTo sumTo listTo iterate twoOf fourOf attempt arriveOf tickOf frameAt withFrame joinedMemory frontOf waiting openAt withOpen priorAt withPrior delayAt withDelay linkAt withLink waitsAt withWaits queueAt queuesAt withQueue streamAt withStream withPlace boundAt vidAt addressAt withBinding dropped recordFits lentRefusal roleAt openedRecord arriveStep tickedRecord tickStep transmitStep bestEffortStep openRefusal reserveRefusal arriveRefusal closedRefusal bestEffortRefusal bindRefusal frameRefusal lookupFrom lookup frameLookup octetsEqual chargeOf lengthFits taggedFrame vidOf
+unfolding allTo sumTo listTo iterate twoOf fourOf attempt arriveOf tickOf frameAt withFrame joinedMemory frontOf waiting openAt withOpen priorAt withPrior delayAt withDelay linkAt withLink waitsAt withWaits queueAt queuesAt withQueue streamAt withStream withPlace drainAt drainsAt boundAt vidAt addressAt withBinding dropped recordFits lentRefusal roleAt openedRecord arriveStep drainedAt tickedRecord tickStep transmitStep bestEffortStep openRefusal reserveRefusal arriveRefusal closedRefusal bestEffortRefusal bindRefusal frameRefusal lookupFrom lookup frameLookup octetsEqual chargeOf lengthFits taggedFrame vidOf
 alone-made = record { opened = refl; so = refl }
 
 -- the lists that happen already, as their parts make them
@@ -66,11 +66,11 @@ arrived-made = refl
 
 -- the unfit record is so, Open refuses it, and the quick Open does not
 pub unfit-before : recordFits unfitRecord freshMemory ≡ false
-unfolding allTo sumTo listTo twoOf fourOf octetsEqual waiting openAt priorAt delayAt linkAt waitsAt queueAt queuesAt streamAt boundAt vidAt addressAt recordFits
+unfolding allTo sumTo listTo twoOf fourOf octetsEqual waiting openAt priorAt delayAt linkAt waitsAt queueAt queuesAt streamAt drainAt boundAt vidAt addressAt recordFits
 unfit-before = refl
 
 pub unfit-refused : called (opening (terms 2142 1)) unfitRecord freshMemory .reply ≡ refusedBy 19
-unfolding allTo sumTo listTo twoOf fourOf octetsEqual waiting openAt priorAt delayAt linkAt waitsAt queueAt queuesAt streamAt boundAt vidAt addressAt recordFits lentRefusal
+unfolding allTo sumTo listTo twoOf fourOf octetsEqual waiting openAt priorAt delayAt linkAt waitsAt queueAt queuesAt streamAt drainAt boundAt vidAt addressAt recordFits lentRefusal
 unfit-refused = refl
 
 pub unfit-opened : quicklyCalled (opening (terms 2142 1)) unfitRecord freshMemory .reply ≡ granted 600 0
@@ -79,5 +79,5 @@ unfit-opened = refl
 
 -- the tag of the one frame that joins, in both runs
 pub tags-kept : TagsKept
-unfolding allTo sumTo listTo iterate twoOf fourOf attempt arriveOf tickOf frameAt withFrame joinedMemory frontOf waiting openAt withOpen priorAt withPrior delayAt withDelay linkAt withLink waitsAt withWaits queueAt queuesAt withQueue streamAt withStream withPlace boundAt vidAt addressAt withBinding dropped recordFits lentRefusal roleAt openedRecord arriveStep tickedRecord tickStep transmitStep bestEffortStep openRefusal reserveRefusal arriveRefusal closedRefusal bestEffortRefusal bindRefusal frameRefusal lookupFrom lookup frameLookup octetsEqual chargeOf lengthFits taggedFrame vidOf
+unfolding allTo sumTo listTo iterate twoOf fourOf attempt arriveOf tickOf frameAt withFrame joinedMemory frontOf waiting openAt withOpen priorAt withPrior delayAt withDelay linkAt withLink waitsAt withWaits queueAt queuesAt withQueue streamAt withStream withPlace drainAt drainsAt boundAt vidAt addressAt withBinding dropped recordFits lentRefusal roleAt openedRecord arriveStep drainedAt tickedRecord tickStep transmitStep bestEffortStep openRefusal reserveRefusal arriveRefusal closedRefusal bestEffortRefusal bindRefusal frameRefusal lookupFrom lookup frameLookup octetsEqual chargeOf lengthFits taggedFrame vidOf
 tags-kept = record { own-tag = refl; shown-tag = refl }

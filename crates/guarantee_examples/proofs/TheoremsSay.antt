@@ -31,10 +31,11 @@ use Rattle.guarantee.specs.Demand3.{Promised}
 use Rattle.guarantee.proofs.Theorem.{promised-by-less, sent-as-replied, quick-events}
 use Rattle.guarantee.specs.Instances.{replied}
 use Rattle.guarantee_examples.specs.Examples.{Happens, untagged}
-use Rattle.guarantee_examples.specs.LeftOpen.{transmitted, crowdedOpening, crowdedGrant, crowdedBefore, crowdedAfter, crowdedWith, busyBefore, busyNextArrival, busyLastArrival, busyToSecondTick, busyToThirdTick, busyAfter, busyWith, secondFrame, busySecond, busyThird, purgesNone, nearlyBefore, nearlyEpoch, nearlyWith, nearly, crowded, crowdedOwn, aloneCalls, aloneWith, aloneOwn, alone, unfitRecord, shortestFrame}
+use Rattle.guarantee_examples.specs.LeftOpen.{transmitted, crowdedOpening, crowdedGrant, crowdedBefore, crowdedAfter, crowdedWith, busyBefore, busyNextArrival, busyLastArrival, busyToSecondTick, busyToThirdTick, busyAfter, busyWith, secondFrame, busySecond, busyThird, purgesNone, nearlyBefore, nearlyEpoch, nearlyWith, nearly, crowded, crowdedOwn, aloneCalls, aloneOpening, aloneGrant, aloneLater, aloneWith, aloneOwn, alone, unfitRecord, shortestFrame}
 use Rattle.guarantee_examples.specs.AddUp.{repliesAlone}
 use Rattle.guarantee_examples.specs.Derived.{OpenPartsHappen, TheoremsSay}
 use Rattle.guarantee_examples.proofs.LinkTest.{links, link-holds, none-idle}
+use Rattle.guarantee_examples.proofs.StaysTest.{stays-hold}
 use Rattle.guarantee_examples.proofs.AddUp.{shortest-fits}
 use Rattle.guarantee_examples.proofs.Applied.{by-numbers, replied-alone-of, firstShare, first-share, link-of, none-sends, only}
 use Rattle.guarantee_examples.proofs.OpenPartsHappen.{listOf, crowded-made, nearly-made, alone-made, unfit-before, unfit-refused, unfit-opened, busy-made, arrived-made}
@@ -68,14 +69,14 @@ five-alone : (reply : Reply) (sent : Sent) (said shown : Reply) → Happens (cro
     → reply ∷ granted 1 80 ∷ [] ≡ repliesAlone 200 crowdedOwn
 five-alone reply sent said shown happens =
     let third = transmitted sent said shown in
-    replied-alone-of (crowdedWith reply third) happens 5 200 crowdedOpening (crowdedBefore ++ (replied (arriving 5 120 7) reply ∷ crowdedAfter third)) crowdedGrant
-    refl refl refl
+    let while = crowdedBefore ++ (replied (arriving 5 120 7) reply ∷ crowdedAfter third) in
+    replied-alone-of (crowdedWith reply third) happens 5 200 crowdedOpening while [] crowdedGrant refl refl refl (stays-hold 5 while refl)
 
 six-alone : (first second third fourth : Reply) → Happens (aloneWith first second third fourth)
     → first ∷ second ∷ third ∷ fourth ∷ [] ≡ repliesAlone 200 aloneOwn
 six-alone first second third fourth happens =
-    replied-alone-of (aloneWith first second third fourth) happens 6 200 (replied (opening (terms 1742 3)) (granted 200 0) ∷ []) _ (replied (reserving 6 200) (granted 0 0))
-    refl refl refl
+    let while = aloneLater first second third fourth in
+    replied-alone-of (aloneWith first second third fourth) happens 6 200 aloneOpening while [] aloneGrant refl refl refl (stays-hold 6 while refl)
 
 -- the epoch that sends 83 octets less than the share
 epoch-fails : (shareOf 2142 ≤ reservedOctets nearlyEpoch) ⊎ Some Idle nearlyEpoch → ⊥

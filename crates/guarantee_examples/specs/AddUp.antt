@@ -4,22 +4,29 @@ use mathlib.Core.Bool.{true, false, _&&_, cond}
 use mathlib.Core.Path.{_≡_}
 use mathlib.Core.List.{List, [], _∷_, _++_, map}
 use lib.ListN.{length, getD}
-use lib.Dec.{eqb}
+use lib.Dec.{eqb, ltb}
 use Rattle.lists.specs.Turns.{sumOf}
 use Rattle.stream.specs.declared.Reply.{Reply}
 use Rattle.stream.specs.State.{leastQueues, reserveOf}
-use Rattle.stream.specs.Replies.{refusedBy}
+use Rattle.stream.specs.Replies.{granted, refusedBy}
 use Rattle.stream.specs.Alone.{StreamEvent, arrival, replies}
 use Rattle.header.specs.Header.{lengthFits}
 use Rattle.fitness.specs.Clauses.{priorFits}
 use Rattle.steps.specs.Call.{ticking}
-use Rattle.port_laws.specs.Counting.{actionOf}
+use Rattle.steps.specs.Outcome.{outcome}
+use Rattle.record.specs.Head.{withOpen}
+use Rattle.record.specs.Entry.{withStream, drainAt, withDrain}
+use Rattle.gates.specs.Refusals.{withdrawRefusal}
+use Rattle.port_laws.specs.Counting.{toWithdraw, actionOf}
+use Rattle.port_laws.specs.Lists.{freshRecord}
 use Rattle.guarantee.specs.Events.{Sent, reservedSent, bestEffortSent, none, Event, action, broughtBy}
-use Rattle.guarantee.specs.Claims.{isTick, tickCount, reservedOctets, offer, isArriveOf, answers}
+use Rattle.guarantee.specs.Claims.{isTick, tickCount, reservedOctets, offer, offers, isArriveOf, answers}
 use Rattle.guarantee.specs.Own.{own}
-use Rattle.guarantee.specs.Instances.{chargeIn}
+use Rattle.guarantee.specs.Draining.{ticksIn}
+use Rattle.guarantee.specs.Instances.{chargeIn, quietTick}
 use Rattle.guarantee_examples.specs.Examples.{busy, light, withheld, permitted200, untagged, callsOf}
-use Rattle.guarantee_examples.specs.LeftOpen.{crowdedOpening, crowdedGrant, crowdedBefore, crowdedPlace, crowdedFrame, tooSoon, crowded, crowdedOwn, busyBefore, busyNextArrival, busyWith, secondFrame, thirdFrame, busySecond, busyThird, purgesNone, aloneOwn, sixAnswers, alone, discards, queueFull, shortestFrame, unfitRecord, keptTag, numberTag}
+use Rattle.guarantee_examples.specs.LeftOpen.{crowdedOpening, crowdedGrant, crowdedBefore, crowdedPlace, crowdedFrame, tooSoon, crowded, crowdedOwn, busyBefore, busyNextArrival, busyLastArrival, busyWith, secondFrame, thirdFrame, busySecond, busyThird, purgesNone, aloneOwn, sixAnswers, alone, discards, queueFull, shortestFrame, unfitRecord, keptTag, numberTag}
+use Rattle.guarantee_examples.specs.Withdrawn.{drainingReply, freeReply, handedBefore, handedThird, handedToFourthTick, handedGrant, handedFrame, withdrawnOpening, withdrawnGrant, withdrawn, remainingOthers, leavingAfter, leavingFrame, leavingFirst, triedWhile, betweenCalls, hurried}
 
 -- what event number n of a list sends, and what its call brings
 abbrev pub sentAt : List Event → ℕ → Sent
@@ -97,3 +104,20 @@ pub record EventsAddUp : Type 0 where
   -- the tags that the memories keep are that of the call which brought the frame, and its number
   pub tag-of-call : keptTag ≡ tagSent (broughtAt permitted200 2)
   pub number-of-call : numberTag ≡ numberSent (broughtAt permitted200 2)
+  -- the frames of lists with a withdrawal have the numbers of their calls
+  pub handed-number : handedFrame 6 .number ≡ length (handedBefore ++ (busyLastArrival ∷ (handedToFourthTick handedThird ++ (quietTick ∷ handedGrant 6))))
+  pub leaving-number : leavingFrame .number ≡ length (withdrawnOpening ++ (withdrawnGrant ∷ []))
+  -- with the one tick more that frees the stream there are as many as queues
+  pub tried-ticks : tickCount (triedWhile (refusedBy 25) (refusedBy 25) (refusedBy 25) (refusedBy 25)) + 1 ≡ leastQueues
+  pub between-ticks : ticksIn betweenCalls + 1 ≡ leastQueues
+  -- the withdrawal is not among the calls that remain without it
+  pub withdrawn-calls : length (remainingOthers 5 withdrawn) ≡ length (remainingOthers 5 permitted200)
+  -- the stream that conforms until its withdrawal would not conform with what it offers after that
+  pub leaving-offers : ltb 200 (120 + offers 5 (leavingAfter leavingFirst)) ≡ true
+  -- what a gate asks of a stream that drains, and of one that is free, is what the theorems have replied
+  pub draining-gate : withdrawRefusal (withDrain (withStream (withOpen freshRecord) 5 (reserveOf 200)) 5 leastQueues) 5 ≡ drainingReply .refusal
+  pub free-gate : withdrawRefusal (withOpen freshRecord) 5 ≡ freeReply .refusal
+  -- the one arrival after the withdrawal is refused so
+  pub withdrawn-answer : answers 5 withdrawn ≡ drainingReply ∷ []
+  -- the machine that drains too briefly does so by two ticks
+  pub hurried-drain : drainAt (hurried (toWithdraw 5) (outcome (granted 0 0) freshRecord []) .port) 5 + 2 ≡ leastQueues

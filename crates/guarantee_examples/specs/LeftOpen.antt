@@ -170,11 +170,15 @@ aloneCalls =
     ∷ ticking
     ∷ []
 
-abbrev pub aloneWith : Reply → Reply → Reply → Reply → List Event
-aloneWith first second third fourth =
-    replied (opening (terms 1742 3)) (granted 200 0)
-    ∷ replied (reserving 6 200) (granted 0 0)
-    ∷ replied (binding 6 address 100) (granted 0 0)
+abbrev pub aloneOpening : List Event
+aloneOpening = replied (opening (terms 1742 3)) (granted 200 0) ∷ []
+
+abbrev pub aloneGrant : Event
+aloneGrant = replied (reserving 6 200) (granted 0 0)
+
+abbrev pub aloneLater : Reply → Reply → Reply → Reply → List Event
+aloneLater first second third fourth =
+    replied (binding 6 address 100) (granted 0 0)
     ∷ replied (arriving 6 200 1) first
     ∷ replied (arriving 6 200 2) second
     ∷ replied (joiningBestEffort 300 9) (granted 300 0)
@@ -183,6 +187,9 @@ aloneWith first second third fourth =
     ∷ replied ticking (granted 0 0)
     ∷ replied ticking (granted 1 200)
     ∷ []
+
+abbrev pub aloneWith : Reply → Reply → Reply → Reply → List Event
+aloneWith first second third fourth = aloneOpening ++ (aloneGrant ∷ aloneLater first second third fourth)
 
 -- its own events, from its grant on
 abbrev pub aloneOwn : List StreamEvent

@@ -2,5 +2,8 @@
 pub mod Examples
 pub mod Shown
 pub mod LeftOpen
+pub mod Withdrawn
 pub mod AddUp
 pub mod Derived
+pub mod WithdrawnShown
+pub mod DrainingSays

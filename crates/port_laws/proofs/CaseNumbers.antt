@@ -14,7 +14,7 @@ use Rattle.stream.specs.Alone.{StreamEvent, arrival, tick, replies}
 use Rattle.ranges.specs.Ranges.{shareOf}
 use Rattle.header.specs.Header.{chargeOf}
 use Rattle.steps.specs.Call.{Call, opening, reserving, withdrawing, arriving, ticking, transmitting, joiningBestEffort, binding, framing}
-use Rattle.port_laws.specs.Cases.{Case, c1, c2, c4, c5, sample, c7, c8, c9, c10, c12, caseTagged, framesCase}
+use Rattle.port_laws.specs.Cases.{Case, c1, c2, c4, c5, sample, c7, c8, c9, c10, c12, caseTagged, framesCase, withdrawCase}
 
 -- the reply that is expected to call number n of a case, and the rule's reply to arrival number n of a stream with P = 200
 abbrev expectedOf : Case → ℕ → Reply
@@ -73,6 +73,13 @@ sample-tag = refl
 -- K times what is not reserved of L is best effort's limit in C12
 c12-refusal : expectedOf c12 4 .refusal ≡ cond (ltb (1 * (2142 - 200)) (1542 + 400 + 84)) 16 0
 c12-refusal = refl
+
+-- a withdrawn stream's number is free after as many ticks as a port has queues, and its share with it
+drains-still : expectedOf withdrawCase (3 + 2 * (leastQueues - 1)) .refusal ≡ 25
+drains-still = refl
+
+free-then : expectedOf withdrawCase (3 + 2 * leastQueues) .first ≡ shareOf 2142 - 200
+free-then = refl
 
 -- a Frame's charge, to its stream and to best effort
 frame-left : expectedOf framesCase 3 .second ≡ byRule (arrival (chargeOf caseTagged) ∷ []) 0 .second

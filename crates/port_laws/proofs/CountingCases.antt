@@ -82,7 +82,7 @@ frame-action : octetsOf (actionOf (framing caseTagged 7)) ≡ 60
 frame-action = refl
 
 -- `countsAs`, on the front of a record in which stream 1 is bound to the case's pair: a Frame of that pair is an Arrive on the stream, one without a
--- VLAN tag is a Best effort, one that is too short is itself, and so is an Arrive
+-- VLAN tag is a Best effort, one that is too short is itself, and so are an Arrive and a Withdraw
 abbrev bound1 : List ℕ
 bound1 = withBinding (replicate 96 0) 1 caseAddress 100
 
@@ -100,6 +100,9 @@ short-frame-itself = refl
 
 arrive-itself : octetsOf (actionOf (countsAs bound1 (arriving 5 120 7))) ≡ 120
 arrive-itself = refl
+
+withdraw-itself : streamOf (actionOf (countsAs bound1 (withdrawing 5))) ≡ 5
+withdraw-itself = refl
 
 best-effort-itself : sortOf (actionOf (countsAs bound1 (joiningBestEffort 300 7))) ≡ 5
 best-effort-itself = refl

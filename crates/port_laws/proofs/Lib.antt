@@ -17,9 +17,12 @@ pub mod QuickLaws
 pub mod SameLength
 pub mod StayLaws
 pub mod BesideCalls
+pub mod TurnBeside
+pub mod DrainTick
 pub mod CasesHold
 pub mod GateNumbers
 pub mod FreshFit
 pub mod FramesHold
+pub mod WithdrawHolds
 pub mod CaseNumbers
 pub mod CountingCases

@@ -49,7 +49,7 @@ either G true x y g h = g
 either G false x y g h = h
 
 -- a stream's tick
-ticked-length : (s : ℕ) (l : List ℕ) → length (tickedAt s l) ≡ length l
+pub ticked-length : (s : ℕ) (l : List ℕ) → length (tickedAt s l) ≡ length l
 ticked-length s l =
     ticked-keeps (λ k. length k ≡ length l) s
     (λ k e. length-dropped k s ∙ e)

@@ -5,7 +5,7 @@ use mathlib.Core.List.{List, [], _∷_, _++_}
 use lib.ListN.{replicate}
 use Rattle.stream.specs.declared.Reply.{Reply}
 use Rattle.stream.specs.Replies.{granted, refusedBy}
-use Rattle.steps.specs.Call.{terms, Call, opening, reserving, arriving, ticking, transmitting, joiningBestEffort, binding, framing}
+use Rattle.steps.specs.Call.{terms, Call, opening, reserving, withdrawing, arriving, ticking, transmitting, joiningBestEffort, binding, framing}
 use Rattle.port.specs.Calls.{called}
 use Rattle.port_laws.specs.Lists.{replies, freshRecord, freshMemory}
 
@@ -100,6 +100,33 @@ framesCase =
     continued reservedCase
     (binding 5 caseAddress 100 ∷ framing caseTagged 7 ∷ framing (replicate {A = ℕ} 60 0) 8 ∷ [])
     (granted 0 0 ∷ granted 1 116 ∷ granted 84 0 ∷ [])
+
+-- a stream that is withdrawn and asked for again, at once and after each tick: "It drains until the fourth tick after the withdrawal"
+abbrev pub withdrawCase : Case
+withdrawCase =
+    continued reservedCase
+    (withdrawing 5
+    ∷ reserving 5 200
+    ∷ ticking
+    ∷ reserving 5 200
+    ∷ ticking
+    ∷ reserving 5 200
+    ∷ ticking
+    ∷ reserving 5 200
+    ∷ ticking
+    ∷ reserving 5 200
+    ∷ [])
+    (granted 0 0
+    ∷ refusedBy 25
+    ∷ granted 0 0
+    ∷ refusedBy 25
+    ∷ granted 0 0
+    ∷ refusedBy 25
+    ∷ granted 0 0
+    ∷ refusedBy 25
+    ∷ granted 0 0
+    ∷ granted 400 0
+    ∷ [])
 
 -- what the calls reply to a case
 abbrev pub repliesTo : Case → List Reply

@@ -12,3 +12,4 @@ pub mod BindingPairs
 pub mod BesideLaws
 pub mod PairLaws
 pub mod QueueCases
+pub mod DrainCases

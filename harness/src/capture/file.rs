@@ -31,6 +31,7 @@ pub fn record(event: &Call, next: u16) -> Record {
     let (stream, a, b) = match *event {
         Call::Open { link, delay } => (NO_STREAM, link, delay),
         Call::Reserve { stream, permitted } => (stream, permitted, 0),
+        Call::Withdraw { stream } => (stream, 0, 0),
         Call::Arrive { stream, charge, tag } => (stream, charge, tag),
         Call::BestEffort { charge, tag } => (STREAM_OF_BEST_EFFORT, charge, tag),
         Call::Tick | Call::Transmit => (NO_STREAM, 0, 0),

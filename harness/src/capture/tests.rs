@@ -59,6 +59,27 @@ fn every_kind_has_its_octets() {
     assert_eq!(record(&Call::BestEffort { charge: large, tag: 7 }, 2), [4, 255, 0, 2, 1, 2, 3, 4, 0, 0, 0, 7, 0, 0, 0, 0]);
     assert_eq!(record(&Call::Tick, 3), [5, 0, 0, 3, 0, 0, 0, 0, 0, 0, 0, 0, 0, 0, 0, 0]);
     assert_eq!(record(&Call::Transmit, 4), [6, 0, 0, 4, 0, 0, 0, 0, 0, 0, 0, 0, 0, 0, 0, 0]);
+    assert_eq!(record(&Call::Withdraw { stream: 255 }, 5), [7, 255, 0, 5, 0, 0, 0, 0, 0, 0, 0, 0, 0, 0, 0, 0]);
+}
+
+#[test]
+fn a_withdrawal_is_read_and_written() {
+    let records =
+        [record(&Call::Withdraw { stream: 0 }, 2), record(&Call::Withdraw { stream: 63 }, 3), record(&Call::Withdraw { stream: 64 }, 1)];
+    let capture = [&[header([1, 0, 0, 0])][..], &records].concat().concat();
+    exact(&capture, "port 0\nwithdraw 0\nwithdraw 63\nwithdraw 64 next 1\n");
+}
+
+#[test]
+fn a_withdrawal_with_a_number_is_octets() {
+    let withdrawal = record(&Call::Withdraw { stream: 5 }, 0);
+    for (at, digits) in
+        [(7, "07050000000000010000000000000000"), (11, "07050000000000000000000100000000"), (4, "07050000010000000000000000000000")]
+    {
+        let mut bad = withdrawal;
+        bad[at] = 1;
+        exact(&[header([1, 0, 0, 0]), bad].concat(), &format!("port 0\noctets {digits}\n"));
+    }
 }
 
 #[test]
@@ -119,8 +140,8 @@ fn an_index_outright_may_come_anywhere_and_digits_in_either_case() {
 
 #[test]
 fn a_next_index_that_is_said_stays_within_a_run() {
-    let bad = [7, 0, 0, 1, 0, 0, 0, 0, 0, 0, 0, 0, 0, 0, 0, 0];
-    let text = "port 0\ntick next 3\noctets 07000001000000000000000000000000\ntransmit\ntick";
+    let bad = [8, 0, 0, 1, 0, 0, 0, 0, 0, 0, 0, 0, 0, 0, 0, 0];
+    let text = "port 0\ntick next 3\noctets 08000001000000000000000000000000\ntransmit\ntick";
     let records = [header([1, 0, 0, 0]), record(&Call::Tick, 3), bad, record(&Call::Transmit, 4), record(&Call::Tick, 0)];
     assert_eq!(written(text), records.concat());
 }
@@ -155,7 +176,13 @@ fn captures_with_few_octets_changed_come_back() {
 
 /// A capture of few records with any indices, most often good ones.
 fn any_capture(random: &mut Random) -> Vec<Record> {
-    let events = [Call::Tick, Call::Arrive { stream: 5, charge: 84, tag: 7 }, Call::Open { link: 2_142, delay: 1 }, Call::Transmit];
+    let events = [
+        Call::Tick,
+        Call::Arrive { stream: 5, charge: 84, tag: 7 },
+        Call::Open { link: 2_142, delay: 1 },
+        Call::Transmit,
+        Call::Withdraw { stream: 5 },
+    ];
     let count = random.between(1..=9) as u16;
     let mut records = vec![header([0; PORTS].map(|_| random.below(usize::from(count) + 3) as u16))];
     for index in 1..=count {
@@ -188,6 +215,11 @@ fn bad_text_gets_its_line_and_what_is_wrong() {
         ("port 0\narrive 5 4294967296 7", "line 2: '4294967296' is not a charge, which is a number from 0 to 4294967295"),
         ("port 0\nreserve 5 +200", "line 2: '+200' is not a P, which is a number from 0 to 4294967295"),
         ("port 0\nreserve 5 -1", "line 2: '-1' is not a P, which is a number from 0 to 4294967295"),
+        ("port 0\nwithdraw", "line 2: a stream is missing"),
+        ("port 0\nwithdraw 5 200", "line 2: '200' is one word too many"),
+        ("port 0\nwithdraw 256", "line 2: '256' is not a stream, which is a number from 0 to 255"),
+        ("port 0\nwithdraw next 2", "line 2: 'next' is not a stream, which is a number from 0 to 255"),
+        ("port 0\nwithdraw 5 next", "line 2: a next index is missing"),
         ("port 0\ntick 7", "line 2: '7' is one word too many"),
         ("port 0\ntick next", "line 2: a next index is missing"),
         ("port 0\ntick next 65536", "line 2: '65536' is not a next index, which is a number from 0 to 65535"),

@@ -1,6 +1,7 @@
 //! The words of one line of the text form, taken one after another.
 
-use std::str::SplitWhitespace;
+use std::fmt::Display;
+use std::str::{FromStr, SplitWhitespace};
 
 /// Begins the line of a run of records at whose front the named ports start.
 pub const PORT: &str = "port";
@@ -36,7 +37,7 @@ impl<'a> Words<'a> {
     }
 
     /// A number up to the greatest, the next word; `what` is its name with an article.
-    pub fn number(&mut self, what: &str, greatest: u32) -> Result<u32, String> {
+    pub fn number<Number: FromStr + PartialOrd + Display>(&mut self, what: &str, greatest: Number) -> Result<Number, String> {
         let word = self.word().ok_or_else(|| format!("{what} is missing"))?;
         number(word, what, greatest)
     }
@@ -67,8 +68,8 @@ impl<'a> Words<'a> {
 }
 
 /// A word as a number up to the greatest, written in digits alone.
-pub fn number(word: &str, what: &str, greatest: u32) -> Result<u32, String> {
+pub fn number<Number: FromStr + PartialOrd + Display>(word: &str, what: &str, greatest: Number) -> Result<Number, String> {
     let digits = word.bytes().all(|octet| octet.is_ascii_digit());
-    let number = word.parse().ok().filter(|&number| digits && number <= greatest);
+    let number = word.parse().ok().filter(|number| digits && *number <= greatest);
     number.ok_or_else(|| format!("'{word}' is not {what}, which is a number from 0 to {greatest}"))
 }

@@ -173,7 +173,7 @@ impl Capture {
 
 /// The event that a line names by its first word.
 pub fn event(word: &str, words: &mut Words) -> Result<Call, String> {
-    let stream = |words: &mut Words| words.number("a stream", u32::from(u8::MAX)).map(|stream| stream as u8);
+    let stream = |words: &mut Words| words.number("a stream", u8::MAX);
     let charge = |words: &mut Words| words.number("a charge", u32::MAX);
     let tag = |words: &mut Words| words.number("a tag", u32::MAX);
     Ok(match word {
@@ -186,6 +186,7 @@ pub fn event(word: &str, words: &mut Words) -> Result<Call, String> {
         },
         "tick" => Call::Tick,
         "transmit" => Call::Transmit,
+        "withdraw" => Call::Withdraw { stream: stream(words)? },
         other => return Err(format!("'{other}' begins no line")),
     })
 }

@@ -4,10 +4,10 @@
 //! Times are exact. They count from the first packet in parts of a nanosecond, of which it has L. So an epoch has as many parts as its nanoseconds
 //! times L; and since the link carries L octets in an epoch, a frame keeps it busy for its charge times the epoch's nanoseconds.
 //!
-//! Where several things happen at one time, the tick comes first, since what happens just at an epoch's end is in the next one; then the transmit of
-//! a link that became free, then the packets. An idle link transmits right after each packet, and right after each tick, which may have made a frame
-//! current. So between two ticks some transmit sends no reserved frame, or all but less than 1,542 octets of the epoch, the share, is used for
-//! reserved frames: the link condition of demand 3.
+//! Where several things happen at one time, the tick comes first, since what happens just at an epoch's end is in the next one; then the transmit
+//! of a link that became free, then the withdrawals, then the packets. An idle link transmits right after each packet, and right after each tick,
+//! which may have made a frame current. So between two ticks some transmit sends no reserved frame, or all but less than 1,542 octets of the epoch,
+//! the share, is used for reserved frames: the link condition of demand 3.
 
 use crate::call::Call;
 use crate::capture::file::MOST_RECORDS;
@@ -44,11 +44,6 @@ impl Link {
         Link { port: plan.port, events: plan.calls, epoch: plan.epoch.into(), link, ticks: 0, due: None }
     }
 
-    /// The port as it is.
-    pub fn port(&self) -> &Port {
-        &self.port
-    }
-
     /// The events so far.
     pub fn events(&self) -> &[Call] {
         &self.events
@@ -59,30 +54,43 @@ impl Link {
         self.ticks
     }
 
-    /// A call that a packet brings, so many nanoseconds after the first packet and not before the last call.
-    pub fn bring(&mut self, nanoseconds: u64, call: Call) -> Result<(), Full> {
+    /// The call that a frame becomes, so many nanoseconds after the first packet and not before the last call; it is handed on.
+    pub fn bring(&mut self, nanoseconds: u64, octets: &[u8], tag: u32) -> Result<Call, Full> {
         self.go_on(nanoseconds)?;
+        let call = rule::becomes(&self.port, octets, tag);
         self.play(&call)?;
         self.due.get_or_insert(Parts::from(nanoseconds) * self.link);
-        Ok(())
+        Ok(call)
+    }
+
+    /// The withdrawal of a stream, so many nanoseconds after the first packet and not before the last call.
+    pub fn withdraw(&mut self, nanoseconds: u64, stream: u8) -> Result<(), Full> {
+        self.go_on(nanoseconds)?;
+        self.play(&Call::Withdraw { stream })
     }
 
     /// The ticks and transmits up to a time, those of the time itself among them.
     fn go_on(&mut self, nanoseconds: u64) -> Result<(), Full> {
         let time = Parts::from(nanoseconds) * self.link;
-        loop {
-            let (at, call) = self.next();
-            if at > time {
-                return Ok(());
-            }
+        while let Some((at, call)) = Some(self.next()).filter(|(at, _)| *at <= time) {
             self.step(at, &call)?;
         }
+        Ok(())
     }
 
     /// The ticks and transmits until no frame waits.
     pub fn send_all(&mut self) -> Result<(), Full> {
-        while self.frames() > 0 {
-            let (at, call) = self.next();
+        self.send_until(Parts::MAX)
+    }
+
+    /// The ticks and transmits until no frame waits, or up to a time where one still does.
+    pub fn send_up_to(&mut self, nanoseconds: u64) -> Result<(), Full> {
+        self.send_until(Parts::from(nanoseconds) * self.link)
+    }
+
+    /// The ticks and transmits up to a time while frames wait.
+    fn send_until(&mut self, time: Parts) -> Result<(), Full> {
+        while let Some((at, call)) = Some(self.next()).filter(|(at, _)| *at <= time && self.frames() > 0) {
             self.step(at, &call)?;
         }
         Ok(())

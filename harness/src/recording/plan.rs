@@ -1,5 +1,5 @@
-//! Reads a plan: the text that gives the epoch's length, L and K, the reservations and the bindings. What Open, Reserve or Bind would refuse is told
-//! with its line and number.
+//! Reads a plan: the text that gives the epoch's length, L and K, the reservations, the bindings, and when streams are withdrawn. What Open, Reserve,
+//! Bind or Withdraw would refuse is told with its line and number.
 
 use crate::call::{Call, Reply, ADDRESS_OCTETS};
 use crate::capture::lines::{self, BadText};
@@ -16,6 +16,8 @@ const OPEN: &str = "open";
 const RESERVE: &str = "reserve";
 /// Begins the line of a binding.
 const BIND: &str = "bind";
+/// Begins the line of a withdrawal.
+const WITHDRAW: &str = "withdraw";
 /// Stands between the octets of an address.
 const BETWEEN_OCTETS: char = ':';
 /// The base of an octet's digits, and how many it has.
@@ -31,6 +33,15 @@ pub struct Plan {
     pub calls: Vec<Call>,
     /// The port after them and the bindings.
     pub port: Port,
+    /// The withdrawals, by their times.
+    pub withdrawals: Vec<Withdrawal>,
+}
+
+/// That a stream is withdrawn, so many nanoseconds after the first packet.
+#[derive(Clone, Copy, Debug, PartialEq, Eq)]
+pub struct Withdrawal {
+    pub time: u64,
+    pub stream: u8,
 }
 
 /// The plan as far as the lines went.
@@ -38,11 +49,12 @@ struct Reading {
     epoch: Option<u32>,
     calls: Vec<Call>,
     port: Port,
+    withdrawals: Vec<Withdrawal>,
 }
 
 /// The plan of a text.
 pub fn read(text: &[u8]) -> Result<Plan, BadText> {
-    let mut reading = Reading { epoch: None, calls: Vec::new(), port: Port::closed() };
+    let mut reading = Reading { epoch: None, calls: Vec::new(), port: Port::closed(), withdrawals: Vec::new() };
     let last = lines::each(text, |words| reading.line(words))?;
     reading.ended().map_err(|what| BadText { line: last.max(1), what })
 }
@@ -55,6 +67,7 @@ impl Reading {
             EPOCH => self.epoch(words)?,
             OPEN | RESERVE => self.call(event(word, words)?)?,
             BIND => self.bind(words)?,
+            WITHDRAW => self.withdraw(words)?,
             other => return Err(format!("'{other}' begins no line of a plan")),
         }
         words.end()?;
@@ -82,10 +95,23 @@ impl Reading {
 
     /// A binding.
     fn bind(&mut self, words: &mut Words) -> Result<(), String> {
-        let stream = words.number("a stream", u8::MAX.into())? as u8;
+        let stream = words.number("a stream", u8::MAX)?;
         let address = address(words.word().ok_or("an address is missing")?)?;
         let vid = words.number("a VID", u32::MAX)?;
         self.granted(&Call::Bind { stream, address, vid })
+    }
+
+    /// A withdrawal, which comes later than all else: it fails where it would be refused after the calls and withdrawals of the lines before.
+    fn withdraw(&mut self, words: &mut Words) -> Result<(), String> {
+        let stream = words.number("a stream", u8::MAX)?;
+        let time = words.number("a time", u64::MAX)?;
+        let mut later = self.port.clone();
+        for Withdrawal { stream, .. } in &self.withdrawals {
+            rule::step(&Call::Withdraw { stream: *stream }, &mut later);
+        }
+        granted(rule::step(&Call::Withdraw { stream }, &mut later))?;
+        self.withdrawals.push(Withdrawal { time, stream });
+        Ok(())
     }
 
     /// Plays a call, which fails where it is refused.
@@ -94,10 +120,11 @@ impl Reading {
     }
 
     /// The plan, once no line follows.
-    fn ended(self) -> Result<Plan, String> {
+    fn ended(mut self) -> Result<Plan, String> {
         let epoch = self.epoch.ok_or("no line before the end gives the epoch's length")?;
+        self.withdrawals.sort_by_key(|withdrawal| withdrawal.time);
         match self.port.is_open() {
-            true => Ok(Plan { epoch, calls: self.calls, port: self.port }),
+            true => Ok(Plan { epoch, calls: self.calls, port: self.port, withdrawals: self.withdrawals }),
             false => Err(String::from("no line before the end opens the port")),
         }
     }

@@ -1,4 +1,4 @@
-//! What became of a recording's packets, in numbers and in words.
+//! What became of a recording's packets, and of the plan's withdrawals, in numbers and in words.
 
 use std::fmt;
 
@@ -31,6 +31,8 @@ pub struct Report {
     pub earlier: Packets,
     /// How many frames still wait in a capture that has no room for the transmits.
     pub waiting: usize,
+    /// The streams whose withdrawal comes after the end of the capture.
+    pub not_withdrawn: Vec<u8>,
     /// The epochs of the capture, the last one included.
     pub epochs: u64,
     pub events: usize,
@@ -47,9 +49,9 @@ impl Packets {
 }
 
 impl Report {
-    /// Whether every packet is in the capture, and every frame that waits there is sent.
+    /// Whether every packet and withdrawal is in the capture, and every frame that waits there is sent.
     pub fn is_whole(&self) -> bool {
-        self.refused.count == 0 && self.left_out.count == 0 && self.waiting == 0
+        self.refused.count == 0 && self.left_out.count == 0 && self.waiting == 0 && self.not_withdrawn.is_empty()
     }
 }
 
@@ -65,7 +67,7 @@ impl fmt::Display for Packets {
 /// A line for each thing of which there is something to tell, and one that sums up.
 impl fmt::Display for Report {
     fn fmt(&self, f: &mut fmt::Formatter<'_>) -> fmt::Result {
-        let Report { packets, arrivals, best_effort, refused, left_out, padded, earlier, waiting, epochs, events } = self;
+        let Report { packets, arrivals, best_effort, refused, left_out, padded, earlier, waiting, not_withdrawn, epochs, events } = self;
         let told = [
             ("padded to 60 octets", padded),
             ("refused with 17, outside 60 to 1,518 octets, and not in the capture", refused),
@@ -79,6 +81,10 @@ impl fmt::Display for Report {
         }
         if *waiting > 0 {
             writeln!(f, "{waiting} accepted and not sent, since a capture has at most {MOST_RECORDS} events")?;
+        }
+        if !not_withdrawn.is_empty() {
+            let named: Vec<String> = not_withdrawn.iter().map(|stream| format!("stream {stream}")).collect();
+            writeln!(f, "{} not withdrawn, since the capture ends before: {}", not_withdrawn.len(), named.join(", "))?;
         }
         write!(f, "packets {packets}: arrivals {arrivals}, best effort {best_effort}, refused {}, ", refused.count)?;
         write!(f, "left out {}; padded {}, epochs {epochs}, events {events}", left_out.count, padded.count)

@@ -1,6 +1,6 @@
-//! The tool that makes the capture of a recording under a plan. Status 0 says that all packets are in the capture; 1 that plan or recording is bad,
-//! or that reading or writing failed, and then nothing is written; 2 that the command line is wrong; 3 that the capture was written and something is
-//! not in it, which the report tells.
+//! The tool that makes the capture of a recording under a plan. Status 0 says that all packets and withdrawals are in the capture; 1 that plan or
+//! recording is bad, or that reading or writing failed, and then nothing is written; 2 that the command line is wrong; 3 that the capture was written
+//! and something is not in it, which the report tells.
 
 use std::fs;
 use std::io::{BufReader, Read, Write};
@@ -12,7 +12,7 @@ use crate::recording::{plan, turning};
 
 /// How the tool is called.
 const USAGE: &str = "usage: recording PLAN < RECORDING > CAPTURE";
-/// The status where all packets are in the capture.
+/// The status where all packets and withdrawals are in the capture.
 const WHOLE: u8 = 0;
 /// The status where nothing is written.
 const FAILED: u8 = 1;

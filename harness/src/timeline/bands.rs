@@ -1,12 +1,14 @@
 //! Where everything of a port stands in the picture. Each event has a column. The columns stand in bands, one below the other like lines of music; a
-//! band has the strip of the epochs, the headings of its columns, and a row for the link, for each queue's role, and for what is refused, if anything
-//! is. Where frames wait as a band begins, it has a column more, in which they stand again.
+//! band has the strip of the epochs, the headings of its columns, and a row for the link, for each queue's role, for the withdrawn streams, if one
+//! drains, and for what is refused, if anything is. Where frames wait or streams drain as a band begins, it has a column more, in which they stand
+//! again.
 
 use std::array;
 use std::ops::RangeInclusive;
 
 use crate::call::{Call, Reply};
 use crate::model::port::QUEUES;
+use crate::timeline::draining::Drain;
 use crate::timeline::following::{Came, Stay};
 use crate::timeline::look::{
     Palette, ABOVE_LANES, BESIDE_BOX, BESIDE_SENT, BOX, EPOCHS, HEADING_LINE, LANE, MARGIN, NAMES, TWO_LINES, WIDEST,
@@ -18,12 +20,14 @@ use crate::timeline::svg::{Area, Point};
 pub struct Band {
     /// The numbers of its events.
     pub events: RangeInclusive<usize>,
-    /// Whether frames wait as it begins.
+    /// Whether frames wait or streams drain as it begins.
     pub carries: bool,
     /// Whether one of its events is refused.
     pub refuses: bool,
     /// How many lanes each role has.
     lanes: [usize; QUEUES],
+    /// How many lanes the withdrawn streams have; none where no stream drains.
+    pub drain_lanes: usize,
     /// How many lines its headings have.
     lines: usize,
     /// The width of a column.
@@ -36,6 +40,7 @@ pub struct Band {
 pub struct Scene<'a> {
     pub events: &'a [(Call, Reply)],
     pub stays: &'a [Stay],
+    pub drains: &'a [Drain],
     pub palette: &'a Palette,
     /// How many lines the headings have.
     pub lines: usize,
@@ -76,15 +81,22 @@ impl Band {
     /// The band of some events, from where it begins.
     pub fn new(scene: &Scene, events: RangeInclusive<usize>, top: i32) -> Band {
         let stays = || scene.stays.iter().filter(|stay| events.contains(&stay.from));
-        let carries = stays().any(|stay| stay.came == Came::Carried);
+        let drains = || scene.drains.iter().filter(|drain| events.contains(&drain.from));
+        let carries = stays().any(|stay| stay.came == Came::Carried) || drains().any(|drain| drain.carried);
         let refuses = scene.events[events.start() - 1..*events.end()].iter().any(|(_, reply)| reply.refusal != 0);
         let lanes = array::from_fn(|role| stays().filter(|stay| stay.role == role).map(|stay| stay.lane + 1).fold(1, usize::max));
-        Band { events, carries, refuses, lanes, lines: scene.lines, column: scene.column, top }
+        let drain_lanes = drains().map(|drain| drain.lane + 1).fold(0, usize::max);
+        Band { events, carries, refuses, lanes, drain_lanes, lines: scene.lines, column: scene.column, top }
     }
 
     /// The stays that are in the band, in which they then begin.
     pub fn stays<'a>(&'a self, scene: &'a Scene) -> impl Iterator<Item = &'a Stay> {
         scene.stays.iter().filter(|stay| self.events.contains(&stay.from))
+    }
+
+    /// The withdrawn streams that are in the band, in which they then begin.
+    pub fn drains<'a>(&'a self, scene: &'a Scene) -> impl Iterator<Item = &'a Drain> {
+        scene.drains.iter().filter(|drain| self.events.contains(&drain.from))
     }
 
     /// Where the columns begin, that of the frames which wait as the band begins among them.
@@ -133,9 +145,15 @@ impl Band {
         self.row(self.link().bottom() + heights[..role].iter().sum::<i32>(), heights[role])
     }
 
+    /// The row of the withdrawn streams, without a height where none drains.
+    pub fn draining(&self) -> Area {
+        let height = if self.drain_lanes > 0 { self.drain_lanes as i32 * LANE + 2 * ABOVE_LANES } else { 0 };
+        self.row(self.queue(QUEUES - 1).bottom(), height)
+    }
+
     /// The row of what is refused.
     pub fn refused(&self) -> Area {
-        self.row(self.queue(QUEUES - 1).bottom(), TWO_LINES)
+        self.row(self.draining().bottom(), TWO_LINES)
     }
 
     /// Where the band ends below.
@@ -143,21 +161,34 @@ impl Band {
         if self.refuses {
             self.refused().bottom()
         } else {
-            self.queue(QUEUES - 1).bottom()
+            self.draining().bottom()
         }
     }
 
     /// The box of a frame in a stay: in the column of the event by which it came, or where it stands again.
     pub fn frame(&self, stay: &Stay) -> Area {
-        let column = if stay.came == Came::Carried { stay.from - 1 } else { stay.from };
-        let left = self.column_at(column) + BESIDE_BOX;
-        let top = self.lane(stay) - BOX / 2;
-        Area { left, top, width: self.column - 2 * BESIDE_BOX, height: BOX }
+        self.boxed(stay.from, stay.came == Came::Carried, self.lane(stay))
+    }
+
+    /// The box of a withdrawn stream: in the column of the withdrawal or tick, or where it stands again.
+    pub fn drain(&self, drain: &Drain) -> Area {
+        self.boxed(drain.from, drain.carried, self.lane_in(self.draining(), drain.lane))
+    }
+
+    /// A box in an event's column, or in the one before where something stands again, with its middle at a height.
+    fn boxed(&self, event: usize, again: bool, middle: i32) -> Area {
+        let left = self.column_at(event - usize::from(again)) + BESIDE_BOX;
+        Area { left, top: middle - BOX / 2, width: self.column - 2 * BESIDE_BOX, height: BOX }
     }
 
     /// The middle of a stay's lane.
     pub fn lane(&self, stay: &Stay) -> i32 {
-        self.queue(stay.role).top + ABOVE_LANES + LANE * stay.lane as i32 + LANE / 2
+        self.lane_in(self.queue(stay.role), stay.lane)
+    }
+
+    /// The middle of a lane of a row.
+    fn lane_in(&self, row: Area, lane: usize) -> i32 {
+        row.top + ABOVE_LANES + LANE * lane as i32 + LANE / 2
     }
 
     /// The box of two lines in a row and an event's column.

@@ -1,5 +1,5 @@
 //! Draws a band of a port: the epochs and the ticks between them, the rows with their names, the headings, what the link sends and what is refused.
-//! The frames that wait are drawn by `frames`.
+//! The frames that wait are drawn by `frames`, the streams that drain by `draining`.
 
 use std::ops::Range;
 
@@ -8,22 +8,24 @@ use crate::model::port::{BEST_EFFORT_STREAM, NOTHING};
 use crate::timeline::bands::{Band, Scene};
 use crate::timeline::look::{BESIDE_BOX, BESIDE_EPOCH, CROSSED, FAINT, HEADING_LINE, NAME, NONE, NOTE, RED, REFUSAL, SHADE, TICK};
 use crate::timeline::svg::{Area, Letters, Point, Side, Svg, FOOT};
-use crate::timeline::{frames, headings, words};
+use crate::timeline::{draining, frames, headings, words};
 
 /// Draws a band.
 pub fn draw(svg: &mut Svg, scene: &Scene, band: &Band) {
-    let epochs = headings::epochs(scene.events);
+    let (epochs, notes) = (headings::epochs(scene.events), draining::notes(scene.events));
     put_epochs(svg, band, &epochs);
     put_rows(svg, band);
     frames::put_bars(svg, scene, band);
+    draining::put_bars(svg, scene, band);
     put_ticks(svg, scene, band);
     for event in band.events.clone() {
-        put_event(svg, scene, band, event);
+        put_event(svg, scene, band, event, &notes[event - 1]);
     }
     if band.carries {
         svg.text(band.heading(band.first_column(), 0), Side::Middle, NONE, "waiting");
     }
     frames::put_frames(svg, scene, band);
+    draining::put_boxes(svg, scene, band);
 }
 
 /// The strip of the epochs, and a shade over every second one.
@@ -56,6 +58,9 @@ fn put_rows(svg: &mut Svg, band: &Band) {
     for (role, name) in words::ROLES.iter().enumerate() {
         put_row(svg, band.queue(role), name, NAME);
     }
+    if band.drain_lanes > 0 {
+        put_row(svg, band.draining(), draining::DRAINING, NAME);
+    }
     if band.refuses {
         put_row(svg, band.refused(), "refused", Letters { colour: RED, ..NAME });
     }
@@ -75,10 +80,10 @@ fn put_ticks(svg: &mut Svg, scene: &Scene, band: &Band) {
     }
 }
 
-/// The heading of an event's column, what it sends, and what it refuses.
-fn put_event(svg: &mut Svg, scene: &Scene, band: &Band, event: usize) {
+/// The heading of an event's column, what it sends, and what it refuses; a note stands behind the words that show when a pointer rests on it.
+fn put_event(svg: &mut Svg, scene: &Scene, band: &Band, event: usize, note: &str) {
     let (call, reply) = &scene.events[event - 1];
-    svg.titled(&words::event(event, call, reply), |svg| {
+    svg.titled(&(words::event(event, call, reply) + note), |svg| {
         svg.text(band.heading(event, 0), Side::Middle, NAME, &event.to_string());
         for (before, (line, letters)) in headings::lines(call, reply).into_iter().enumerate() {
             svg.text(band.heading(event, before + 1), Side::Middle, letters, &line);

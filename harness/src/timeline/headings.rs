@@ -21,6 +21,7 @@ pub fn asked(call: &Call) -> (&'static str, Vec<String>) {
         Call::BestEffort { charge, .. } => (words::BEST_EFFORT, vec![format!("charge {charge}")]),
         Call::Tick => ("tick", vec![]),
         Call::Transmit => ("transmit", vec![]),
+        Call::Withdraw { stream } => ("withdraw", vec![format!("stream {stream}")]),
         Call::Bind { .. } | Call::Frame { .. } => unreachable!("no event of a capture is a Bind or a Frame"),
     }
 }

@@ -5,6 +5,7 @@ use std::collections::BTreeSet;
 use crate::call::{Call, Reply};
 use crate::model::port::{Frame, BEST_EFFORT_STREAM};
 use crate::model::refusal;
+use crate::timeline::draining::{self, Drain};
 use crate::timeline::drawing::put_crossed;
 use crate::timeline::following::{Stay, Went};
 use crate::timeline::frames::{label, put_bar, put_box, put_purged};
@@ -45,6 +46,8 @@ pub struct Marks {
     purges: bool,
     /// Whether a frame still waits where a bar ends.
     waits: bool,
+    /// A withdrawn stream.
+    drain: Option<Drain>,
     /// The numbers of the refusals.
     refusals: BTreeSet<u8>,
     /// The notes, by their place.
@@ -52,11 +55,12 @@ pub struct Marks {
 }
 
 /// A mark.
-#[derive(Clone, Copy, Debug, PartialEq, Eq)]
+#[derive(Clone, Debug, PartialEq, Eq)]
 enum Mark {
     Frame(Frame),
     Tick,
     Purge,
+    Drain(Drain),
     Refusal(u8),
     None,
 }
@@ -84,6 +88,11 @@ impl Marks {
         self.waits |= !ends || stay.went == Went::Carried;
     }
 
+    /// Adds that of a withdrawn stream of which something is shown.
+    pub fn add_drain(&mut self, drain: &Drain) {
+        self.drain.get_or_insert(drain.clone());
+    }
+
     /// Each mark with what it means, and the notes.
     fn meanings(&self) -> Vec<(Mark, String)> {
         let frames = [self.frame.map(of_stream), self.best_effort.map(of_best_effort)].into_iter().flatten();
@@ -95,6 +104,7 @@ impl Marks {
         if self.purges {
             meanings.push((Mark::Purge, String::from("purged: the tick throws away a frame that waits in prior")));
         }
+        meanings.extend(self.drain.clone().map(of_withdrawn));
         meanings.extend(self.refusals.iter().map(|&refusal| (Mark::Refusal(refusal), refused(refusal))));
         let waits = self.waits.then_some("a bar that reaches the right edge: the frame still waits");
         let notes: Vec<&str> = waits.into_iter().chain(self.notes.iter().map(|&note| NOTES[note])).collect();
@@ -117,6 +127,13 @@ fn of_best_effort(frame: Frame) -> (Mark, String) {
     (Mark::Frame(frame), format!("best-effort frame with tag {}, which no tick moves", frame.tag))
 }
 
+/// What the box of a withdrawn stream means.
+fn of_withdrawn(drain: Drain) -> (Mark, String) {
+    let what = "it takes no more frames, those that wait are sent, and its P still counts; after so many ticks it is free";
+    let stream = drain.stream;
+    (Mark::Drain(drain), format!("stream {stream} was withdrawn and drains: {what}"))
+}
+
 /// What a refusal means.
 fn refused(number: u8) -> String {
     let words = refusal::words(number).unwrap_or("no refusal's number");
@@ -129,7 +146,8 @@ fn refused(number: u8) -> String {
 /// Draws the legend below a height, as wide as the picture; the height below it.
 pub fn draw(svg: &mut Svg, palette: &Palette, marks: &Marks, top: i32, right: i32) -> i32 {
     let frames = [marks.frame, marks.best_effort].into_iter().flatten();
-    let wide = frames.map(|frame| width(&label(&frame), LABEL) + BESIDE_BOX).fold(MARK, i32::max);
+    let labels = frames.map(|frame| label(&frame)).chain(marks.drain.as_ref().map(draining::label));
+    let wide = labels.map(|label| width(&label, LABEL) + BESIDE_BOX).fold(MARK, i32::max);
     let left = MARGIN + wide + 3 * BESIDE_BOX;
     let mut top = top;
     for (mark, what) in marks.meanings() {
@@ -153,6 +171,7 @@ fn put_mark(svg: &mut Svg, palette: &Palette, mark: Mark, area: Area) {
         }
         Mark::Tick => svg.line(Point { x, y: area.top }, Point { x, y: area.bottom() }, TICK),
         Mark::Purge => put_purged(svg, area.middle()),
+        Mark::Drain(drain) => draining::put_box(svg, palette, area, &drain),
         Mark::Refusal(number) => {
             put_crossed(svg, area);
             svg.text_in(area, REFUSAL, &number.to_string());

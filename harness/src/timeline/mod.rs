@@ -1,9 +1,9 @@
 //! The picture of a port's events, for a reader who looks in which epoch a frame is sent and where a tick falls between two frames; and the same in
 //! words.
 //!
-//! `following` follows each frame by the replies, `headings` says what heads an event's column, `bands` where everything stands, `drawing` and
-//! `frames` draw it, `legend` tells what the marks mean, `page` puts it together, `look` has sizes and colours, `svg` the file's elements, `words`
-//! calls and replies in words. captures/README.md says what the tool is given and what it tells.
+//! `following` follows each frame by the replies, `draining` each withdrawn stream, `headings` says what heads an event's column, `bands` where
+//! everything stands, `drawing` and `frames` draw it, `legend` tells what the marks mean, `page` puts it together, `look` has sizes and colours,
+//! `svg` the file's elements, `words` calls and replies in words. captures/README.md says what the tool is given and what it tells.
 
 use std::fmt;
 use std::ops::RangeInclusive;
@@ -14,6 +14,7 @@ use crate::model::rule;
 use crate::timeline::page::Part;
 
 pub mod bands;
+pub mod draining;
 pub mod drawing;
 pub mod following;
 pub mod frames;

@@ -5,6 +5,7 @@ use std::ops::RangeInclusive;
 use crate::call::{Call, Reply};
 use crate::model::port::NOTHING;
 use crate::timeline::bands::{self, Band, Scene};
+use crate::timeline::draining::{self, Drain};
 use crate::timeline::drawing;
 use crate::timeline::following::{self, Came, Stay};
 use crate::timeline::legend::{self, Marks};
@@ -37,11 +38,13 @@ struct Page {
 pub fn picture(parts: &[Part], title: &str) -> Result<String, TooMany> {
     let stays: Vec<Vec<Stay>> = parts.iter().map(|part| following::stays(part.events, &[*part.shown.start()])).collect();
     let mut page = Page { svg: Svg::default(), palette: Palette::default(), marks: Marks::default(), top: MARGIN, width: NARROWEST };
+    let drains: Vec<Vec<Drain>> = parts.iter().map(|part| draining::drains(part.events, &[*part.shown.start()])).collect();
     stays.iter().flatten().for_each(|stay| page.palette.meet(stay.frame.stream));
+    drains.iter().flatten().for_each(|drain| page.palette.meet(drain.stream.into()));
     wrapped(title, TITLE, WIDEST - 2 * MARGIN).iter().for_each(|line| page.put_line(line, TITLE));
-    for (part, stays) in parts.iter().zip(&stays) {
+    for ((part, stays), drains) in parts.iter().zip(&stays).zip(&drains) {
         part.fits(stays)?;
-        page.put_part(part, stays);
+        page.put_part(part, stays, drains);
     }
     if parts.is_empty() {
         page.put_line("no events", PORT);
@@ -73,9 +76,10 @@ impl Part<'_> {
     }
 
     /// How wide a column must be for all that stands in one.
-    fn column(&self, stays: &[Stay]) -> i32 {
+    fn column(&self, stays: &[Stay], drains: &[Drain]) -> i32 {
         let boxes = stays.iter().filter(|stay| self.shown.contains(&stay.from)).map(|stay| frames::label(&stay.frame));
-        let boxes = boxes.map(|label| width(&label, LABEL) + 2 * (BESIDE_BOX + IN_BOX));
+        let drains = drains.iter().filter(|drain| self.shown.contains(&drain.from)).map(draining::label);
+        let boxes = boxes.chain(drains).map(|label| width(&label, LABEL) + 2 * (BESIDE_BOX + IN_BOX));
         let others = self.shown_events().iter().flat_map(|(call, reply)| texts(call, reply));
         let others = others.map(|(text, letters)| width(&text, letters) + 2 * IN_COLUMN);
         let epochs = headings::epochs(self.events);
@@ -115,19 +119,20 @@ impl Page {
         self.width = self.width.max(width(line, letters) + 2 * MARGIN);
     }
 
-    /// A port: its heading, and its bands. The stays are those without a band that begins after the first.
-    fn put_part(&mut self, part: &Part, stays: &[Stay]) {
+    /// A port: its heading, and its bands. Stays and drains are those without a band that begins after the first.
+    fn put_part(&mut self, part: &Part, stays: &[Stay], drains: &[Drain]) {
         self.put_line(&part.heading(), PORT);
         if part.shown.is_empty() {
             return;
         }
-        let column = part.column(stays);
-        let split = bands::split(&part.shown, stays.iter().any(|stay| stay.came == Came::Carried), column, &part.ticks());
+        let column = part.column(stays, drains);
+        let carries = stays.iter().any(|stay| stay.came == Came::Carried) || drains.iter().any(|drain| drain.carried);
+        let split = bands::split(&part.shown, carries, column, &part.ticks());
         let begins: Vec<usize> = split.iter().map(|events| *events.start()).collect();
-        let stays = following::stays(part.events, &begins);
-        self.mark(part, &stays);
+        let (stays, drains) = (following::stays(part.events, &begins), draining::drains(part.events, &begins));
+        self.mark(part, &stays, &drains);
         let lines = part.shown_events().iter().map(|(call, reply)| headings::lines(call, reply).len()).fold(0, usize::max) + 1;
-        let scene = Scene { events: part.events, stays: &stays, palette: &self.palette, lines, column };
+        let scene = Scene { events: part.events, stays: &stays, drains: &drains, palette: &self.palette, lines, column };
         for events in split {
             let band = Band::new(&scene, events, self.top);
             drawing::draw(&mut self.svg, &scene, &band);
@@ -137,10 +142,11 @@ impl Page {
     }
 
     /// Marks what is shown of a port for the legend.
-    fn mark(&mut self, part: &Part, stays: &[Stay]) {
+    fn mark(&mut self, part: &Part, stays: &[Stay], drains: &[Drain]) {
         part.shown_events().iter().for_each(|(call, reply)| self.marks.add_event(call, reply));
         let shown = stays.iter().filter(|stay| part.shown.contains(&stay.from));
         shown.for_each(|stay| self.marks.add_stay(stay, part.shown.contains(&stay.to)));
+        drains.iter().filter(|drain| part.shown.contains(&drain.from)).for_each(|drain| self.marks.add_drain(drain));
     }
 
     /// The file, once the legend stands below the ports.

@@ -8,7 +8,7 @@ use crate::capture::words::number;
 use crate::command_line::WRONG_WORDS;
 use crate::model::capture::{self, MOST_OCTETS, PORTS};
 use crate::timeline::page::{picture, Part};
-use crate::timeline::{replied, words, TooMany, MOST};
+use crate::timeline::{draining, replied, words, TooMany, MOST};
 
 /// How the tool is called.
 const USAGE: &str = "usage: timeline [--port PORT] [--from EVENT] [--to EVENT] [--title TEXT] [--words] < CAPTURE > PICTURE";
@@ -113,10 +113,14 @@ fn part<'a>(asked: &Asked, port: usize, events: &'a [(Call, Reply)]) -> Part<'a>
     Part { port, events, shown: asked.from..=asked.to.min(events.len()) }
 }
 
-/// The events of a port in words, a line for each, below a line for the port.
+/// The events of a port in words, a line for each, below a line for the port; a tick also says which streams still drain and which it frees.
 fn said(part: &Part) -> String {
-    let shown = part.shown.clone().map(|event| words::event(event, &part.events[event - 1].0, &part.events[event - 1].1) + "\n");
-    format!("port {}\n", part.port) + &shown.collect::<String>()
+    let notes = draining::notes(part.events);
+    let said = |event: usize| {
+        let (call, reply) = &part.events[event - 1];
+        words::event(event, call, reply) + &notes[event - 1] + "\n"
+    };
+    format!("port {}\n", part.port) + &part.shown.clone().map(said).collect::<String>()
 }
 
 /// What to do about a picture that would have too much.

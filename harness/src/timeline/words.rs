@@ -3,7 +3,7 @@
 
 use crate::call::{hexadecimal, Call, Reply};
 use crate::model::capture::Refused;
-use crate::model::port::{BEST_EFFORT_STREAM, CURRENT, LAST, NOTHING, QUEUES, STREAMS};
+use crate::model::port::{BEST_EFFORT_STREAM, CURRENT, DRAINING_TICKS, LAST, NOTHING, QUEUES, STREAMS};
 use crate::model::refusal;
 
 /// The roles of the queues by name: those of the reserved queues by place, prior before current, then best effort.
@@ -22,6 +22,7 @@ pub fn call(call: &Call) -> String {
         Call::BestEffort { charge, tag } => format!("{BEST_EFFORT}, charge {charge}, tag {tag}"),
         Call::Bind { stream, address, vid } => format!("bind stream {stream}, address {}, VID {vid}", hexadecimal(address)),
         Call::Frame { octets, tag } => format!("frame of {} octets, tag {tag}", octets.len()),
+        Call::Withdraw { stream } => format!("withdraw stream {stream}"),
     }
 }
 
@@ -47,8 +48,9 @@ pub fn refused_capture(refused: &Refused) -> String {
 
 /// "A refusal replies its number and two zeros", which is not a number of the capture writer's.
 fn refused(reply: &Reply) -> Option<String> {
-    let is_refusal = reply.refusal < refusal::CAPTURE_LENGTH && *reply == Reply::refused(reply.refusal);
-    is_refusal.then(|| refusal::told(reply.refusal))
+    let of_captures = refusal::CAPTURE_LENGTH..=refusal::CAPTURE_RECORD;
+    let of_calls = refusal::words(reply.refusal).is_some() && !of_captures.contains(&reply.refusal);
+    (of_calls && *reply == Reply::refused(reply.refusal)).then(|| refusal::told(reply.refusal))
 }
 
 /// What the two numbers of a granted call say, if they are numbers that it can reply.
@@ -63,6 +65,7 @@ fn granted(call: &Call, first: u32, second: u32) -> Option<String> {
         Call::Bind { .. } => (first == 0 && second == 0).then(|| String::from("binds")),
         // W after a frame has joined best effort is above every place.
         Call::Frame { .. } => joined(first, second).or_else(|| joined_best_effort(first, second)),
+        Call::Withdraw { .. } => (first == 0 && second == 0).then(|| format!("withdraws, drains for {DRAINING_TICKS} ticks")),
     }
 }
 
@@ -112,6 +115,7 @@ mod tests {
             Call::BestEffort { charge: 400, tag: 9 },
             Call::Bind { stream: 5, address: [1, 0, 0x5e, 0, 0, 5], vid: 10 },
             Call::Frame { octets: vec![0; 96].into(), tag: 7 },
+            Call::Withdraw { stream: 5 },
         ]
     }
 
@@ -138,6 +142,7 @@ mod tests {
         assert_eq!(said(&calls[6], 0, 0, 0), "6 bind stream 5, address 01 00 5e 00 00 05, VID 10: binds");
         assert_eq!(said(&calls[7], 0, 2, 100), "6 frame of 96 octets, tag 7: joins next, 100 left");
         assert_eq!(said(&calls[7], 0, 520, 0), "6 frame of 96 octets, tag 7: joins best effort, W 520");
+        assert_eq!(said(&calls[8], 0, 0, 0), "6 withdraw stream 5: withdraws, drains for 4 ticks");
     }
 
     #[test]
@@ -145,6 +150,7 @@ mod tests {
         let arrival = &calls()[2];
         assert_eq!(said(arrival, 14, 0, 0), "6 arrive on stream 5, charge 100, tag 8: refused with 14: discard");
         assert_eq!(said(&Call::Tick, 1, 0, 0), "6 tick: refused with 1: port closed");
+        assert_eq!(said(arrival, 25, 0, 0), "6 arrive on stream 5, charge 100, tag 8: refused with 25: stream draining");
         let refused = |refusal, index| refused_capture(&Refused { refusal, index });
         assert_eq!(refused(23, 4), "the capture is refused with 23: first or next index (record 4)");
         assert_eq!(refused(22, 0), "the capture is refused with 22: header letters or zero octets (the whole file or the header)");
@@ -159,6 +165,7 @@ mod tests {
         assert!(odd(&calls[0], 3, 600, 0) && odd(&calls[0], 0, 600, 1) && odd(&calls[1], 0, 400, 1));
         assert!(odd(&calls[2], 0, 0, 80) && odd(&calls[2], 0, 4, 80) && odd(&calls[5], 0, 400, 1) && odd(&calls[6], 0, 1, 0));
         assert!(odd(&calls[4], 0, 64, 7) && odd(&calls[4], 0, 254, 1) && odd(&calls[7], 0, 4, 1));
+        assert!(odd(&calls[8], 0, 400, 0) && odd(&calls[8], 0, 0, 1) && odd(&calls[8], 25, 1, 0) && odd(&calls[8], 26, 0, 0));
     }
 
     #[test]

@@ -1,14 +1,17 @@
-//! Random lists of calls through a port, held against the independent model: each reply in document 01's numbers, and after each call every octet of
+//! Random lists of calls through a port, held against the independent model: each reply in the rule's numbers, and after each call every octet of
 //! record and memory.
 
 use std::path::Path;
 
 use harness::call::{Call, Reply};
-use harness::comparing::calls::{Charges, Profile, Weights, ORDINARY};
+use harness::comparing::calls::{Charges, Profile, Weights, NEVER, ORDINARY};
 use harness::comparing::compared::Step;
-use harness::comparing::coverage::{prior_waits, Seen};
+use harness::comparing::coverage::{prior_waits, Asked, Seen};
+use harness::comparing::draining::{ending, Freed};
 use harness::comparing::fit::Octets;
-use harness::comparing::profiles::{self, any_profile, FEW_STREAMS, FULL_LINK, HARDLY_ANY_TRANSMITS, MANY_STREAMS, WRONG_ARGUMENTS};
+use harness::comparing::profiles::{
+    self, any_profile, FEW_STREAMS, FULL_LINK, HARDLY_ANY_TRANSMITS, MANY_STREAMS, WITHDRAWING, WRONG_ARGUMENTS,
+};
 use harness::comparing::random::Random;
 use harness::comparing::sides::Sides;
 use harness::comparing::test::Run;
@@ -67,17 +70,27 @@ fn withheld_transmits() -> Result<(), String> {
 /// Best effort of 256 frames and one more.
 #[test]
 fn best_effort_filled() -> Result<(), String> {
-    let weights = Weights { open: 0, reserve: 0, arrive: 0, tick: 1, transmit: 20, best_effort: 100, bind: 0, frame: 10, close: 0 };
+    let weights = Weights { tick: 1, transmit: 20, best_effort: 100, frame: 10, ..NEVER };
     let profile = Profile { weights, links: FULL_LINK..=FULL_LINK, charges: Charges::Least, ..ORDINARY };
     let run = play("best_effort_filled", 2, 700, |_| profile.clone())?;
     run.demand(&[(Seen::BestEffortFilled, 20), (Seen::Refused(15), 200), (Seen::FrameRefused(15), 10), (Seen::SentFromBestEffort, 100)])
+}
+
+/// Streams that are withdrawn again and again, drain and are reserved again, also right after the tick that frees them.
+#[test]
+fn withdrawn_streams() -> Result<(), String> {
+    let run = play("withdrawn_streams", 8, 800, |_| WITHDRAWING)?;
+    run.demand(&[(Seen::Withdrawn, 200), (Seen::Freed, 200), (Seen::FreedBound, 50), (Seen::FrameRefused(25), 50)])?;
+    run.demand(&[(Seen::GrantedAgain, 100), (Seen::GrantedAgainAtOnce, 25)])?;
+    let asked = [Asked::Reservation, Asked::Arrival, Asked::Binding, Asked::Withdrawal];
+    run.demand(&asked.map(|asked| (Seen::RefusedDraining(asked), 25)))
 }
 
 /// Every argument outside its range, at its ends and where fewer bits would hide it.
 #[test]
 fn arguments_out_of_range() -> Result<(), String> {
     let run = play("arguments_out_of_range", 12, 400, |_| WRONG_ARGUMENTS)?;
-    run.demand(&[5, 6, 7, 8, 9, 10, 11, 12, 13, 16, 17].map(|refusal| (Seen::Refused(refusal), 3)))
+    run.demand(&[5, 6, 7, 8, 9, 10, 11, 12, 13, 16, 17, 25].map(|refusal| (Seen::Refused(refusal), 3)))
 }
 
 /// Everything, with other weights in each list.
@@ -111,10 +124,11 @@ fn once_opened(profile: Profile) -> Profile {
     Profile { weights: Weights { open: 0, close: 0, ..profile.weights }, ..profile }
 }
 
-/// A port, and the octets that the model leaves of the same calls.
+/// A port, and the octets that the model leaves of the same calls; and the streams that ticks have freed.
 struct Both {
     port: Port,
     octets: Octets,
+    freed: Freed,
 }
 
 impl Both {
@@ -127,7 +141,7 @@ impl Both {
         let opened = Port::open(link, delay);
         let share = opened.as_ref().map(Port::share).map_err(|refusal| *refusal);
         assert_eq!(numbers(share, |share| (share, 0)), reply, "{}: {call}", run.place);
-        let both = Both { port: opened.ok()?, octets };
+        let both = Both { port: opened.ok()?, octets, freed: Freed::default() };
         both.assert_same_octets(run, call);
         Some(both)
     }
@@ -142,11 +156,12 @@ impl Both {
 
     /// Plays a call on both, which must do the same.
     fn play(&mut self, run: &mut Run, call: &Call) {
-        let prior_waited = prior_waits(&self.octets.record);
+        let (prior_waited, ending) = (prior_waits(&self.octets.record), ending(call, &self.octets.record));
         let reply = model::call(&call.given(), &mut self.octets.record, &mut self.octets.memory);
         assert_eq!(through(&mut self.port, call), reply, "{}, call {}: {call}", run.place, run.calls);
         self.assert_same_octets(run, call);
         run.count_call(call, &reply, &self.octets.record, prior_waited);
+        self.freed.follow(&mut run.coverage, call, &reply, &ending);
     }
 
     /// The port's record and memory are the model's, octet for octet.
@@ -156,7 +171,7 @@ impl Both {
     }
 }
 
-/// Calls the port's method for a call; its reply in document 01's numbers.
+/// Calls the port's method for a call; its reply in the rule's numbers.
 fn through(port: &mut Port, call: &Call) -> Reply {
     match *call {
         Call::Open { .. } => unreachable!("a port is opened once"),
@@ -170,10 +185,11 @@ fn through(port: &mut Port, call: &Call) -> Reply {
             Framed::Arrived(joined) => of_arrival(joined),
             Framed::BestEffort(waiting) => (waiting.octets, 0),
         }),
+        Call::Withdraw { stream } => numbers(port.withdraw(stream), |()| (0, 0)),
     }
 }
 
-/// A method's reply in document 01's numbers, those of a grant as given.
+/// A method's reply in the rule's numbers, those of a grant as given.
 fn numbers<T>(reply: Result<T, Refusal>, granted: impl FnOnce(T) -> (u32, u32)) -> Reply {
     match reply.map(granted) {
         Ok((first, second)) => Reply::granted(first, second),

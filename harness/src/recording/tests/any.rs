@@ -12,6 +12,7 @@ use crate::model;
 use crate::model::frame::{charge, pair, Pair, FRAME_LENGTHS};
 use crate::model::port::{Port, DELAYS, LARGEST_CHARGE, LEAST_PERMITTED, LINKS, NOTHING, STREAMS};
 use crate::model::rule;
+use crate::recording::plan::Withdrawal;
 use crate::recording::report::Report;
 
 /// A random recording under a random plan, and what became of it.
@@ -19,6 +20,7 @@ struct Made {
     epoch: u32,
     link: u32,
     pairs: Vec<(u8, Pair)>,
+    withdrawals: Vec<Withdrawal>,
     packets: Vec<(u64, Vec<u8>)>,
     events: Vec<Call>,
     report: Report,
@@ -57,6 +59,20 @@ fn any_step(random: &mut Random, epoch: u32) -> i64 {
     }
 }
 
+/// Lines of a plan that withdraw some of the streams of its text, each at a time within the first epochs or at an epoch's end, and the withdrawals.
+fn any_withdrawals(random: &mut Random, epoch: u32, plan: &str) -> (String, Vec<Withdrawal>) {
+    let reserved = plan.lines().filter_map(|line| line.strip_prefix("reserve ")?.split(' ').next()?.parse().ok());
+    let some: Vec<u8> = reserved.filter(|_| random.chance(30)).collect();
+    let withdrawals: Vec<Withdrawal> = some.into_iter().map(|stream| Withdrawal { time: any_time(random, epoch), stream }).collect();
+    (withdrawals.iter().map(|Withdrawal { time, stream }| format!("withdraw {stream} {time}\n")).collect(), withdrawals)
+}
+
+/// A time of a withdrawal, most often early, and as often at an epoch's end as not.
+fn any_time(random: &mut Random, epoch: u32) -> u64 {
+    let (epochs, part) = (random.pick(&[0, 0, 1, 2, 5, 20]), random.pick(&[0, 1]) * random.below(1_000) as u64);
+    epochs * u64::from(epoch) + u64::from(epoch) * part / 1_000
+}
+
 /// A plan's text with the pairs that it binds.
 fn any_plan(random: &mut Random, epoch: u32, link: u32) -> (String, Vec<(u8, Pair)>) {
     let mut text = format!("epoch {epoch}\nopen {link} {}\n", random.between(DELAYS));
@@ -87,6 +103,7 @@ fn any_made(number: u64) -> Made {
     let any = random.between(LINKS);
     let link = random.pick(&[*LINKS.start(), *LINKS.end(), 2_000, 4_000, any]);
     let (plan, pairs) = any_plan(&mut random, epoch, link);
+    let (lines, withdrawals) = any_withdrawals(&mut random, epoch, &plan);
     let (count, most) = (random.pick(&[1, 10, 100, 400, 2_500]), random.pick(&[60, 150, 1_518]));
     let mut time = 1_700_000_000_000_000_000_i64;
     let mut packets = Vec::new();
@@ -94,8 +111,8 @@ fn any_made(number: u64) -> Made {
         packets.push((time as u64, any_frame(&mut random, &pairs, most)));
         time += any_step(&mut random, epoch);
     }
-    let (events, report) = events_of(&plan, &packets);
-    Made { epoch, link, pairs, packets, events, report }
+    let (events, report) = events_of(&(plan + &lines), &packets);
+    Made { epoch, link, pairs, withdrawals, packets, events, report }
 }
 
 /// Holds random recordings against a claim; how often it said that it saw what the test is for.
@@ -127,15 +144,68 @@ fn decided(pairs: &[(u8, Pair)], number: usize, octets: &[u8]) -> Option<Call> {
 #[test]
 fn packets_become_what_frame_decides() {
     let full = hold(|made| {
-        let brought = made.events.iter().filter(|call| matches!(call, Call::Arrive { .. } | Call::BestEffort { .. }));
-        let brought: Vec<Call> = brought.cloned().collect();
         let in_capture = made.packets.len() - made.report.left_out.count as usize;
-        let packets = made.packets[..in_capture].iter().enumerate();
-        let expected: Vec<Call> = packets.filter_map(|(number, (_, octets))| decided(&made.pairs, number, octets)).collect();
-        assert_eq!(brought, expected);
+        let mut packets = made.packets[..in_capture].iter().enumerate();
+        let mut bindings = Bindings { pairs: made.pairs.clone(), draining: Vec::new() };
+        for call in &made.events {
+            bindings.follow(call);
+            if matches!(call, Call::Arrive { .. } | Call::BestEffort { .. }) {
+                let expected = packets.find_map(|(number, (_, octets))| decided(&bindings.pairs, number, octets));
+                assert_eq!(Some(call), expected.as_ref());
+            }
+        }
+        assert_eq!(packets.find_map(|(number, (_, octets))| decided(&bindings.pairs, number, octets)), None);
         made.report.left_out.count > 0
     });
     assert!(full >= 20, "{full} captures are full");
+}
+
+/// The pairs that are bound, and the withdrawn streams with the ticks until they are free.
+struct Bindings {
+    pairs: Vec<(u8, Pair)>,
+    draining: Vec<(u8, u32)>,
+}
+
+impl Bindings {
+    /// Follows an event: the fourth tick after a withdrawal ends the stream's binding.
+    fn follow(&mut self, call: &Call) {
+        match *call {
+            Call::Withdraw { stream } => self.draining.push((stream, 4)),
+            Call::Tick => {
+                self.draining.iter_mut().for_each(|(_, ticks)| *ticks -= 1);
+                let free: Vec<u8> = self.draining.iter().filter(|(_, ticks)| *ticks == 0).map(|(stream, _)| *stream).collect();
+                self.draining.retain(|(_, ticks)| *ticks > 0);
+                self.pairs.retain(|(stream, _)| !free.contains(stream));
+            }
+            _ => {}
+        }
+    }
+}
+
+/// Before each withdrawal there are as many ticks as epochs have ended by its time, and of the packets those that are earlier; one that is not in the
+/// capture is told.
+#[test]
+fn withdrawals_stand_at_their_times() {
+    let seen = hold(|made| {
+        for withdrawal in &made.withdrawals {
+            let Withdrawal { time, stream } = *withdrawal;
+            let at = made.events.iter().position(|call| *call == Call::Withdraw { stream });
+            assert_eq!(at.is_none(), made.report.not_withdrawn.contains(&stream), "stream {stream}");
+            let Some(at) = at else { continue };
+            let ticks = made.events[..at].iter().filter(|call| **call == Call::Tick).count() as u64;
+            assert_eq!(ticks, time / u64::from(made.epoch), "stream {stream}");
+            assert!(made.events[..at].iter().filter_map(|call| arrival_time(made, call)).all(|arrival| arrival < time));
+            assert!(made.events[at..].iter().filter_map(|call| arrival_time(made, call)).all(|arrival| arrival >= time));
+        }
+        made.withdrawals.len() > made.report.not_withdrawn.len()
+    });
+    assert!(seen >= 100, "{seen} captures have withdrawals");
+}
+
+/// When the packet of an event arrives, from the first packet on: at the latest time up to it.
+fn arrival_time(made: &Made, call: &Call) -> Option<u64> {
+    let (Call::Arrive { tag, .. } | Call::BestEffort { tag, .. }) = *call else { return None };
+    made.packets[..tag as usize].iter().map(|(time, _)| time - made.packets[0].0.min(*time)).max()
 }
 
 /// Before each packet there are as many ticks as epochs have ended by its time, or by the latest before it.
@@ -160,13 +230,15 @@ fn ticks_stand_where_epochs_end() {
     assert!(seen >= 200, "{seen} captures have ticks");
 }
 
-/// A capture replays without a refusal but those that a sender meets on a good port, 14 to 16, and ends when all that was accepted is sent.
+/// A capture replays without a refusal but those that a sender meets on a good port, 14 to 16 and 25, and ends when all that was accepted is sent.
 #[test]
 fn captures_replay_without_other_refusals() {
     let discarding = hold(|made| {
         let mut port = Port::closed();
         let refusals: Vec<u8> = made.events.iter().map(|call| rule::step(&call.given(), &mut port).refusal).collect();
-        assert!(refusals.iter().all(|refusal| [0, 14, 15, 16].contains(refusal)), "{refusals:?}");
+        assert!(refusals.iter().all(|refusal| [0, 14, 15, 16, 25].contains(refusal)), "{refusals:?}");
+        let drains = made.events.iter().any(|call| matches!(call, Call::Withdraw { .. }));
+        assert!(drains || !refusals.contains(&25));
         let waiting: usize = port.queues.iter().map(|queue| queue.frames.len()).sum();
         assert!(made.report.left_out.count > 0 || waiting == made.report.waiting);
         assert!(waiting == 0 || made.events.len() == 4_095);

@@ -9,3 +9,4 @@ mod plans;
 mod reading;
 mod reports;
 mod stored;
+mod withdrawals;

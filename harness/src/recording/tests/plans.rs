@@ -2,7 +2,7 @@
 
 use super::made::PLAN;
 use crate::call::Call;
-use crate::recording::plan::{read, Plan};
+use crate::recording::plan::{read, Plan, Withdrawal};
 
 /// The plan of a text that must be good.
 fn plan(text: &str) -> Plan {
@@ -48,6 +48,15 @@ fn a_pair_is_address_and_vid() {
 }
 
 #[test]
+fn withdrawals_are_read_by_their_times() {
+    let text = with("reserve 6 84\nwithdraw 6 18446744073709551615\nwithdraw 5 0 # at the first packet\nbind 6 01:00:5e:00:00:06 10\n");
+    let plan = plan(&text);
+    assert_eq!(plan.withdrawals, [Withdrawal { time: 0, stream: 5 }, Withdrawal { time: u64::MAX, stream: 6 }]);
+    assert!(plan.port.streams[6].is_bound() && plan.port.streams.iter().all(|stream| !stream.is_draining()));
+    assert_eq!(plan.calls.len(), 3);
+}
+
+#[test]
 fn a_wrong_line_is_told() {
     let said = [
         (with("band 5"), "line 5: 'band' begins no line of a plan"),
@@ -61,6 +70,15 @@ fn a_wrong_line_is_told() {
         (with("reserve 6"), "line 5: a P is missing"),
         (with("reserve 256 84"), "line 5: '256' is not a stream, which is a number from 0 to 255"),
         (with("bind 256 01:00:5e:00:00:05 1"), "line 5: '256' is not a stream, which is a number from 0 to 255"),
+        (with("withdraw"), "line 5: a stream is missing"),
+        (with("withdraw 5"), "line 5: a time is missing"),
+        (with("withdraw 5 0 0"), "line 5: '0' is one word too many"),
+        (with("withdraw 256 0"), "line 5: '256' is not a stream, which is a number from 0 to 255"),
+        (with("withdraw 5 1.5"), "line 5: '1.5' is not a time, which is a number from 0 to 18446744073709551615"),
+        (
+            with("withdraw 5 18446744073709551616"),
+            "line 5: '18446744073709551616' is not a time, which is a number from 0 to 18446744073709551615",
+        ),
         (with("epoch 160000"), "line 5: the epoch has a length already"),
         (String::from("epoch"), "line 1: an epoch's length is missing"),
         (String::from("epoch 0"), "line 1: an epoch has at least 1 nanosecond"),
@@ -113,6 +131,12 @@ fn what_a_call_would_refuse_is_told() {
         (with(&format!("bind 5 {bound} 65546")), "line 5: refused with 9: VID outside 1 to 4,094"),
         (with(&format!("bind 5 {bound} 10")), "line 5: refused with 10: stream bound already"),
         (with(&format!("reserve 6 258\nbind 6 {bound} 10")), "line 6: refused with 11: pair bound already"),
+        (with(&format!("withdraw 5 0\nreserve 6 258\nbind 6 {bound} 10")), "line 7: refused with 11: pair bound already"),
+        (with("withdraw 5 0\nreserve 6 259"), "line 6: refused with 8: sum of P above the share, which is L less 1,542"),
+        (String::from("withdraw 5 0"), "line 1: refused with 1: port closed"),
+        (with("withdraw 64 0"), "line 5: refused with 5: stream above 63"),
+        (with("withdraw 6 0"), "line 5: refused with 12: stream not reserved"),
+        (with("withdraw 5 0\nwithdraw 5 9"), "line 6: refused with 25: stream draining"),
     ];
     for (text, what) in said {
         assert_eq!(said_of(&text), what, "of {text:?}");

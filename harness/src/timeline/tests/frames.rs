@@ -1,4 +1,4 @@
-//! On any list of events the frames stand in the picture where the outside program's port has them.
+//! On any list of events the frames stand in the picture where the outside program's port has them, and streams drain as they do there.
 
 use super::any_events;
 use super::seen::Seen;
@@ -13,11 +13,24 @@ use crate::timeline::{drawn, frames, MOST};
 const LISTS: u64 = 60;
 /// The seed of the lists.
 const SEED: u64 = 1;
+/// How often a withdrawn stream must become free in them.
+const LEAST_FREED: usize = 50;
 
 /// The labels of the frames that wait in a role.
 fn waiting(port: &Port, role: usize) -> impl Iterator<Item = String> + '_ {
     let queue = if role < RESERVED_QUEUES { port.queue_at(role as u8) } else { BEST_EFFORT };
     port.queues[queue].frames.iter().map(frames::label)
+}
+
+/// The streams that drain, each with the ticks until it is free.
+fn draining(port: &Port) -> impl Iterator<Item = (usize, u8)> + '_ {
+    port.streams.iter().enumerate().filter(|(_, stream)| stream.is_draining()).map(|(number, stream)| (number, stream.draining))
+}
+
+/// What the box of a withdrawn stream says.
+fn drain_label(stream: usize, ticks: u8) -> String {
+    let more = if ticks == 1 { "" } else { "s" };
+    format!("draining {stream}: {ticks} tick{more}")
 }
 
 /// What must be seen: boxes, ways and purges, in no order.
@@ -33,6 +46,7 @@ impl Due {
     fn add_band(&mut self, event: usize, port: &Port) {
         let roles = (0..QUEUES).flat_map(|role| waiting(port, role).map(move |label| format!("before {event} {} {label}", ROLES[role])));
         self.boxes.extend(roles);
+        self.boxes.extend(draining(port).map(|(stream, ticks)| format!("before {event} {}", drain_label(stream, ticks))));
     }
 
     /// Adds what an event does, by the port as it was before and is after it.
@@ -44,6 +58,9 @@ impl Due {
                 self.boxes.push(format!("{event} {} {stream}: {tag}", ROLES[reply.first as usize]));
             }
             Call::BestEffort { tag, .. } if reply.refusal == 0 => self.boxes.push(format!("{event} best effort {tag}")),
+            Call::Withdraw { stream } if reply.refusal == 0 => {
+                self.boxes.push(format!("{event} {}", drain_label(usize::from(*stream), after.streams[usize::from(*stream)].draining)));
+            }
             _ => {}
         }
     }
@@ -56,6 +73,9 @@ impl Due {
             self.ways.extend(waiting(before, role).map(|label| format!("{label} from {role_name} to {nearer} at {event}")));
             self.boxes.extend(waiting(after, role - 1).map(|label| format!("{event} {nearer} {label}")));
         }
+        self.boxes.extend(draining(after).map(|(stream, ticks)| format!("{event} {}", drain_label(stream, ticks))));
+        let freed = draining(before).filter(|(stream, _)| !after.streams[*stream].is_reserved());
+        self.boxes.extend(freed.map(|(stream, _)| format!("{event} draining {stream}: free")));
     }
 
     /// Adds the frame that a transmit sends.
@@ -93,6 +113,7 @@ fn due(events: &[(Call, Reply)], from: usize, begins: &[usize]) -> Due {
 
 #[test]
 fn frames_stand_where_the_port_has_them() {
+    let mut freed = 0;
     for number in 0..LISTS {
         let random = &mut Random::of(SEED, "timeline", number);
         let events = any_events(random);
@@ -100,8 +121,10 @@ fn frames_stand_where_the_port_has_them() {
         let seen = Seen::of(&drawn(0, &events, from..=MOST, "").expect("the events fit"));
         let begins: Vec<usize> = seen.bands().iter().map(|band| first_event(band)).collect();
         let found = Due { boxes: seen.boxes(), ways: seen.ways(), purges: seen.purges() }.sorted();
+        freed += found.boxes.iter().filter(|seen| seen.ends_with(": free")).count();
         assert_eq!(found, due(&events, from, &begins), "list {number} from event {from}");
     }
+    assert!(freed >= LEAST_FREED, "{freed} streams are free after they were withdrawn");
 }
 
 /// The number of a band's first event.

@@ -1,6 +1,7 @@
 //! What a picture shows, read off where its elements stand; its file; its limits; and the tool. `xml` reads the file strictly, `seen` finds what a
 //! reader of the picture sees, `letters` knows how wide texts are.
 
+mod draining;
 mod drawn;
 mod file;
 mod frames;
@@ -31,18 +32,20 @@ fn any_events(random: &mut Random) -> Vec<(Call, Reply)> {
     let reserves = [(5, 300), (63, 500)].map(|(stream, permitted)| Call::Reserve { stream, permitted });
     let mut events = vec![Call::Open { link: 3_000, delay: 2 }];
     events.extend(reserves);
-    let weights = random.pick(&[[5, 2, 1, 4], [4, 1, 3, 1], [2, 4, 2, 4]]);
+    let weights = random.pick(&[[5, 2, 1, 4, 0, 0], [4, 1, 3, 1, 1, 1], [2, 4, 2, 4, 1, 1], [4, 1, 6, 4, 1, 2]]);
     events.extend((events.len()..MOST).map(|before| any_event(random, &weights, before as u32)));
     replied(&events)
 }
 
-/// An arrival, best effort, a tick or a transmit, each as often as its weight says; now and then a tag comes again.
+/// An arrival, best effort, a tick, a transmit, a withdrawal or a reservation, each as often as its weight says; now and then a tag comes again.
 fn any_event(random: &mut Random, weights: &[usize], number: u32) -> Call {
     let tag = if random.chance(10) { 3 } else { number };
     match random.weighted(weights) {
         0 => Call::Arrive { stream: random.pick(&[5, 63]), charge: random.pick(&[84, 100, 150, 300]), tag },
         1 => Call::BestEffort { charge: random.pick(&[84, 400, 1_542]), tag },
         2 => Call::Tick,
-        _ => Call::Transmit,
+        3 => Call::Transmit,
+        4 => Call::Withdraw { stream: random.pick(&[5, 63]) },
+        _ => Call::Reserve { stream: random.pick(&[5, 63]), permitted: random.pick(&[84, 300]) },
     }
 }

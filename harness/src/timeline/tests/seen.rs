@@ -4,6 +4,7 @@
 use std::ptr;
 
 use super::xml::{elements, Element};
+use crate::timeline::draining::DRAINING;
 use crate::timeline::look::{RED, SHADE};
 use crate::timeline::words::ROLES;
 
@@ -250,7 +251,7 @@ impl Seen {
 
     /// The names of the rows, from above.
     pub fn rows(&self) -> Vec<&str> {
-        let is_name = |text: &&str| ROLES.contains(text) || ["link", "refused"].contains(text);
+        let is_name = |text: &&str| ROLES.contains(text) || ["link", "refused", DRAINING].contains(text);
         self.named("text")
             .filter(|text| text.attribute("text-anchor") == Some("end"))
             .map(|text| text.text.as_str())

@@ -1,6 +1,6 @@
-//! The names, numbers and words of the refusals, also of those that no port meets.
+//! The names, numbers and words of the refusals, also of those that no port meets, and the edition of the rule.
 
-use bunnysolder::Refusal;
+use bunnysolder::{Refusal, EDITION};
 
 /// The header for C.
 const HEADER: &str = include_str!("../../../include/bunnysolder.h");
@@ -32,35 +32,43 @@ fn as_in_rust(name: &str) -> String {
     name.split('_').map(|word| word[..1].to_string() + &word[1..].to_lowercase()).collect()
 }
 
-/// Words of document 01 for each refusal, from 1 on.
-const WORDS: [&str; 20] = [
-    "port is closed",
-    "open already",
-    "L is outside",
-    "K is outside",
-    "stream is above 63",
-    "reserved already",
-    "P is below 84",
-    "sum of P",
-    "VID is outside",
-    "stream is bound already",
-    "pair of address and VID",
-    "not reserved",
-    "charge is outside",
-    "discarded",
-    "256 best-effort frames",
-    "above K × (L − R)",
-    "60 to 1,518 octets",
-    "under 1,280 places",
-    "record is unfit",
-    "queue holds 256",
+/// The edition is that of the header.
+#[test]
+fn the_edition_is_that_of_the_header() {
+    let editions: Vec<&str> = HEADER.lines().filter_map(|line| line.strip_prefix("#define BUNNYSOLDER_EDITION ")).collect();
+    assert_eq!(editions, [EDITION.to_string()]);
+}
+
+/// Words of documents 01 and 02 for each refusal of a call, by its number.
+const WORDS: [(u8, &str); 21] = [
+    (1, "port is closed"),
+    (2, "open already"),
+    (3, "L is outside"),
+    (4, "K is outside"),
+    (5, "stream is above 63"),
+    (6, "reserved already"),
+    (7, "P is below 84"),
+    (8, "sum of P"),
+    (9, "VID is outside"),
+    (10, "stream is bound already"),
+    (11, "pair of address and VID"),
+    (12, "not reserved"),
+    (13, "charge is outside"),
+    (14, "discarded"),
+    (15, "256 best-effort frames"),
+    (16, "above K × (L − R)"),
+    (17, "60 to 1,518 octets"),
+    (18, "under 1,280 places"),
+    (19, "record is unfit"),
+    (20, "queue holds 256"),
+    (25, "withdrawn"),
 ];
 
 /// Each refusal is told by its number and its words.
 #[test]
 fn refusals_are_told_in_words() {
-    for (number, words) in (1..).zip(WORDS) {
-        let told = Refusal::from_number(number).expect("1 to 20 are refusals").to_string();
+    for (number, words) in WORDS {
+        let told = Refusal::from_number(number).expect("it is a refusal").to_string();
         assert!(told.starts_with(&format!("{number}: ")) && told.contains(words), "{told}");
     }
 }

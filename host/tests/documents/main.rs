@@ -1,14 +1,19 @@
-//! Document 01 through a port of this package, as a user calls it, with the replies that the document states.
+//! Documents 01 and 02 through a port of this package, as a user calls it, with the replies that the documents state.
 
 mod cases;
 mod names;
 mod refusals;
 mod threads;
+mod withdrawing;
+
+use std::fmt::Debug;
 
 use bunnysolder::{Joined, Port, Queue, Refusal, Reserved, Waiting};
 
-/// The stream of the document's cases.
+/// The stream of the documents' cases.
 const STREAM: u8 = 5;
+/// An address to bind to.
+const ADDRESS: [u8; 6] = [0x01, 0x80, 0xC2, 0x00, 0x00, 0x0E];
 
 /// An open port without reservations: "L = 2,142, K = 1, unless said otherwise".
 fn opened() -> Port {
@@ -32,4 +37,18 @@ fn joined(queue: Queue, left: u32) -> Result<Joined, Refusal> {
 /// The reply of a best-effort frame after which so many octets wait.
 fn waiting(octets: u32) -> Result<Waiting, Refusal> {
     Ok(Waiting { octets })
+}
+
+/// A call must be refused with a number, which has this name.
+fn refused<T: Debug>(reply: Result<T, Refusal>, name: Refusal, number: u8) {
+    let refusal = reply.expect_err("the call is refused");
+    assert_eq!((refusal, refusal.number()), (name, number));
+}
+
+/// Octets with a VLAN tag to the address of these tests, one more than a frame may have.
+fn frame(vid: u8) -> [u8; 1_519] {
+    let mut octets = [0; 1_519];
+    octets[..6].copy_from_slice(&ADDRESS);
+    octets[12..16].copy_from_slice(&[0x81, 0x00, 0x00, vid]);
+    octets
 }

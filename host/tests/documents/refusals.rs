@@ -1,19 +1,8 @@
-//! Every refusal that a port can meet, by name and number, and the order in which they are asked.
-
-use std::fmt::Debug;
+//! Every refusal of document 01 that a port can meet, by name and number, and the order in which they are asked.
 
 use bunnysolder::{Framed, Port, Queue, Refusal};
 
-use crate::{joined, reserved, waiting, STREAM};
-
-/// An address to bind to.
-const ADDRESS: [u8; 6] = [0x01, 0x80, 0xC2, 0x00, 0x00, 0x0E];
-
-/// A call must be refused with a number, which has this name.
-fn refused<T: Debug>(reply: Result<T, Refusal>, name: Refusal, number: u8) {
-    let refusal = reply.expect_err("the call is refused");
-    assert_eq!((refusal, refusal.number()), (name, number));
-}
+use crate::{frame, joined, refused, reserved, waiting, ADDRESS, STREAM};
 
 /// 3 where L is outside, before 4; 4 where K is.
 #[test]
@@ -108,12 +97,4 @@ fn of_256_frames() -> Port {
     let mut port = Port::open(21_588, 1).expect("L and K are in their ranges");
     assert!(port.reserve(STREAM, 84).is_ok());
     port
-}
-
-/// Octets with a VLAN tag to the address of these tests, one more than a frame may have.
-fn frame(vid: u8) -> [u8; 1_519] {
-    let mut octets = [0; 1_519];
-    octets[..6].copy_from_slice(&ADDRESS);
-    octets[12..16].copy_from_slice(&[0x81, 0x00, 0x00, vid]);
-    octets
 }

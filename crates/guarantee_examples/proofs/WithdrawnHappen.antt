@@ -1,0 +1,107 @@
+-- The lists with a withdrawal happen as they are written, on a port never opened: by the quick calls, which are the calls in every list. Assumes nothing.
+use Prim.Native.Nat.{ℕ}
+use mathlib.Core.Path.{_≡_, refl, sym, ap, _∙_}
+use mathlib.Core.List.{List, _∷_}
+use Rattle.lists.specs.Turns.{allTo, sumTo, listTo, iterate}
+use Rattle.lists.specs.Equal.{octetsEqual}
+use Rattle.octets.specs.Numbers.{twoOf, fourOf}
+use Rattle.stream.specs.Steps.{attempt, arriveOf, tickOf}
+use Rattle.queue.specs.Place.{frameAt, withFrame}
+use Rattle.queue.specs.Ring.{joinedMemory, frontOf}
+use Rattle.queue.specs.Waiting.{waiting}
+use Rattle.record.specs.Queues.{queuesAt}
+use Rattle.record.specs.Head.{openAt, withOpen, priorAt, withPrior, delayAt, withDelay, linkAt, withLink, waitsAt, withWaits, queueAt, withQueue}
+use Rattle.record.specs.Entry.{streamAt, withStream, withPlace, drainAt, withDrain, drainsAt, boundAt, vidAt, addressAt, withBinding, dropped}
+use Rattle.header.specs.Header.{chargeOf, lengthFits, taggedFrame, vidOf}
+use Rattle.steps.specs.Roles.{roleAt}
+use Rattle.opening.specs.Opening.{openedRecord}
+use Rattle.arriving.specs.Arriving.{arriveStep}
+use Rattle.ticking.specs.Ticking.{drainedAt, tickedRecord, tickStep}
+use Rattle.sending.specs.Sending.{transmitStep}
+use Rattle.best_effort.specs.BestEffort.{bestEffortStep}
+use Rattle.binding.specs.Finding.{lookupFrom, lookup, frameLookup}
+use Rattle.gates.specs.Refusals.{openRefusal, reserveRefusal, withdrawRefusal, arriveRefusal, closedRefusal, bestEffortRefusal}
+use Rattle.gates.specs.FrameRefusals.{bindRefusal, frameRefusal}
+use Rattle.steps.specs.Outcome.{Outcome}
+use Rattle.steps.specs.Call.{terms, Call, opening}
+use Rattle.port.specs.Quick.{lengthRefusal, quicklyCalled}
+use Rattle.port_laws.specs.Lists.{freshRecord, freshMemory}
+use Rattle.port_laws.proofs.FreshFit.{fresh-fits}
+use Rattle.port_laws.proofs.QuickLaws.{quick-call}
+use Rattle.guarantee.specs.Events.{Event, events}
+use Rattle.guarantee.specs.Demand3.{CallList}
+use Rattle.guarantee.proofs.Theorem.{quick-events}
+use Rattle.guarantee_examples.specs.Examples.{Happens, callsOf}
+use Rattle.guarantee_examples.specs.LeftOpen.{laterCalls}
+use Rattle.guarantee_examples.specs.Withdrawn.{handed, withdrawn, leaving, leftAlone, triedCalls, tried, hurriedly, hurry}
+use Rattle.guarantee_examples.specs.WithdrawnShown.{WithdrawnHappen}
+
+module _ (link delay : ℕ) (is : quicklyCalled (opening (terms link delay)) freshRecord freshMemory .reply .refusal ≡ 0) (later : List Call) where
+  -- the list of calls whose Open the quick one grants
+  abbrev quickList : CallList
+  quickList =
+      record {
+        port = freshRecord;
+        memory = freshMemory;
+        terms = terms link delay;
+        later = later;
+        opened = sym (ap (λ (o : Outcome). o .reply .refusal) (quick-call (opening (terms link delay)) freshRecord freshMemory fresh-fits)) ∙ is;
+      }
+
+  -- what happens by the quick calls happens
+  happens-quickly : (es : List Event) → events quicklyCalled (opening (terms link delay) ∷ later) freshRecord freshMemory ≡ es → Happens es
+  happens-quickly es so = record { list = quickList; so = sym (quick-events quickList) ∙ so }
+
+-- the three Opens
+opened-1626 : quicklyCalled (opening (terms 1626 1)) freshRecord freshMemory .reply .refusal ≡ 0
+unfolding openAt queuesAt openRefusal lengthRefusal
+opened-1626 = refl
+
+opened-2142 : quicklyCalled (opening (terms 2142 1)) freshRecord freshMemory .reply .refusal ≡ 0
+unfolding openAt queuesAt openRefusal lengthRefusal
+opened-2142 = refl
+
+opened-1742 : quicklyCalled (opening (terms 1742 3)) freshRecord freshMemory .reply .refusal ≡ 0
+unfolding openAt queuesAt openRefusal lengthRefusal
+opened-1742 = refl
+
+-- the lists
+handed-6-made : events quicklyCalled (callsOf (handed 6)) freshRecord freshMemory ≡ handed 6
+unfolding allTo sumTo listTo iterate twoOf fourOf attempt arriveOf tickOf frameAt withFrame joinedMemory frontOf waiting openAt withOpen priorAt withPrior delayAt withDelay linkAt withLink waitsAt withWaits queueAt queuesAt withQueue streamAt withStream withPlace drainAt withDrain drainsAt boundAt vidAt addressAt withBinding dropped roleAt openedRecord arriveStep drainedAt tickedRecord tickStep transmitStep bestEffortStep openRefusal reserveRefusal withdrawRefusal arriveRefusal closedRefusal bestEffortRefusal bindRefusal frameRefusal lookupFrom lookup frameLookup octetsEqual chargeOf lengthFits taggedFrame vidOf lengthRefusal
+handed-6-made = refl
+
+handed-5-made : events quicklyCalled (callsOf (handed 5)) freshRecord freshMemory ≡ handed 5
+unfolding allTo sumTo listTo iterate twoOf fourOf attempt arriveOf tickOf frameAt withFrame joinedMemory frontOf waiting openAt withOpen priorAt withPrior delayAt withDelay linkAt withLink waitsAt withWaits queueAt queuesAt withQueue streamAt withStream withPlace drainAt withDrain drainsAt boundAt vidAt addressAt withBinding dropped roleAt openedRecord arriveStep drainedAt tickedRecord tickStep transmitStep bestEffortStep openRefusal reserveRefusal withdrawRefusal arriveRefusal closedRefusal bestEffortRefusal bindRefusal frameRefusal lookupFrom lookup frameLookup octetsEqual chargeOf lengthFits taggedFrame vidOf lengthRefusal
+handed-5-made = refl
+
+withdrawn-made : events quicklyCalled (callsOf withdrawn) freshRecord freshMemory ≡ withdrawn
+unfolding allTo sumTo listTo iterate twoOf fourOf attempt arriveOf tickOf frameAt withFrame joinedMemory frontOf waiting openAt withOpen priorAt withPrior delayAt withDelay linkAt withLink waitsAt withWaits queueAt queuesAt withQueue streamAt withStream withPlace drainAt withDrain drainsAt boundAt vidAt addressAt withBinding dropped roleAt openedRecord arriveStep drainedAt tickedRecord tickStep transmitStep bestEffortStep openRefusal reserveRefusal withdrawRefusal arriveRefusal closedRefusal bestEffortRefusal bindRefusal frameRefusal lookupFrom lookup frameLookup octetsEqual chargeOf lengthFits taggedFrame vidOf lengthRefusal
+withdrawn-made = refl
+
+leaving-made : events quicklyCalled (callsOf leaving) freshRecord freshMemory ≡ leaving
+unfolding allTo sumTo listTo iterate twoOf fourOf attempt arriveOf tickOf frameAt withFrame joinedMemory frontOf waiting openAt withOpen priorAt withPrior delayAt withDelay linkAt withLink waitsAt withWaits queueAt queuesAt withQueue streamAt withStream withPlace drainAt withDrain drainsAt boundAt vidAt addressAt withBinding dropped roleAt openedRecord arriveStep drainedAt tickedRecord tickStep transmitStep bestEffortStep openRefusal reserveRefusal withdrawRefusal arriveRefusal closedRefusal bestEffortRefusal bindRefusal frameRefusal lookupFrom lookup frameLookup octetsEqual chargeOf lengthFits taggedFrame vidOf lengthRefusal
+leaving-made = refl
+
+left-alone-made : events quicklyCalled (callsOf leftAlone) freshRecord freshMemory ≡ leftAlone
+unfolding allTo sumTo listTo iterate twoOf fourOf attempt arriveOf tickOf frameAt withFrame joinedMemory frontOf waiting openAt withOpen priorAt withPrior delayAt withDelay linkAt withLink waitsAt withWaits queueAt queuesAt withQueue streamAt withStream withPlace drainAt withDrain drainsAt boundAt vidAt addressAt withBinding dropped roleAt openedRecord arriveStep drainedAt tickedRecord tickStep transmitStep bestEffortStep openRefusal reserveRefusal withdrawRefusal arriveRefusal closedRefusal bestEffortRefusal bindRefusal frameRefusal lookupFrom lookup frameLookup octetsEqual chargeOf lengthFits taggedFrame vidOf lengthRefusal
+left-alone-made = refl
+
+tried-made : events quicklyCalled (opening (terms 2142 1) ∷ triedCalls) freshRecord freshMemory ≡ tried
+unfolding allTo sumTo listTo iterate twoOf fourOf attempt arriveOf tickOf frameAt withFrame joinedMemory frontOf waiting openAt withOpen priorAt withPrior delayAt withDelay linkAt withLink waitsAt withWaits queueAt queuesAt withQueue streamAt withStream withPlace drainAt withDrain drainsAt boundAt vidAt addressAt withBinding dropped roleAt openedRecord arriveStep drainedAt tickedRecord tickStep transmitStep bestEffortStep openRefusal reserveRefusal withdrawRefusal arriveRefusal closedRefusal bestEffortRefusal bindRefusal frameRefusal lookupFrom lookup frameLookup octetsEqual chargeOf lengthFits taggedFrame vidOf lengthRefusal
+tried-made = refl
+
+hurry-made : events hurriedly (callsOf hurry) freshRecord freshMemory ≡ hurry
+unfolding allTo sumTo listTo iterate twoOf fourOf attempt arriveOf tickOf frameAt withFrame joinedMemory frontOf waiting openAt withOpen priorAt withPrior delayAt withDelay linkAt withLink waitsAt withWaits queueAt queuesAt withQueue streamAt withStream withPlace drainAt withDrain drainsAt boundAt vidAt addressAt withBinding dropped roleAt openedRecord arriveStep drainedAt tickedRecord tickStep transmitStep bestEffortStep openRefusal reserveRefusal withdrawRefusal arriveRefusal closedRefusal bestEffortRefusal bindRefusal frameRefusal lookupFrom lookup frameLookup octetsEqual chargeOf lengthFits taggedFrame vidOf lengthRefusal
+hurry-made = refl
+
+pub withdrawn-happen : WithdrawnHappen
+withdrawn-happen =
+    record {
+      handed-to-6 = happens-quickly 1626 1 opened-1626 (laterCalls (handed 6)) (handed 6) handed-6-made;
+      handed-to-5 = happens-quickly 1626 1 opened-1626 (laterCalls (handed 5)) (handed 5) handed-5-made;
+      withdrawn-happens = happens-quickly 2142 1 opened-2142 (laterCalls withdrawn) withdrawn withdrawn-made;
+      leaving-happens = happens-quickly 2142 1 opened-2142 (laterCalls leaving) leaving leaving-made;
+      left-alone-happens = happens-quickly 1742 3 opened-1742 (laterCalls leftAlone) leftAlone left-alone-made;
+      tried-happens = happens-quickly 2142 1 opened-2142 triedCalls tried tried-made;
+      hurry-happens = hurry-made;
+    }

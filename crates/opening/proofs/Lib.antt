@@ -1,0 +1,2 @@
+-- Open, Reserve and Withdraw by cases.
+pub mod DrainCases

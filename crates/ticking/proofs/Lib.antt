@@ -1,0 +1,2 @@
+-- Tick by cases.
+pub mod DrainCases
