@@ -103,7 +103,7 @@ fn without_frame() -> Vec<Batch> {
         Batch::granted("bind, 0 to 63 streams bound", unbound.clone(), binds()),
         Batch::granted("withdraw", unbound, withdraws()),
         Batch { refusal: DRAINING, ..Batch::granted("arrive, all streams draining", draining.clone(), arrivals(STREAMS)) },
-        Batch::granted("tick, all streams drain and are free", draining, vec![Call::Tick; usize::from(DRAINING_TICKS)]),
+        Batch::granted("tick, all streams draining", draining, vec![Call::Tick; usize::from(DRAINING_TICKS)]),
     ]
 }
 

@@ -12,10 +12,11 @@ use harness::comparing::valgrind::valgrind;
 /// How the program is called.
 const USAGE: &str = "usage: valgrind [--replay PROGRAM]";
 
-/// The captures: the sample, shared records, each sort of refused file, no event, and as many events as one port can have.
-const CAPTURES: [&str; 9] = [
+/// The captures: the sample, shared records, a stream withdrawn and granted again, each sort of refused file, no event, and as many events as one port can have.
+const CAPTURES: [&str; 10] = [
     "sample",
     "shared_records",
+    "withdraw_same_number_again",
     "refused_21_cut",
     "refused_21_too_long",
     "refused_22_last_zero",

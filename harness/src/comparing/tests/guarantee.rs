@@ -355,8 +355,21 @@ const THREE_TIMES_THE_SHARE: [Call; 8] = [
     Call::Arrive { stream: 5, charge: 300, tag: 0 },
 ];
 
+/// After that and the withdrawal of stream 5: the fourth tick, at which all of the share is free, and stream 6, which may have all of it at once, has
+/// it sent.
+const SHARE_GRANTED_AGAIN: [Call; 7] = [
+    Call::Tick,
+    Call::Reserve { stream: 6, permitted: 600 },
+    Call::Arrive { stream: 6, charge: 300, tag: 0 },
+    Call::Arrive { stream: 6, charge: 300, tag: 0 },
+    Call::Transmit,
+    Call::Transmit,
+    Call::Tick,
+];
+
 /// Nothing sooner can be promised: a frame that is not sent before the third tick, a conforming one that is not before the first; and nothing for
-/// less: one frame too few, and a tick purges. One octet too few fails the condition as well, though no tick purges for it.
+/// less: one frame too few, and a tick purges. One octet too few fails the condition as well, though no tick purges for it. A share that
+/// is withdrawn while three queues are full of it is granted again at the fourth tick, and no tick purges.
 fn is_tight(run: &mut Run) -> Result<(), String> {
     let epoch = [Call::Tick, Call::Transmit, Call::Transmit];
     let just_served = [&THREE_TIMES_THE_SHARE[..], &epoch, &epoch, &epoch, &[Call::Tick]].concat();
@@ -364,6 +377,8 @@ fn is_tight(run: &mut Run) -> Result<(), String> {
     let one_octet_too_few = [&[Call::Open { link: 2_143, delay: 1 }], &just_served[1..]].concat();
     let conforming = [&THREE_TIMES_THE_SHARE[..4], &epoch, &[Call::Transmit, Call::Tick]].concat();
     let late = Prompt { current: 2, sent: 2, after_first: 2 };
+    let granted_again =
+        [&THREE_TIMES_THE_SHARE[..], &[Call::Withdraw { stream: 5 }], &epoch, &epoch, &epoch, &SHARE_GRANTED_AGAIN].concat();
     for side in [Side::Exports, Side::Quick, Side::Model] {
         let none = Found { twins: 5, ..Found::with(ByOctets) };
         let sent = Found { sent_in_time: 6, sent_after_third: 2, sent_as_replied: [2, 2, 2], sent_as_replied_late: 6, ..none };
@@ -371,6 +386,8 @@ fn is_tight(run: &mut Run) -> Result<(), String> {
         expect(run, side, &one_too_few, Found { link: Failed, purging: 1, twins: 4, ..none })?;
         expect(run, side, &one_octet_too_few, Found { link: Failed, ..none })?;
         expect(run, side, &by_frames(&just_served), Found { beginning: late, frame_arrivals: 6, ..sent })?;
+        let current = Prompt { current: 2, ..Prompt::default() };
+        expect(run, side, &granted_again, Found { beginning: late, conforming: current, twins: 6, ..sent })?;
         let sent = Found { sent_as_replied: [2, 0, 0], sent_as_replied_late: 2, conforming: late, ..none };
         expect(run, side, &conforming, Found { link: ByBoth, twins: 1, ..sent })?;
         expect(run, side, &by_frames(&conforming), Found { link: ByBoth, twins: 1, frame_arrivals: 2, ..sent })?;
