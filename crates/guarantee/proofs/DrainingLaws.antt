@@ -1,7 +1,7 @@
 -- A withdrawn stream is taken until the tick whose number is that of the queues, and free after it, on every record and memory. Assumes nothing.
 use Prim.Native.Nat.{ℕ, _+_, _-_, _≤_, _<_}
 use mathlib.Core.Bool.{Bool, true, false, not, _&&_, cond, true≢false}
-use mathlib.Core.Path.{_≡_, refl, sym, ap, subst, _∙_}
+use mathlib.Core.Path.{_≡_, refl, sym, ap, ap₂, subst, _∙_}
 use mathlib.Core.List.{List, [], _∷_}
 use native.Mathlib.Omega.{arith}
 use borrow.Author.Tests.{ne-eqb, lt-leb}
@@ -107,7 +107,7 @@ module _ (s : ℕ) (below : s < streamCount) (p : List ℕ) (was : streamAt p s 
     still-taken : Taken s p k
     still-taken =
         let d = state .drains in
-        record { number = d .reserved; share = rw (d .reserved, was) (d .permitted); bound = d .bound; vid = d .vid; address = d .address }
+        record { number = d .reserved; share = ap₂ (λ (r : Bool) (n : ℕ). cond r n 0) (d .reserved ∙ sym was) (d .permitted); bound = d .bound; vid = d .vid; address = d .address }
 
     -- a call that a gate refuses with 25
     gate-25 : (c : Call) → refusalOf c k ≡ 25 → called c k m .reply ≡ refusedBy 25

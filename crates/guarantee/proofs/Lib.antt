@@ -26,3 +26,4 @@ pub mod Theorem
 pub mod ClaimCases
 pub mod WithdrawalCases
 pub mod DrainingLaws
+pub mod DrainingCases
