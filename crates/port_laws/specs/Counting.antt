@@ -7,8 +7,8 @@ use Rattle.steps.specs.Call.{Call, opening, reserving, withdrawing, arriving, t
 use Rattle.binding.specs.Finding.{frameLookup}
 use Rattle.gates.specs.Becoming.{becoming}
 
--- the view: a tick, a transmit, a reservation of s with P, a withdrawal of s, an arrival on s, a frame for best effort, a Frame by its octets, or a call that touches
--- neither the queues nor a stream's reservation
+-- the view: a tick, a transmit, a reservation of s with P, a withdrawal of s, an arrival on s, a frame for best effort, a Frame by its octets, or a call
+-- that touches neither the queues nor a stream's reservation
 pub data Action : Type 0 where
   toTick : Action
   toTransmit : Action
