@@ -7,7 +7,6 @@ use mathlib.Core.Logic.{inl, ⊎-elim}
 use mathlib.Core.List.{List, []}
 use native.Mathlib.Nat.{eq-or-lt-of-le}
 use native.Mathlib.Omega.{arith}
-use borrow.Author.Tests.{eq-eqb, ne-eqb}
 use lib.ListN.{length}
 use Rattle.lists.specs.Turns.{iterate}
 use Rattle.lists.proofs.TurnLaws.{iterate-keeps}
@@ -38,7 +37,7 @@ use Rattle.ticking.specs.Ticking.{drainedAt, tickedAt, tickedRecord, tickStep}
 use Rattle.gates.specs.Refusals.{closedRefusal}
 use Rattle.steps.specs.Call.{Call, ticking}
 use Rattle.port.specs.Calls.{called}
-use Rattle.port_laws.proofs.TurnKeeps.{ticked-keeps}
+use Rattle.port_laws.proofs.TurnKeeps.{drained-none, drained-last, drained-more, ticked-keeps}
 use Rattle.port_laws.proofs.TurnBeside.{atTurn, at-turn, at-turn-whole, after-turn}
 use Rattle.port_laws.proofs.GateNumbers.{closed-passes}
 use Rattle.guarantee.specs.Events.{Marked, reservedSent, marked}
@@ -91,23 +90,20 @@ module _ (i : ℕ) (l : List ℕ) (x : Reservation) (whole : Whole l) (b : i < s
 
   -- and does no more to one that does not drain
   drains-never : x .drain ≡ 0 → seen (reservationAt (drainedAt i l) i) ≡ ticked x
-  unfolding drainedAt
   drains-never none =
-      rw (eq-eqb (drainAt l i) 0 (count ∙ none))
+      rw (drained-none i l (count ∙ none))
       (seen-as-is (reservationAt l i) moved-reserved ∙ same ∙ ap (reservation (tickOf (x .stream))) none ∙ sym (ticked-keeping x none))
 
   -- frees one at its last tick
   drains-last : x .drain ≡ 1 → seen (reservationAt (drainedAt i l) i) ≡ ticked x
-  unfolding drainedAt
   drains-last one =
-      rw (ne-eqb (drainAt l i) 0 (λ e. omega (arith, count, one)), eq-eqb (drainAt l i) 1 (count ∙ one))
+      rw (drained-last i l (count ∙ one))
       (seen-free (reservationAt (dropped l i) i) (stream-dropped l i whole b) ∙ sym (ticked-frees x one))
 
   -- and counts one less for any other
   drains-on : (x .drain ≡ 0 → ⊥) → (x .drain ≡ 1 → ⊥) → seen (reservationAt (drainedAt i l) i) ≡ ticked x
-  unfolding drainedAt
   drains-on some more =
-      rw (ne-eqb (drainAt l i) 0 (λ e. some (sym count ∙ e)), ne-eqb (drainAt l i) 1 (λ e. more (sym count ∙ e)))
+      rw (drained-more i l (λ e. some (sym count ∙ e)) (λ e. more (sym count ∙ e)))
       (seen-as-is (reservationAt (withDrain l i (drainAt l i - 1)) i) (ap (λ (y : Stream). y .reserved) (stream-drain l i (drainAt l i - 1) i) ∙ moved-reserved)
       ∙ ap₂ reservation
       (stream-drain l i (drainAt l i - 1) i ∙ ap (λ (y : Reservation). y .stream) same)

@@ -5,7 +5,6 @@ use mathlib.Core.Path.{_≡_, sym, ap, subst, _∙_}
 use mathlib.Core.Bool.{Bool, true, false, cond}
 use mathlib.Core.List.{List}
 use native.Mathlib.Omega.{arith}
-use borrow.Author.Tests.{eq-eqb, ne-eqb}
 use Rattle.stream.specs.declared.Stream.{Stream}
 use Rattle.stream.specs.Steps.{tickOf}
 use Rattle.record.specs.Layout.{Whole, streamCount}
@@ -17,6 +16,7 @@ use Rattle.record.proofs.DrainPairs.{drain-drain, stream-drain, drain-place}
 use Rattle.record.proofs.BesideLaws.{Beside, beside-stream, beside-drain, beside-bound, beside-vid, beside-address}
 use Rattle.steps.specs.Moves.{moved}
 use Rattle.ticking.specs.Ticking.{drainedAt, tickedAt, tickedRecord}
+use Rattle.port_laws.proofs.TurnKeeps.{drained-more, drained-last}
 use Rattle.port_laws.proofs.TurnBeside.{atTurn, at-turn, at-turn-whole, after-turn}
 
 -- of stream s record k has P and the binding as record l has them, it is reserved, and it drains for so many ticks
@@ -48,16 +48,6 @@ module _ (s : ℕ) (j k : List ℕ) (beside : Beside s j k) where
 
   beside-freed : Freed s j → Freed s k
   beside-freed f = record { reserved = ap (λ (x : Stream). x .reserved) (beside-stream s j k beside) ∙ f .reserved; bound = beside-bound s j k beside ∙ f .bound }
-
--- what draining writes, by the count
-module _ (s : ℕ) (l : List ℕ) where
-  drained-more : 1 < drainAt l s → drainedAt s l ≡ withDrain l s (drainAt l s - 1)
-  unfolding drainedAt
-  drained-more more = rw (ne-eqb (drainAt l s) 0 (λ e. omega arith), ne-eqb (drainAt l s) 1 (λ e. omega arith))
-
-  drained-last : drainAt l s ≡ 1 → drainedAt s l ≡ dropped l s
-  unfolding drainedAt
-  drained-last last = rw (ne-eqb (drainAt l s) 0 (λ e. omega arith), eq-eqb (drainAt l s) 1 last)
 
 -- its own turn
 module _ (s : ℕ) (b : s < streamCount) (j l : List ℕ) (whole : Whole l) (ticks : ℕ) (d : DrainsFor s ticks j l) where
@@ -93,7 +83,7 @@ module _ (s : ℕ) (b : s < streamCount) (j l : List ℕ) (whole : Whole l) (tic
       let less = drainAt there s - 1 in
       let keeps = keeps-drain there s less in
       let same = stream-drain there s less s in
-      subst (DrainsFor s (ticks - 1) j) (sym (turn-drained ∙ drained-more s there (omega (arith, there-drains .drain))))
+      subst (DrainsFor s (ticks - 1) j) (sym (turn-drained ∙ drained-more s there (λ e. omega (arith, there-drains .drain)) (λ e. omega (arith, there-drains .drain))))
       (record {
         reserved = ap (λ (x : Stream). x .reserved) same ∙ there-drains .reserved;
         permitted = ap (λ (x : Stream). x .permitted) same ∙ there-drains .permitted;

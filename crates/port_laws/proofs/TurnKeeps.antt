@@ -1,12 +1,29 @@
--- What the writes of one stream's tick keep, its tick keeps. Assumes nothing.
+-- What one stream's tick writes of its draining, by its count; and what the writes of a stream's tick keep, the tick keeps. Assumes nothing.
 use Prim.Native.Nat.{ℕ, _-_}
 use mathlib.Core.Bool.{Bool, true, false, cond}
+use mathlib.Core.Path.{_≡_}
 use mathlib.Core.List.{List}
+use native.Mathlib.Omega.{arith}
+use borrow.Author.Tests.{eq-eqb, ne-eqb}
 use lib.Dec.{eqb}
 use Rattle.stream.specs.Steps.{tickOf}
 use Rattle.record.specs.Entry.{streamAt, withPlace, drainAt, withDrain, dropped}
 use Rattle.steps.specs.Moves.{moved}
 use Rattle.ticking.specs.Ticking.{drainedAt, tickedAt}
+
+-- nothing at 0, the stream dropped at 1, and one less at any other
+module _ (s : ℕ) (l : List ℕ) where
+  pub drained-none : drainAt l s ≡ 0 → drainedAt s l ≡ l
+  unfolding drainedAt
+  drained-none none = rw (eq-eqb (drainAt l s) 0 none)
+
+  pub drained-last : drainAt l s ≡ 1 → drainedAt s l ≡ dropped l s
+  unfolding drainedAt
+  drained-last last = rw (ne-eqb (drainAt l s) 0 (λ e. omega arith), eq-eqb (drainAt l s) 1 last)
+
+  pub drained-more : (drainAt l s ≡ 0 → ⊥) → (drainAt l s ≡ 1 → ⊥) → drainedAt s l ≡ withDrain l s (drainAt l s - 1)
+  unfolding drainedAt
+  drained-more some more = rw (ne-eqb (drainAt l s) 0 some, ne-eqb (drainAt l s) 1 more)
 
 module _ (G : List ℕ → Type 0) (s : ℕ) (drop : (l : List ℕ) → G l → G (dropped l s)) (drain : (l : List ℕ) → G l → G (withDrain l s (drainAt l s - 1))) where
   pub drained-keeps : (l : List ℕ) → G l → G (drainedAt s l)
