@@ -92,6 +92,19 @@ fn captures_of_best_effort_have_each_delay() {
 }
 
 #[test]
+fn captures_of_links_have_every_l_about_the_ends() {
+    let links = group("envelope_links");
+    let of = |number| events(&links.capture(number)).expect("a good capture").into_iter().flatten();
+    let asked: BTreeSet<u32> = (1..=links.captures())
+        .flat_map(of)
+        .filter_map(|event| if let Call::Open { link, .. } = event { Some(link) } else { None })
+        .collect();
+    for link in (1_625..=1_627).chain(2_019..=2_021).chain(2_100..=2_108).chain(23_045..=23_047).chain(23_520..=23_528) {
+        assert!(asked.contains(&link), "{link}");
+    }
+}
+
+#[test]
 fn some_captures_fill_a_file() {
     let longest = (1..=group("ports").captures()).map(|number| group("ports").capture(number).len()).max();
     assert_eq!(longest, Some(65_536));
