@@ -18,9 +18,13 @@ pub record Case : Type 0 where
 abbrev pub continued : Case → List Call → List Reply → Case
 continued c cs rs = record { calls = c .calls ++ cs; expected = c .expected ++ rs }
 
+-- L, "unless said otherwise"
+abbrev pub caseLink : ℕ
+caseLink = 2142
+
 -- the port open, and the stream reserved
 abbrev pub openedCase : Case
-openedCase = record { calls = opening (terms 2142 1) ∷ []; expected = granted 600 0 ∷ [] }
+openedCase = record { calls = opening (terms caseLink 1) ∷ []; expected = granted 600 0 ∷ [] }
 
 abbrev pub reservedCase : Case
 reservedCase = continued openedCase (reserving 5 200 ∷ []) (granted 400 0 ∷ [])

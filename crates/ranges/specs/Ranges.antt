@@ -24,9 +24,13 @@ shareOf link = link - greatestCharge
 abbrev pub greatestShare : ℕ
 greatestShare = 21504
 
+-- the L that has a share
+abbrev pub linkOf : ℕ → ℕ
+linkOf share = greatestCharge + share
+
 -- "L, link octets in an epoch, 1,626 to 23,046": the share is at least the least charge
 abbrev pub linkFits : ℕ → Bool
-linkFits = within (greatestCharge + leastCharge) (greatestCharge + greatestShare)
+linkFits = within (linkOf leastCharge) (linkOf greatestShare)
 
 -- "K, best-effort delay bound in epochs, 1 to 16"
 abbrev pub greatestDelay : ℕ
