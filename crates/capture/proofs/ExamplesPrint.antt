@@ -6,7 +6,7 @@ use Rattle.text.specs.Lines.{numberThen, lineOf}
 use Rattle.text.specs.Digits.{digits, digitsWithin}
 use Rattle.lists.specs.Equal.{octetsEqual}
 use Rattle.lists.specs.Turns.{allTo, sumTo, listTo, iterate}
-use Rattle.octets.specs.Numbers.{twoOf, fourOf}
+use Rattle.octets.specs.Numbers.{twoOf, fourOf, fourOctets}
 use Rattle.queue.specs.Waiting.{waiting}
 use Rattle.record.specs.Queues.{queuesAt}
 use Rattle.record.specs.Head.{openAt, withOpen, priorAt, withPrior, delayAt, withDelay, linkAt, withLink, waitsAt, withWaits, queueAt, withQueue}
@@ -15,6 +15,7 @@ use Rattle.fitness.specs.Fit.{recordFits, lentRefusal}
 use Rattle.opening.specs.Opening.{openedRecord}
 use Rattle.gates.specs.Refusals.{openRefusal, reserveRefusal, withdrawRefusal, closedRefusal}
 use Rattle.gates.specs.Table.{refusalOf}
+use Rattle.port_laws.specs.Cases.{caseLink}
 use Rattle.capture_file.specs.File.{letters, lettersOf, firstOf, kindOf, streamOctetOf, nextOf, numberA, numberB, endOf, chainWithin}
 use Rattle.capture_file.specs.Checks.{headerGood, firstGood, nextGood, recordGood, recordRefusal, chainRefusal, portRefusal, portsRefusal, fileRefusal}
 use Rattle.capture.specs.Events.{callOf, callAt, eventLine, linesOf}
@@ -24,11 +25,11 @@ use Rattle.capture.specs.Output.{portsText, refusedWord, output}
 abbrev header : ℕ → ℕ → List ℕ
 header first second = letters ++ (0 ∷ first ∷ 0 ∷ second ∷ 0 ∷ 0 ∷ 0 ∷ 0 ∷ 0 ∷ 0 ∷ 0 ∷ 0 ∷ [])
 
--- the records of open 2142 1, and then of reserve 5 200 with this next index
+-- the records of the opening of the cases, and then of reserve 5 200 with this next index
 abbrev events : ℕ → List ℕ
 events next =
-    1 ∷ 0 ∷ 0 ∷ 2 ∷ 0 ∷ 0 ∷ 8 ∷ 94 ∷ 0 ∷ 0 ∷ 0 ∷ 1 ∷ 0 ∷ 0 ∷ 0 ∷ 0
-    ∷ 2 ∷ 5 ∷ 0 ∷ next ∷ 0 ∷ 0 ∷ 0 ∷ 200 ∷ 0 ∷ 0 ∷ 0 ∷ 0 ∷ 0 ∷ 0 ∷ 0 ∷ 0 ∷ []
+    (1 ∷ 0 ∷ 0 ∷ 2 ∷ fourOctets caseLink) ++ (0 ∷ 0 ∷ 0 ∷ 1 ∷ 0 ∷ 0 ∷ 0 ∷ 0
+    ∷ 2 ∷ 5 ∷ 0 ∷ next ∷ 0 ∷ 0 ∷ 0 ∷ 200 ∷ 0 ∷ 0 ∷ 0 ∷ 0 ∷ 0 ∷ 0 ∷ 0 ∷ 0 ∷ [])
 
 -- two ports that share both records print the same lines, each from event 1 on a port of its own
 pub two-ports : output (header 1 1 ++ events 0)

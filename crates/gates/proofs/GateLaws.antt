@@ -11,7 +11,7 @@ use Rattle.record.specs.Layout.{streamCount}
 use Rattle.record.specs.Queues.{bestEffortAt}
 use Rattle.record.specs.Head.{openAt, linkAt, waitsAt, queueAt}
 use Rattle.record.specs.Entry.{streamAt, drainsAt}
-use Rattle.ranges.specs.Ranges.{leastCharge, greatestCharge, greatestShare, greatestDelay, chargeFits, shareOf, linkFits, delayFits, permittedFits}
+use Rattle.ranges.specs.Ranges.{leastCharge, greatestCharge, greatestShare, greatestDelay, chargeFits, shareOf, linkOf, linkFits, delayFits, permittedFits}
 use Rattle.ranges.proofs.RangeLaws.{within-bounds}
 use Rattle.record.specs.Reservations.{permittedSum}
 use Rattle.steps.specs.Call.{Terms, terms}
@@ -141,7 +141,7 @@ module _ (r : ℕ) (p : List ℕ) (zero : r ≡ 0) where
   module _ (link delay : ℕ) (e : r ≡ openRefusal p (terms link delay)) where
     pub open-link : link < 65536
     open-link =
-        omega (arith, within-bounds (greatestCharge + leastCharge) (greatestCharge + greatestShare) link (open-allowed p (terms link delay) (sym e ∙ zero) .link-fits) .1)
+        omega (arith, within-bounds (linkOf leastCharge) (linkOf greatestShare) link (open-allowed p (terms link delay) (sym e ∙ zero) .link-fits) .1)
 
     pub open-delay : delay < 256
     open-delay = omega (arith, within-bounds 1 greatestDelay delay (open-allowed p (terms link delay) (sym e ∙ zero) .delay-fits) .1)

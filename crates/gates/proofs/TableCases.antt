@@ -1,4 +1,4 @@
--- Each row of the table in numbers, on a port that is open with L = 2,142 and K = 1 and has stream 5 reserved with P = 200. Assumes nothing.
+-- Each row of the table in numbers, on a port that is open with a share of 600 and K = 1 and has stream 5 reserved with P = 200. Assumes nothing.
 use Prim.Native.Nat.{ℕ}
 use mathlib.Core.Path.{_≡_, refl}
 use mathlib.Core.Bool.{false}
@@ -6,7 +6,7 @@ use mathlib.Core.List.{List, [], _∷_, _++_}
 use lib.ListN.{replicate}
 use Rattle.lists.specs.Turns.{allTo, sumTo, listTo, iterate}
 use Rattle.lists.specs.Equal.{octetsEqual}
-use Rattle.octets.specs.Numbers.{twoOf, fourOf}
+use Rattle.octets.specs.Numbers.{twoOf, twoOctets, fourOf}
 use Rattle.stream.specs.Steps.{attempt, arriveOf, tickOf}
 use Rattle.queue.specs.Place.{frameAt, withFrame}
 use Rattle.queue.specs.Ring.{joinedMemory, frontOf}
@@ -14,6 +14,7 @@ use Rattle.queue.specs.Waiting.{waiting}
 use Rattle.record.specs.Queues.{queuesAt}
 use Rattle.record.specs.Head.{openAt, withOpen, priorAt, withPrior, delayAt, withDelay, linkAt, withLink, waitsAt, withWaits, queueAt, withQueue}
 use Rattle.record.specs.Entry.{streamAt, withStream, withPlace, drainAt, withDrain, drainsAt, boundAt, vidAt, addressAt, withBinding, dropped}
+use Rattle.ranges.specs.Ranges.{linkOf}
 use Rattle.header.specs.Header.{chargeOf, lengthFits, taggedFrame, vidOf}
 use Rattle.steps.specs.Call.{terms, Call, opening, reserving, withdrawing, arriving, ticking, transmitting, joiningBestEffort, binding, framing}
 use Rattle.steps.specs.Roles.{roleAt}
@@ -30,7 +31,7 @@ use Rattle.gates.specs.Table.{refusalOf, stepOf}
 -- its record up to the mark of stream 5's binding, all that is read here: open, prior 0, K and L, then reserved at current with 200 octets left of 200,
 -- its draining count, and unbound
 abbrev portWith : ℕ → List ℕ
-portWith drain = (1 ∷ 0 ∷ 1 ∷ 0 ∷ 0 ∷ 0 ∷ 8 ∷ 94 ∷ []) ++ (replicate {A = ℕ} 136 0 ++ (1 ∷ 1 ∷ 0 ∷ 200 ∷ 0 ∷ 200 ∷ drain ∷ 0 ∷ []))
+portWith drain = (1 ∷ 0 ∷ 1 ∷ 0 ∷ 0 ∷ 0 ∷ twoOctets (linkOf 600)) ++ (replicate {A = ℕ} 136 0 ++ (1 ∷ 1 ∷ 0 ∷ 200 ∷ 0 ∷ 200 ∷ drain ∷ 0 ∷ []))
 
 abbrev port : List ℕ
 port = portWith 0
@@ -46,11 +47,11 @@ abbrev second : Call → ℕ
 second c = stepOf c port [] .reply .second
 
 -- Open is refused as open already, and its step replies the share
-open-refuses : refuses (opening (terms 2142 1)) ≡ 2
+open-refuses : refuses (opening (terms (linkOf 600) 1)) ≡ 2
 unfolding allTo sumTo listTo iterate twoOf fourOf attempt arriveOf tickOf frameAt withFrame joinedMemory frontOf waiting openAt withOpen priorAt withPrior delayAt withDelay linkAt withLink waitsAt withWaits queueAt queuesAt withQueue streamAt withStream withPlace drainAt withDrain drainsAt boundAt vidAt addressAt withBinding dropped roleAt openedRecord arriveStep drainedAt tickedRecord tickStep transmitStep bestEffortStep openRefusal reserveRefusal withdrawRefusal arriveRefusal closedRefusal bestEffortRefusal bindRefusal frameRefusal lookupFrom lookup frameLookup octetsEqual chargeOf lengthFits taggedFrame vidOf
 open-refuses = refl
 
-open-replies : first (opening (terms 2142 1)) ≡ 600
+open-replies : first (opening (terms (linkOf 600) 1)) ≡ 600
 unfolding allTo sumTo listTo iterate twoOf fourOf attempt arriveOf tickOf frameAt withFrame joinedMemory frontOf waiting openAt withOpen priorAt withPrior delayAt withDelay linkAt withLink waitsAt withWaits queueAt queuesAt withQueue streamAt withStream withPlace drainAt withDrain drainsAt boundAt vidAt addressAt withBinding dropped roleAt openedRecord arriveStep drainedAt tickedRecord tickStep transmitStep bestEffortStep openRefusal reserveRefusal withdrawRefusal arriveRefusal closedRefusal bestEffortRefusal bindRefusal frameRefusal lookupFrom lookup frameLookup octetsEqual chargeOf lengthFits taggedFrame vidOf
 open-replies = refl
 

@@ -21,6 +21,6 @@ bindRefusal p s address vid =
     (cond (boundAt p s) 10
     (cond (isBound (lookup p address vid)) 11 0))))))
 
--- Frame: "17 frame outside 60 to 1,518 octets"; then the refusals of the call that it becomes
+-- Frame: "17 frame outside" its octets, "60 to 1,996"; then the refusals of the call that it becomes
 unfoldable pub frameRefusal : List ℕ → List ℕ → ℕ
 frameRefusal p f = cond (not (openAt p)) 1 (cond (not (lengthFits f)) 17 0)

@@ -7,7 +7,6 @@ use Rattle.lists.specs.Each.{All, Some}
 use Rattle.lists.proofs.EachLaws.{all-rest}
 use Rattle.stream.specs.declared.Reply.{Reply}
 use Rattle.stream.specs.Replies.{granted, refusedBy}
-use Rattle.ranges.specs.Ranges.{shareOf}
 use Rattle.steps.specs.Call.{arriving, ticking}
 use Rattle.guarantee.specs.Events.{Sent, reservedSent, Event}
 use Rattle.guarantee.specs.Claims.{SameRecord, LinkCondition, PurgesNothing, SaysWhatItSends, Sends, Prompt, OffersWithin}
@@ -31,13 +30,13 @@ module _ (reply : Reply) (sent : Sent) (said shown : Reply) where
   granted5 = crowdedBefore ++ (replied (arriving 5 120 7) reply ∷ crowdedAfter third)
 
   -- from `prompt`
-  crowded-prompt : Happens (crowdedWith reply third) → LinkCondition (shareOf 2142) (crowdedWith reply third)
+  crowded-prompt : Happens (crowdedWith reply third) → LinkCondition 600 (crowdedWith reply third)
       → Prompt crowdedFrame (replied (arriving 5 120 7) reply) (crowdedAfter third)
   crowded-prompt happens link =
       promised-of (crowdedWith reply third) happens link .prompt 5 200 crowdedOpening granted5 [] crowdedGrant refl refl refl
       (within-holds 5 200 granted5 refl) (stays-hold 5 granted5 refl) crowdedBefore (crowdedAfter third) (replied (arriving 5 120 7) reply) 120 7 refl refl refl
 
-  crowded-sends : Happens (crowdedWith reply third) → LinkCondition (shareOf 2142) (crowdedWith reply third)
+  crowded-sends : Happens (crowdedWith reply third) → LinkCondition 600 (crowdedWith reply third)
       → Some (Sends crowdedFrame) (crowdedToSecondTick third)
   crowded-sends happens link = crowded-prompt happens link .1 .1 (crowdedToSecondTick third) [] (replied ticking (granted 0 0)) refl refl refl
 
@@ -46,7 +45,7 @@ module _ (sent : Sent) (said shown : Reply) where
   busyLast = transmitted sent said shown
 
   -- from `all-sent`
-  busy-sends : Happens (busyWith busySecond busyLast purgesNone) → LinkCondition (shareOf 1626) (busyWith busySecond busyLast purgesNone)
+  busy-sends : Happens (busyWith busySecond busyLast purgesNone) → LinkCondition 84 (busyWith busySecond busyLast purgesNone)
       → Some (Sends thirdFrame) (busyToFourthTick busySecond busyLast)
   busy-sends happens link =
       promised-of (busyWith busySecond busyLast purgesNone) happens link .all-sent
@@ -57,7 +56,7 @@ module _ (sent : Sent) (said shown : Reply) where
 fourth-tick : (reply : Reply) → Happens (busyWith busySecond busyThird reply) → reply ≡ purgesNone
 fourth-tick reply happens =
     let z = all-rest PurgesNothing (busyBefore ++ (busyNextArrival ∷ busyLastArrival ∷ busyToFourthTick busySecond busyThird)) (replied ticking reply ∷ [])
-    (promised-of (busyWith busySecond busyThird reply) happens (link-holds (shareOf 1626) (busyWith busySecond busyThird reply) refl) .no-purge) .0 refl in
+    (promised-of (busyWith busySecond busyThird reply) happens (link-holds 84 (busyWith busySecond busyThird reply) refl) .no-purge) .0 refl in
     by-numbers reply purgesNone (omega (arith, ap (λ (r : Reply). r .refusal) z)) (omega (arith, ap (λ (r : Reply). r .first) z)) (omega (arith, ap (λ (r : Reply). r .second) z))
 
 -- `crowded` as it was made

@@ -13,6 +13,7 @@ use Rattle.record.specs.Queues.{queuesAt}
 use Rattle.record.specs.Head.{openAt, withOpen, priorAt, withPrior, delayAt, withDelay, linkAt, withLink, waitsAt, withWaits, queueAt, withQueue}
 use Rattle.record.specs.Entry.{streamAt, withStream, withPlace, drainAt, drainsAt, boundAt, vidAt, addressAt, withBinding, dropped}
 use Rattle.header.specs.Header.{chargeOf, lengthFits, taggedFrame, vidOf}
+use Rattle.ranges.specs.Ranges.{linkOf}
 use Rattle.fitness.specs.Fit.{recordFits, lentRefusal}
 use Rattle.steps.specs.Roles.{roleAt}
 use Rattle.opening.specs.Opening.{openedRecord}
@@ -44,11 +45,11 @@ pub all-happen : AllHappen
 unfolding allTo sumTo listTo iterate twoOf fourOf attempt arriveOf tickOf frameAt withFrame joinedMemory frontOf waiting openAt withOpen priorAt withPrior delayAt withDelay linkAt withLink waitsAt withWaits queueAt queuesAt withQueue streamAt withStream withPlace drainAt drainsAt boundAt vidAt addressAt withBinding dropped recordFits lentRefusal roleAt openedRecord arriveStep drainedAt tickedRecord tickStep transmitStep bestEffortStep openRefusal reserveRefusal arriveRefusal closedRefusal bestEffortRefusal bindRefusal frameRefusal lookupFrom lookup frameLookup octetsEqual chargeOf lengthFits taggedFrame vidOf
 all-happen =
     record {
-      busy-happens = record { list = fromFresh 1626 1 (afterFirst busy) refl; so = refl };
-      light-happens = record { list = fromFresh 2142 1 (afterFirst light) refl; so = refl };
-      withheld-happens = record { list = fromFresh 2142 1 (afterFirst withheld) refl; so = refl };
-      permitted-200-happens = record { list = fromFresh 2142 1 (afterFirst permitted200) refl; so = refl };
-      permitted-100-happens = record { list = fromFresh 2142 1 (afterFirst permitted100) refl; so = refl };
-      framed-happens = record { list = fromFresh 2142 1 framedCalls refl; so = refl };
+      busy-happens = record { list = fromFresh (linkOf 84) 1 (afterFirst busy) refl; so = refl };
+      light-happens = record { list = fromFresh (linkOf 600) 1 (afterFirst light) refl; so = refl };
+      withheld-happens = record { list = fromFresh (linkOf 600) 1 (afterFirst withheld) refl; so = refl };
+      permitted-200-happens = record { list = fromFresh (linkOf 600) 1 (afterFirst permitted200) refl; so = refl };
+      permitted-100-happens = record { list = fromFresh (linkOf 600) 1 (afterFirst permitted100) refl; so = refl };
+      framed-happens = record { list = fromFresh (linkOf 600) 1 framedCalls refl; so = refl };
       silent-happens = refl;
     }

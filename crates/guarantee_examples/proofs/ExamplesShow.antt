@@ -8,7 +8,7 @@ use Rattle.lists.specs.Each.{All, Some}
 use Rattle.stream.specs.declared.Reply.{Reply}
 use Rattle.stream.specs.State.{leastQueues}
 use Rattle.stream.specs.Replies.{granted}
-use Rattle.ranges.specs.Ranges.{leastCharge, shareOf}
+use Rattle.ranges.specs.Ranges.{leastCharge, linkOf}
 use Rattle.steps.specs.Call.{terms, opening, reserving, arriving, ticking}
 use Rattle.guarantee.specs.Events.{Marked, reservedSent, Event}
 use Rattle.guarantee.specs.Claims.{reservedOctets, Idle, LinkCondition, PurgesNothing, Sends, AllSentBefore}
@@ -50,7 +50,7 @@ not-by-third : AllSentBefore (leastQueues - 1) busy → ⊥
 not-by-third all =
     third-unsent
     (all
-    (replied (opening (terms 1626 1)) (granted 84 0) ∷ replied (reserving 5 84) (granted 0 0) ∷ replied (arriving 5 84 7) (granted 1 84) ∷ replied (arriving 5 84 7) (granted 2 84) ∷ [])
+    (replied (opening (terms (linkOf 84) 1)) (granted 84 0) ∷ replied (reserving 5 84) (granted 0 0) ∷ replied (arriving 5 84 7) (granted 1 84) ∷ replied (arriving 5 84 7) (granted 2 84) ∷ [])
     (toThirdTick ++ (replied ticking (granted 0 0) ∷ sending (reservedSent third) (granted 5 7) ∷ replied ticking (granted 0 0) ∷ []))
     (replied (arriving 5 84 7) (granted 3 0))
     5 84 7 refl refl refl toThirdTick (sending (reservedSent third) (granted 5 7) ∷ replied ticking (granted 0 0) ∷ []) (replied ticking (granted 0 0)) refl refl refl)
@@ -64,15 +64,15 @@ purges : All PurgesNothing withheld → ⊥
 purges (a, (b, (c, (d, (e, (f, (g, h))))))) = let z : _≡_ {A = ℕ} 1 0 = ap (λ (r : Reply). r .first) (g refl) in omega arith
 
 -- and the epoch before it
-epoch-fails : (shareOf 2142 ≤ reservedOctets epoch) ⊎ Some Idle epoch → ⊥
+epoch-fails : (600 ≤ reservedOctets epoch) ⊎ Some Idle epoch → ⊥
 epoch-fails (inl enough) = omega arith
 epoch-fails (inr idle) = none-idle epoch refl idle
 
-fails : LinkCondition (shareOf 2142) withheld → ⊥
+fails : LinkCondition 600 withheld → ⊥
 fails link =
     epoch-fails
     (link
-    (replied (opening (terms 2142 1)) (granted 600 0) ∷ replied (reserving 5 600) (granted 0 0) ∷ replied (arriving 5 516 7) (granted 1 84) ∷ replied (arriving 5 84 8) (granted 1 600) ∷ [])
+    (replied (opening (terms (linkOf 600) 1)) (granted 600 0) ∷ replied (reserving 5 600) (granted 0 0) ∷ replied (arriving 5 516 7) (granted 1 84) ∷ replied (arriving 5 84 8) (granted 1 600) ∷ [])
     epoch [] (replied ticking (granted 0 0)) (replied ticking (granted 1 84)) refl refl refl (refl, tt))
 
 -- the tick after the silent transmit
@@ -83,19 +83,19 @@ pub examples-show : ExamplesShow
 examples-show =
     record {
       happen = all-happen;
-      busy-links = link-holds (shareOf 1626) busy refl;
+      busy-links = link-holds 84 busy refl;
       busy-never-idle = none-idle busy refl;
       busy-not-by-third = not-by-third;
-      light-links = link-holds (shareOf 2142) light refl;
+      light-links = link-holds 600 light refl;
       light-octets = omega arith;
       light-not-by-first = λ sent. sent [] _ (replied ticking (granted 0 0)) refl refl refl;
       withheld-fails = fails;
       withheld-purges = purges;
-      withheld-nearly-links = link-holds (shareOf 2142 - leastCharge) withheld refl;
+      withheld-nearly-links = link-holds (600 - leastCharge) withheld refl;
       same-grants = refl;
       other-answers = λ e. let z : _≡_ {A = ℕ} 0 14 = ap (λ (rs : List Reply). firstRefusal rs) e in omega arith;
       framed-offers = refl;
       framed-remaining = refl;
-      silent-links = link-holds (shareOf 2142) silent refl;
+      silent-links = link-holds 600 silent refl;
       silent-purges = silent-purged;
     }

@@ -14,6 +14,7 @@ use Rattle.record.specs.Queues.{queuesAt}
 use Rattle.record.specs.Head.{openAt, withOpen, priorAt, withPrior, delayAt, withDelay, linkAt, withLink, waitsAt, withWaits, queueAt, withQueue}
 use Rattle.record.specs.Entry.{streamAt, withStream, withPlace, drainAt, drainsAt, boundAt, vidAt, addressAt, withBinding, dropped}
 use Rattle.header.specs.Header.{chargeOf, lengthFits, taggedFrame, vidOf}
+use Rattle.ranges.specs.Ranges.{linkOf}
 use Rattle.fitness.specs.Fit.{recordFits, lentRefusal}
 use Rattle.steps.specs.Roles.{roleAt}
 use Rattle.opening.specs.Opening.{openedRecord}
@@ -45,15 +46,15 @@ abbrev pub listOf : {link delay : ℕ} {later : List Call} {es : List Event} →
 listOf {link} {delay} {later} made =
     record { port = freshRecord; memory = freshMemory; terms = terms link delay; later = later; opened = made .opened }
 
-pub crowded-made : OnFresh 2142 1 (laterCalls crowded) crowded
+pub crowded-made : OnFresh (linkOf 600) 1 (laterCalls crowded) crowded
 unfolding allTo sumTo listTo iterate twoOf fourOf attempt arriveOf tickOf frameAt withFrame joinedMemory frontOf waiting openAt withOpen priorAt withPrior delayAt withDelay linkAt withLink waitsAt withWaits queueAt queuesAt withQueue streamAt withStream withPlace drainAt drainsAt boundAt vidAt addressAt withBinding dropped recordFits lentRefusal roleAt openedRecord arriveStep drainedAt tickedRecord tickStep transmitStep bestEffortStep openRefusal reserveRefusal arriveRefusal closedRefusal bestEffortRefusal bindRefusal frameRefusal lookupFrom lookup frameLookup octetsEqual chargeOf lengthFits taggedFrame vidOf
 crowded-made = record { opened = refl; so = refl }
 
-pub nearly-made : OnFresh 2142 1 (laterCalls nearly) nearly
+pub nearly-made : OnFresh (linkOf 600) 1 (laterCalls nearly) nearly
 unfolding allTo sumTo listTo iterate twoOf fourOf attempt arriveOf tickOf frameAt withFrame joinedMemory frontOf waiting openAt withOpen priorAt withPrior delayAt withDelay linkAt withLink waitsAt withWaits queueAt queuesAt withQueue streamAt withStream withPlace drainAt drainsAt boundAt vidAt addressAt withBinding dropped recordFits lentRefusal roleAt openedRecord arriveStep drainedAt tickedRecord tickStep transmitStep bestEffortStep openRefusal reserveRefusal arriveRefusal closedRefusal bestEffortRefusal bindRefusal frameRefusal lookupFrom lookup frameLookup octetsEqual chargeOf lengthFits taggedFrame vidOf
 nearly-made = record { opened = refl; so = refl }
 
-pub alone-made : OnFresh 1742 3 aloneCalls alone
+pub alone-made : OnFresh (linkOf 200) 3 aloneCalls alone
 unfolding allTo sumTo listTo iterate twoOf fourOf attempt arriveOf tickOf frameAt withFrame joinedMemory frontOf waiting openAt withOpen priorAt withPrior delayAt withDelay linkAt withLink waitsAt withWaits queueAt queuesAt withQueue streamAt withStream withPlace drainAt drainsAt boundAt vidAt addressAt withBinding dropped recordFits lentRefusal roleAt openedRecord arriveStep drainedAt tickedRecord tickStep transmitStep bestEffortStep openRefusal reserveRefusal arriveRefusal closedRefusal bestEffortRefusal bindRefusal frameRefusal lookupFrom lookup frameLookup octetsEqual chargeOf lengthFits taggedFrame vidOf
 alone-made = record { opened = refl; so = refl }
 
@@ -69,11 +70,11 @@ pub unfit-before : recordFits unfitRecord freshMemory ≡ false
 unfolding allTo sumTo listTo twoOf fourOf octetsEqual waiting openAt priorAt delayAt linkAt waitsAt queueAt queuesAt streamAt drainAt boundAt vidAt addressAt recordFits
 unfit-before = refl
 
-pub unfit-refused : called (opening (terms 2142 1)) unfitRecord freshMemory .reply ≡ refusedBy 19
+pub unfit-refused : called (opening (terms (linkOf 600) 1)) unfitRecord freshMemory .reply ≡ refusedBy 19
 unfolding allTo sumTo listTo twoOf fourOf octetsEqual waiting openAt priorAt delayAt linkAt waitsAt queueAt queuesAt streamAt drainAt boundAt vidAt addressAt recordFits lentRefusal
 unfit-refused = refl
 
-pub unfit-opened : quicklyCalled (opening (terms 2142 1)) unfitRecord freshMemory .reply ≡ granted 600 0
+pub unfit-opened : quicklyCalled (opening (terms (linkOf 600) 1)) unfitRecord freshMemory .reply ≡ granted 600 0
 unfolding openAt queuesAt openRefusal lengthRefusal
 unfit-opened = refl
 

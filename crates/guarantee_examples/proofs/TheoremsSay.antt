@@ -11,7 +11,7 @@ use Rattle.stream.specs.declared.Reply.{Reply}
 use Rattle.stream.specs.Replies.{granted}
 use Rattle.stream.specs.State.{leastQueues}
 use Rattle.record.specs.Queues.{queuesAt}
-use Rattle.ranges.specs.Ranges.{shareOf, leastCharge}
+use Rattle.ranges.specs.Ranges.{leastCharge, shareOf, linkOf}
 use Rattle.header.specs.Header.{chargeOf, lengthFits, taggedFrame}
 use Rattle.binding.specs.Finding.{frameLookup}
 use Rattle.lists.specs.Equal.{octetsEqual}
@@ -45,7 +45,7 @@ module _ (sent : Sent) (said shown : Reply) where
   busyNext = transmitted sent said shown
 
   -- from `sent-as-replied`
-  next-sends : Happens (busyWith busyNext busyThird purgesNone) → LinkCondition (shareOf 1626) (busyWith busyNext busyThird purgesNone)
+  next-sends : Happens (busyWith busyNext busyThird purgesNone) → LinkCondition 84 (busyWith busyNext busyThird purgesNone)
       → Some (Sends secondFrame) (busyLastArrival ∷ busyToThirdTick busyNext)
   next-sends happens link =
       subst SentByReply (happens .so)
@@ -53,7 +53,7 @@ module _ (sent : Sent) (said shown : Reply) where
       busyBefore (busyLastArrival ∷ busyAfter busyNext busyThird purgesNone) busyNextArrival 5 84 7 refl refl refl
       (busyLastArrival ∷ busyToThirdTick busyNext) (busyThird ∷ replied ticking purgesNone ∷ []) (replied ticking (granted 0 0)) refl refl refl
 
-  next-sent : Happens (busyWith busyNext busyThird purgesNone) → LinkCondition (shareOf 1626) (busyWith busyNext busyThird purgesNone)
+  next-sent : Happens (busyWith busyNext busyThird purgesNone) → LinkCondition 84 (busyWith busyNext busyThird purgesNone)
       → sent ≡ reservedSent secondFrame
   next-sent happens link =
       only secondFrame (busyLastArrival ∷ (busyToSecondTick ++ (replied ticking (granted 0 0) ∷ []))) [] busyNext refl refl (next-sends happens link)
@@ -79,21 +79,21 @@ six-alone first second third fourth happens =
     replied-alone-of (aloneWith first second third fourth) happens 6 200 aloneOpening while [] aloneGrant refl refl refl (stays-hold 6 while refl)
 
 -- the epoch that sends 83 octets less than the share
-epoch-fails : (shareOf 2142 ≤ reservedOctets nearlyEpoch) ⊎ Some Idle nearlyEpoch → ⊥
+epoch-fails : (600 ≤ reservedOctets nearlyEpoch) ⊎ Some Idle nearlyEpoch → ⊥
 epoch-fails (inl enough) = omega arith
 epoch-fails (inr idle) = none-idle nearlyEpoch refl idle
 
-fails : LinkCondition (shareOf 2142) nearly → ⊥
+fails : LinkCondition 600 nearly → ⊥
 fails link = epoch-fails (link nearlyBefore nearlyEpoch [] (replied ticking (granted 0 0)) (replied ticking purgesNone) refl refl refl (refl, tt))
 
 -- from `promised-by-less`, at 83 octets less than the share
 abbrev leastAsked : ℕ
-leastAsked = shareOf 2142 + 1 - leastCharge
+leastAsked = 600 + 1 - leastCharge
 
-nearly-promised : (es : List Event) → Happens es → firstShare es ≡ shareOf 2142 → LinkCondition leastAsked es → Promised leastQueues es
+nearly-promised : (es : List Event) → Happens es → firstShare es ≡ 600 → LinkCondition leastAsked es → Promised leastQueues es
 unfolding queuesAt
 nearly-promised es happens share-so link =
-    let same : shareOf (happens .list .terms .link) ≡ shareOf 2142 = sym (first-share es happens) ∙ share-so in
+    let same : shareOf (happens .list .terms .link) ≡ 600 = sym (first-share es happens) ∙ share-so in
     subst (Promised leastQueues) (happens .so)
     (promised-by-less (happens .list) leastAsked (rw same (omega arith)) (subst (LinkCondition leastAsked) (sym (happens .so)) link))
 
@@ -112,10 +112,10 @@ replies-of [] earlier p m q k = refl
 replies-of (c ∷ cs) earlier p m q k = ap (λ (rs : List Reply). called c p m .reply ∷ rs) (replies-of cs _ _ _ _ _)
 
 -- from `quick-replies`
-alone-quick : replies quicklyCalled (opening (terms 1742 3) ∷ aloneCalls) freshRecord freshMemory ≡ map (λ (e : Event). e .reply) alone
+alone-quick : replies quicklyCalled (opening (terms (linkOf 200) 3) ∷ aloneCalls) freshRecord freshMemory ≡ map (λ (e : Event). e .reply) alone
 alone-quick =
-    quick-replies (opening (terms 1742 3) ∷ aloneCalls) freshRecord freshMemory fresh-fits
-    ∙ (sym (replies-of (opening (terms 1742 3) ∷ aloneCalls) [] freshRecord freshMemory freshRecord freshMemory) ∙ ap (map (λ (e : Event). e .reply)) (alone-made .so))
+    quick-replies (opening (terms (linkOf 200) 3) ∷ aloneCalls) freshRecord freshMemory fresh-fits
+    ∙ (sym (replies-of (opening (terms (linkOf 200) 3) ∷ aloneCalls) [] freshRecord freshMemory freshRecord freshMemory) ∙ ap (map (λ (e : Event). e .reply)) (alone-made .so))
 
 -- from `frame-becomes`: without a VLAN tag no pair is looked up
 untagged-so : (p m : List ℕ) → called (framing (untagged shortestFrame) 9) p m ≡ called (joiningBestEffort 84 9) p m
@@ -141,7 +141,7 @@ theorems-say =
       unfit-before = unfit-before;
       unfit-refused = unfit-refused;
       unfit-opened = unfit-opened;
-      fit-after = granted-open-fits unfitRecord freshMemory (terms 2142 1) (ap (λ (r : Reply). r .refusal) unfit-opened);
+      fit-after = granted-open-fits unfitRecord freshMemory (terms (linkOf 600) 1) (ap (λ (r : Reply). r .refusal) unfit-opened);
       untagged-joins = untagged-so;
       untagged-not-17 = λ p m. frame-not-17 p m (untagged shortestFrame) 9 shortest-fits;
       untagged-short = λ p opened. frame-refused p (untagged (shortestFrame - 1)) opened short-unfit;
@@ -151,7 +151,7 @@ pub open-parts-happen : OpenPartsHappen
 open-parts-happen =
     record {
       crowded-happens = crowded-made .so;
-      crowded-links = link-holds (shareOf 2142) crowded refl;
+      crowded-links = link-holds 600 crowded refl;
       busy-happens = busy-made;
       nearly-happens = nearly-made .so;
       alone-happens = alone-made .so;

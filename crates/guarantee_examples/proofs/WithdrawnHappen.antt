@@ -13,6 +13,7 @@ use Rattle.record.specs.Queues.{queuesAt}
 use Rattle.record.specs.Head.{openAt, withOpen, priorAt, withPrior, delayAt, withDelay, linkAt, withLink, waitsAt, withWaits, queueAt, withQueue}
 use Rattle.record.specs.Entry.{streamAt, withStream, withPlace, drainAt, withDrain, drainsAt, boundAt, vidAt, addressAt, withBinding, dropped}
 use Rattle.header.specs.Header.{chargeOf, lengthFits, taggedFrame, vidOf}
+use Rattle.ranges.specs.Ranges.{linkOf}
 use Rattle.steps.specs.Roles.{roleAt}
 use Rattle.opening.specs.Opening.{openedRecord}
 use Rattle.arriving.specs.Arriving.{arriveStep}
@@ -53,17 +54,17 @@ module _ (link delay : ℕ) (is : quicklyCalled (opening (terms link delay)) fre
   happens-quickly es so = record { list = quickList; so = sym (quick-events quickList) ∙ so }
 
 -- the three Opens
-opened-1626 : quicklyCalled (opening (terms 1626 1)) freshRecord freshMemory .reply .refusal ≡ 0
+opened-84 : quicklyCalled (opening (terms (linkOf 84) 1)) freshRecord freshMemory .reply .refusal ≡ 0
 unfolding openAt queuesAt openRefusal lengthRefusal
-opened-1626 = refl
+opened-84 = refl
 
-opened-2142 : quicklyCalled (opening (terms 2142 1)) freshRecord freshMemory .reply .refusal ≡ 0
+opened-600 : quicklyCalled (opening (terms (linkOf 600) 1)) freshRecord freshMemory .reply .refusal ≡ 0
 unfolding openAt queuesAt openRefusal lengthRefusal
-opened-2142 = refl
+opened-600 = refl
 
-opened-1742 : quicklyCalled (opening (terms 1742 3)) freshRecord freshMemory .reply .refusal ≡ 0
+opened-200 : quicklyCalled (opening (terms (linkOf 200) 3)) freshRecord freshMemory .reply .refusal ≡ 0
 unfolding openAt queuesAt openRefusal lengthRefusal
-opened-1742 = refl
+opened-200 = refl
 
 -- the lists
 handed-6-made : events quicklyCalled (callsOf (handed 6)) freshRecord freshMemory ≡ handed 6
@@ -86,7 +87,7 @@ left-alone-made : events quicklyCalled (callsOf leftAlone) freshRecord freshMemo
 unfolding allTo sumTo listTo iterate twoOf fourOf attempt arriveOf tickOf frameAt withFrame joinedMemory frontOf waiting openAt withOpen priorAt withPrior delayAt withDelay linkAt withLink waitsAt withWaits queueAt queuesAt withQueue streamAt withStream withPlace drainAt withDrain drainsAt boundAt vidAt addressAt withBinding dropped roleAt openedRecord arriveStep drainedAt tickedRecord tickStep transmitStep bestEffortStep openRefusal reserveRefusal withdrawRefusal arriveRefusal closedRefusal bestEffortRefusal bindRefusal frameRefusal lookupFrom lookup frameLookup octetsEqual chargeOf lengthFits taggedFrame vidOf lengthRefusal
 left-alone-made = refl
 
-tried-made : events quicklyCalled (opening (terms 2142 1) ∷ triedCalls) freshRecord freshMemory ≡ tried
+tried-made : events quicklyCalled (opening (terms (linkOf 600) 1) ∷ triedCalls) freshRecord freshMemory ≡ tried
 unfolding allTo sumTo listTo iterate twoOf fourOf attempt arriveOf tickOf frameAt withFrame joinedMemory frontOf waiting openAt withOpen priorAt withPrior delayAt withDelay linkAt withLink waitsAt withWaits queueAt queuesAt withQueue streamAt withStream withPlace drainAt withDrain drainsAt boundAt vidAt addressAt withBinding dropped roleAt openedRecord arriveStep drainedAt tickedRecord tickStep transmitStep bestEffortStep openRefusal reserveRefusal withdrawRefusal arriveRefusal closedRefusal bestEffortRefusal bindRefusal frameRefusal lookupFrom lookup frameLookup octetsEqual chargeOf lengthFits taggedFrame vidOf lengthRefusal
 tried-made = refl
 
@@ -97,11 +98,11 @@ hurry-made = refl
 pub withdrawn-happen : WithdrawnHappen
 withdrawn-happen =
     record {
-      handed-to-6 = happens-quickly 1626 1 opened-1626 (laterCalls (handed 6)) (handed 6) handed-6-made;
-      handed-to-5 = happens-quickly 1626 1 opened-1626 (laterCalls (handed 5)) (handed 5) handed-5-made;
-      withdrawn-happens = happens-quickly 2142 1 opened-2142 (laterCalls withdrawn) withdrawn withdrawn-made;
-      leaving-happens = happens-quickly 2142 1 opened-2142 (laterCalls leaving) leaving leaving-made;
-      left-alone-happens = happens-quickly 1742 3 opened-1742 (laterCalls leftAlone) leftAlone left-alone-made;
-      tried-happens = happens-quickly 2142 1 opened-2142 triedCalls tried tried-made;
+      handed-to-6 = happens-quickly (linkOf 84) 1 opened-84 (laterCalls (handed 6)) (handed 6) handed-6-made;
+      handed-to-5 = happens-quickly (linkOf 84) 1 opened-84 (laterCalls (handed 5)) (handed 5) handed-5-made;
+      withdrawn-happens = happens-quickly (linkOf 600) 1 opened-600 (laterCalls withdrawn) withdrawn withdrawn-made;
+      leaving-happens = happens-quickly (linkOf 600) 1 opened-600 (laterCalls leaving) leaving leaving-made;
+      left-alone-happens = happens-quickly (linkOf 200) 3 opened-200 (laterCalls leftAlone) leftAlone left-alone-made;
+      tried-happens = happens-quickly (linkOf 600) 1 opened-600 triedCalls tried tried-made;
       hurry-happens = hurry-made;
     }

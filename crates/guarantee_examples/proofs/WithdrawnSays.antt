@@ -12,7 +12,6 @@ use Rattle.stream.specs.Replies.{granted, refusedBy}
 use Rattle.stream.specs.State.{leastQueues}
 use Rattle.stream.specs.Alone.{arrival}
 use Rattle.record.specs.Queues.{queuesAt}
-use Rattle.ranges.specs.Ranges.{shareOf}
 use Rattle.steps.specs.Call.{reserving, arriving, ticking}
 use Rattle.guarantee.specs.Events.{Sent, reservedSent, Event}
 use Rattle.guarantee.specs.Claims.{LinkCondition, PurgesNothing, Sends, Prompt, answers}
@@ -35,7 +34,7 @@ module _ (s : ℕ) (sent : Sent) (said shown : Reply) where
   unknown = transmitted sent said shown
 
   -- from `all-sent`, the last frame of the stream that is withdrawn
-  third-sends : Happens (handedWith s unknown (granted 0 0) (handedLast s) (granted 0 0)) → LinkCondition (shareOf 1626) (handedWith s unknown (granted 0 0) (handedLast s) (granted 0 0))
+  third-sends : Happens (handedWith s unknown (granted 0 0) (handedLast s) (granted 0 0)) → LinkCondition 84 (handedWith s unknown (granted 0 0) (handedLast s) (granted 0 0))
       → Some (Sends thirdFrame) (handedToFourthTick unknown)
   third-sends happens link =
       promised-of (handedWith s unknown (granted 0 0) (handedLast s) (granted 0 0)) happens link .all-sent
@@ -46,7 +45,7 @@ module _ (s : ℕ) (sent : Sent) (said shown : Reply) where
   abbrev beforeLastArrival : List Event
   beforeLastArrival = handedBefore ++ (busyLastArrival ∷ (handedToFourthTick handedThird ++ (quietTick ∷ handedGrant s)))
 
-  last-sends : Happens (handedWith s handedThird (granted 0 0) unknown (granted 0 0)) → LinkCondition (shareOf 1626) (handedWith s handedThird (granted 0 0) unknown (granted 0 0))
+  last-sends : Happens (handedWith s handedThird (granted 0 0) unknown (granted 0 0)) → LinkCondition 84 (handedWith s handedThird (granted 0 0) unknown (granted 0 0))
       → Some (Sends (handedFrame s)) (handedToLastTick s unknown)
   last-sends happens link =
       promised-of (handedWith s handedThird (granted 0 0) unknown (granted 0 0)) happens link .all-sent
@@ -63,7 +62,7 @@ module _ (s : ℕ) (fourth reply : Reply) (happens : Happens (handedWith s hande
   no-purges : All PurgesNothing (handedWith s handedThird fourth (handedLast s) reply)
   no-purges =
       let es = handedWith s handedThird fourth (handedLast s) reply in
-      promised-of es happens (link-holds (shareOf 1626) es refl) .no-purge
+      promised-of es happens (link-holds 84 es refl) .no-purge
 
   abbrev toFourthTick : List Event
   toFourthTick = handedBefore ++ (busyLastArrival ∷ handedToFourthTick handedThird)
@@ -85,12 +84,12 @@ module _ (reply : Reply) (sent : Sent) (said shown : Reply) (happens : Happens (
   arrives = replied (arriving 5 120 7) reply
 
   -- from `prompt`, of the one event from the grant to the withdrawal
-  leaving-prompt : LinkCondition (shareOf 2142) (leavingWith reply first) → Prompt leavingFrame arrives (leavingAfter first)
+  leaving-prompt : LinkCondition 600 (leavingWith reply first) → Prompt leavingFrame arrives (leavingAfter first)
   leaving-prompt link =
       promised-of (leavingWith reply first) happens link .prompt 5 200 withdrawnOpening (arrives ∷ []) (leavingAfter first) withdrawnGrant refl refl refl
       (within-holds 5 200 (arrives ∷ []) refl) (stays-hold 5 (arrives ∷ []) refl) [] [] arrives 120 7 refl refl refl
 
-  leaving-sent : LinkCondition (shareOf 2142) (leavingWith reply first) → sent ≡ reservedSent leavingFrame
+  leaving-sent : LinkCondition 600 (leavingWith reply first) → sent ≡ reservedSent leavingFrame
   leaving-sent link =
       only leavingFrame leavingToFirst leavingSecond first refl refl
       (leaving-prompt link .1 .1 (leavingToSecondTick first) [] quietTick refl refl refl)

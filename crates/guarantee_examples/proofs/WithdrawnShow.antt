@@ -10,7 +10,6 @@ use Rattle.stream.specs.declared.Reply.{Reply}
 use Rattle.stream.specs.State.{leastQueues}
 use Rattle.stream.specs.Replies.{granted, refusedBy}
 use Rattle.stream.specs.Steps.{attempt, arriveOf}
-use Rattle.ranges.specs.Ranges.{shareOf}
 use Rattle.steps.specs.Call.{reserving, arriving, ticking}
 use Rattle.guarantee.specs.Events.{Event}
 use Rattle.guarantee.specs.Claims.{PurgesNothing, answers}
@@ -90,8 +89,8 @@ pub withdrawn-show : WithdrawnShow
 withdrawn-show =
     record {
       happen = withdrawn-happen;
-      handed-6-links = link-holds (shareOf 1626) (handed 6) refl;
-      handed-5-links = link-holds (shareOf 1626) (handed 5) refl;
+      handed-6-links = link-holds 84 (handed 6) refl;
+      handed-5-links = link-holds 84 (handed 5) refl;
       withdrawn-same-calls = same-calls;
       withdrawn-same-grants = refl;
       withdrawn-other-answers = answers-differ;
@@ -101,6 +100,6 @@ withdrawn-show =
       tried-not-longer = not-longer;
       tried-not-sooner = not-sooner;
       tried-not-beyond = not-beyond;
-      hurry-links = link-holds (shareOf 1626) hurry refl;
+      hurry-links = link-holds 84 hurry refl;
       hurry-purges = hurry-purged;
     }

@@ -10,6 +10,7 @@ use Rattle.stream.specs.declared.Reply.{Reply}
 use Rattle.stream.specs.Replies.{granted, refusedBy}
 use Rattle.header.specs.Header.{vlanTag}
 use Rattle.queue.specs.Place.{bestEffortStream}
+use Rattle.ranges.specs.Ranges.{linkOf}
 use Rattle.steps.specs.Outcome.{Outcome, outcome}
 use Rattle.sending.specs.Sending.{nothing}
 use Rattle.steps.specs.Call.{terms, Call, opening, reserving, arriving, ticking, transmitting, joiningBestEffort, binding, framing}
@@ -33,7 +34,7 @@ pub record Happens (es : List Event) : Type 0 where
 -- tick. The frames are the same but for their calls
 abbrev pub busy : List Event
 busy =
-    replied (opening (terms 1626 1)) (granted 84 0)
+    replied (opening (terms (linkOf 84) 1)) (granted 84 0)
     ∷ replied (reserving 5 84) (granted 0 0)
     ∷ replied (arriving 5 84 7) (granted 1 84)
     ∷ replied (arriving 5 84 7) (granted 2 84)
@@ -58,7 +59,7 @@ afterArrival =
 
 abbrev pub light : List Event
 light =
-    replied (opening (terms 2142 1)) (granted 600 0)
+    replied (opening (terms (linkOf 600) 1)) (granted 600 0)
     ∷ replied (reserving 5 200) (granted 400 0)
     ∷ replied (joiningBestEffort 300 1) (granted 300 0)
     ∷ replied (arriving 5 120 7) (granted 1 80)
@@ -67,7 +68,7 @@ light =
 -- share 600, and an epoch that sends the least charge less than that: the tick after it purges
 abbrev pub withheld : List Event
 withheld =
-    replied (opening (terms 2142 1)) (granted 600 0)
+    replied (opening (terms (linkOf 600) 1)) (granted 600 0)
     ∷ replied (reserving 5 600) (granted 0 0)
     ∷ replied (arriving 5 516 7) (granted 1 84)
     ∷ replied (arriving 5 84 8) (granted 1 600)
@@ -78,10 +79,10 @@ withheld =
 
 -- the same arrival on a stream with another P
 abbrev pub permitted200 : List Event
-permitted200 = replied (opening (terms 2142 1)) (granted 600 0) ∷ replied (reserving 5 200) (granted 400 0) ∷ replied (arriving 5 120 7) (granted 1 80) ∷ []
+permitted200 = replied (opening (terms (linkOf 600) 1)) (granted 600 0) ∷ replied (reserving 5 200) (granted 400 0) ∷ replied (arriving 5 120 7) (granted 1 80) ∷ []
 
 abbrev pub permitted100 : List Event
-permitted100 = replied (opening (terms 2142 1)) (granted 600 0) ∷ replied (reserving 5 100) (granted 500 0) ∷ replied (arriving 5 120 7) (refusedBy 14) ∷ []
+permitted100 = replied (opening (terms (linkOf 600) 1)) (granted 600 0) ∷ replied (reserving 5 100) (granted 500 0) ∷ replied (arriving 5 120 7) (refusedBy 14) ∷ []
 
 -- a frame of as many octets to an address, with a VLAN tag whose priority bits are set, and one without
 abbrev pub address : List ℕ
@@ -110,7 +111,7 @@ framedCalls =
 -- each counts as what it becomes, and the one that is too short as itself
 abbrev pub framed : List Event
 framed =
-    replied (opening (terms 2142 1)) (granted 600 0)
+    replied (opening (terms (linkOf 600) 1)) (granted 600 0)
     ∷ replied (reserving 5 200) (granted 400 0)
     ∷ replied (binding 5 address 100) (granted 0 0)
     ∷ replied (arriving 5 84 7) (granted 1 116)
@@ -129,7 +130,7 @@ silently c p m = cond (isTransmit (actionOf c)) (outcome (granted nothing 0) p m
 -- and what happens by it: the link condition is met by its transmit, and a tick purges
 abbrev pub silent : List Event
 silent =
-    replied (opening (terms 2142 1)) (granted 600 0)
+    replied (opening (terms (linkOf 600) 1)) (granted 600 0)
     ∷ replied (reserving 5 200) (granted 400 0)
     ∷ replied (arriving 5 120 7) (granted 1 80)
     ∷ replied ticking (granted 0 0)

@@ -9,6 +9,7 @@ use Rattle.stream.specs.Replies.{granted, refusedBy}
 use Rattle.record.specs.Queues.{queuesAt}
 use Rattle.record.specs.Entry.{withDrain}
 use Rattle.sending.specs.Sending.{nothing}
+use Rattle.ranges.specs.Ranges.{linkOf}
 use Rattle.steps.specs.Outcome.{Outcome, outcome}
 use Rattle.steps.specs.Call.{terms, Call, opening, reserving, withdrawing, arriving, ticking, transmitting, joiningBestEffort, binding, framing}
 use Rattle.port.specs.Quick.{quicklyCalled}
@@ -105,7 +106,7 @@ abbrev pub withdrawnAfter : List Event
 withdrawnAfter = withdrawalOf5 ∷ withdrawnArrival ∷ []
 
 abbrev pub withdrawnOpening : List Event
-withdrawnOpening = replied (opening (terms 2142 1)) (granted 600 0) ∷ []
+withdrawnOpening = replied (opening (terms (linkOf 600) 1)) (granted 600 0) ∷ []
 
 abbrev pub withdrawn : List Event
 withdrawn = withdrawnOpening ++ (withdrawnGrant ∷ withdrawnAfter)
@@ -147,7 +148,7 @@ leavingFrame = markedFrame 5 120 7 2
 -- Open are the replies to its arrivals
 abbrev pub leftAloneWith : Reply → Reply → List Event
 leftAloneWith first second =
-    replied (opening (terms 1742 3)) (granted 200 0)
+    replied (opening (terms (linkOf 200) 3)) (granted 200 0)
     ∷ replied (reserving 5 200) (granted 0 0)
     ∷ replied (arriving 5 120 7) first
     ∷ withdrawalOf5
@@ -193,7 +194,7 @@ triedCalls =
 
 abbrev pub triedBefore : List Event
 triedBefore =
-    replied (opening (terms 2142 1)) (granted 600 0)
+    replied (opening (terms (linkOf 600) 1)) (granted 600 0)
     ∷ replied (reserving 5 200) (granted 400 0)
     ∷ replied (binding 5 address 100) (granted 0 0)
     ∷ replied (arriving 5 120 7) (granted 1 80)

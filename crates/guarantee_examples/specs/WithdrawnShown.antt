@@ -10,7 +10,7 @@ use Rattle.lists.specs.Each.{All}
 use Rattle.stream.specs.declared.Reply.{Reply}
 use Rattle.stream.specs.State.{leastQueues}
 use Rattle.stream.specs.Replies.{granted, refusedBy}
-use Rattle.ranges.specs.Ranges.{chargeFits, shareOf}
+use Rattle.ranges.specs.Ranges.{chargeFits}
 use Rattle.stream.specs.Alone.{arrival}
 use Rattle.steps.specs.Call.{reserving, arriving}
 use Rattle.port_laws.specs.Lists.{freshRecord, freshMemory}
@@ -52,8 +52,8 @@ FreeBeyond queues es =
 pub record WithdrawnShow : Type 0 where
   pub happen : WithdrawnHappen
   -- the link condition is met, before the share is granted again and after it
-  pub handed-6-links : LinkCondition (shareOf 1626) (handed 6)
-  pub handed-5-links : LinkCondition (shareOf 1626) (handed 5)
+  pub handed-6-links : LinkCondition 84 (handed 6)
+  pub handed-5-links : LinkCondition 84 (handed 5)
   -- a stream's withdrawals are among its own calls: two lists that differ in a Withdraw alone give its arrival other replies
   pub withdrawn-same-calls : remainingOthers 5 permitted200 ≡ remainingOthers 5 withdrawn
   pub withdrawn-same-grants : grants 5 permitted200 ≡ grants 5 withdrawn
@@ -67,7 +67,7 @@ pub record WithdrawnShow : Type 0 where
   pub tried-not-sooner : FreeFrom (leastQueues - 1) tried → ⊥
   pub tried-not-beyond : FreeBeyond leastQueues tried → ⊥
   -- demand 3 is false of a machine whose withdrawn streams drain for two ticks fewer than there are queues
-  pub hurry-links : LinkCondition (shareOf 1626) hurry
+  pub hurry-links : LinkCondition 84 hurry
   pub hurry-purges : All PurgesNothing hurry → ⊥
 
 -- what follows from the theorems on lists
@@ -75,16 +75,16 @@ pub record WithdrawnSays : Type 0 where
   -- `all-sent`: the last frame of the withdrawn stream is sent before the tick that frees it, and the last one of the stream that has the share after
   -- that before the fourth tick after it
   pub handed-third : (s : ℕ) (sent : Sent) (said shown : Reply) → let es = handedWith s (transmitted sent said shown) (granted 0 0) (handedLast s) (granted 0 0) in
-      Happens es → LinkCondition (shareOf 1626) es → sent ≡ reservedSent thirdFrame
+      Happens es → LinkCondition 84 es → sent ≡ reservedSent thirdFrame
   pub handed-last : (s : ℕ) (sent : Sent) (said shown : Reply) → let es = handedWith s handedThird (granted 0 0) (transmitted sent said shown) (granted 0 0) in
-      Happens es → LinkCondition (shareOf 1626) es → sent ≡ reservedSent (handedFrame s)
+      Happens es → LinkCondition 84 es → sent ≡ reservedSent (handedFrame s)
   -- `no-purge`: neither the tick that frees it nor the fourth one after the grant purges
   pub handed-zeros : (s : ℕ) (fourth reply : Reply) → Happens (handedWith s handedThird fourth (handedLast s) reply) → (fourth ≡ purgesNone) × (reply ≡ purgesNone)
   -- `prompt`: a frame that a conforming stream offers before its withdrawal joins current, and is sent before the second tick, which comes after it
   pub leaving-joins : (reply : Reply) (sent : Sent) (said shown : Reply) → let es = leavingWith reply (transmitted sent said shown) in
-      Happens es → LinkCondition (shareOf 2142) es → (reply .refusal ≡ 0) × (reply .first ≡ crowdedPlace)
+      Happens es → LinkCondition 600 es → (reply .refusal ≡ 0) × (reply .first ≡ crowdedPlace)
   pub leaving-sends : (reply : Reply) (sent : Sent) (said shown : Reply) → let es = leavingWith reply (transmitted sent said shown) in
-      Happens es → LinkCondition (shareOf 2142) es → sent ≡ reservedSent leavingFrame
+      Happens es → LinkCondition 600 es → sent ≡ reservedSent leavingFrame
   -- `replied-as-alone`: until then the stream gets the replies that it gets by itself
   pub leaving-alone : (reply : Reply) (sent : Sent) (said shown : Reply) → Happens (leavingWith reply (transmitted sent said shown))
       → reply ∷ [] ≡ repliesAlone 200 (arrival 120 ∷ [])

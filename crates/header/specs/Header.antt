@@ -17,7 +17,7 @@ onWire = 4 + 20
 unfoldable pub chargeOf : List ℕ → ℕ
 chargeOf f = length f + onWire
 
--- "frame outside 60 to 1,518 octets" is refused: the lengths whose charge is in its range
+-- a frame outside "60 to 1,996" octets is refused: these are the lengths whose charge is in its range
 unfoldable pub lengthFits : List ℕ → Bool
 lengthFits f = within (leastCharge - onWire) (greatestCharge - onWire) (length f)
 

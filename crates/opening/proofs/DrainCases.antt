@@ -11,11 +11,11 @@ use Rattle.record.specs.Entry.{streamAt, withStream, drainAt, withDrain, boundA
 use Rattle.opening.specs.Opening.{allDropped, reservedRecord}
 use Rattle.opening.specs.Withdrawing.{withdrawnRecord, withdrawStep}
 
--- the front of a record, up to the mark of stream 0's binding: open, prior 0, K 1 and L 2,142, a frame in queue 0, and stream 0 reserved, at current with
--- 200 octets left of 200, its draining count, and bound
+-- the front of a record, up to the mark of stream 0's binding: open, prior 0, K 1 and no L, which nothing here reads, a frame in queue 0, and stream 0
+-- reserved, at current with 200 octets left of 200, its draining count, and bound
 abbrev portWith : ℕ → List ℕ
 portWith drain =
-    (1 ∷ 0 ∷ 1 ∷ 0 ∷ 0 ∷ 0 ∷ 8 ∷ 94 ∷ [])
+    (1 ∷ 0 ∷ 1 ∷ replicate {A = ℕ} 5 0)
     ++ (replicate {A = ℕ} 11 0 ++ (1 ∷ (replicate {A = ℕ} 44 0 ++ (1 ∷ 1 ∷ 0 ∷ 200 ∷ 0 ∷ 200 ∷ drain ∷ 1 ∷ []))))
 
 -- "It drains until the fourth tick after the withdrawal"

@@ -11,10 +11,10 @@ use Rattle.stream.specs.State.{leastQueues, reserveOf}
 use Rattle.stream.specs.Steps.{attempt, arriveOf, tickOf}
 use Rattle.stream.specs.Replies.{refusedBy}
 use Rattle.stream.specs.Alone.{StreamEvent, arrival, tick, replies}
-use Rattle.ranges.specs.Ranges.{shareOf}
+use Rattle.ranges.specs.Ranges.{leastCharge, greatestCharge, shareOf, greatestShare, linkOf}
 use Rattle.header.specs.Header.{chargeOf}
 use Rattle.steps.specs.Call.{Call, opening, reserving, withdrawing, arriving, ticking, transmitting, joiningBestEffort, binding, framing}
-use Rattle.port_laws.specs.Cases.{Case, c1, c2, c4, c5, sample, c7, c8, c9, c10, c12, caseTagged, framesCase, withdrawCase}
+use Rattle.port_laws.specs.Cases.{Case, caseLink, c1, c2, c4, c5, sample, c7, c8, c9, c10, c11, c12, caseTagged, framesCase, withdrawCase}
 
 -- the reply that is expected to call number n of a case, and the rule's reply to arrival number n of a stream with P = 200
 abbrev expectedOf : Case → ℕ → Reply
@@ -23,7 +23,21 @@ expectedOf c n = getD (c .expected) n (refusedBy 98)
 abbrev byRule : List StreamEvent → ℕ → Reply
 byRule es n = getD (replies (leastQueues - 1) (reserveOf 200) es) n (refusedBy 99)
 
--- the tag of call number n of a case
+-- a call of a case by its number; the number that it comes with, L, P or a charge; and its tag
+abbrev callOf : Case → ℕ → Call
+callOf c n = getD (c .calls) n ticking
+
+abbrev numberIn : Call → ℕ
+numberIn (opening t) = t .link
+numberIn (reserving s permitted) = permitted
+numberIn (withdrawing s) = 0
+numberIn (arriving s charge tag) = charge
+numberIn ticking = 0
+numberIn transmitting = 0
+numberIn (joiningBestEffort charge tag) = charge
+numberIn (binding s address vid) = 0
+numberIn (framing octets tag) = 0
+
 abbrev tagOf : Call → ℕ
 tagOf (opening t) = 0
 tagOf (reserving s permitted) = 0
@@ -35,14 +49,27 @@ tagOf (joiningBestEffort charge tag) = tag
 tagOf (binding s address vid) = 0
 tagOf (framing octets tag) = tag
 
--- the shares of C1 and C2, and what P = 200 and P = 400 leave of that of C4
-c1-share : expectedOf c1 1 .first ≡ shareOf 1626
+-- C1 and C2 are at the ends of L, each with the number beside it
+c1-least : numberIn (callOf c1 1) ≡ linkOf leastCharge
+c1-least = refl
+
+c1-below : numberIn (callOf c1 0) + 1 ≡ linkOf leastCharge
+c1-below = refl
+
+c2-greatest : numberIn (callOf c2 1) ≡ linkOf greatestShare
+c2-greatest = refl
+
+c2-above : numberIn (callOf c2 0) ≡ linkOf greatestShare + 1
+c2-above = refl
+
+-- their shares, and what P = 200 and P = 400 leave of that of C4
+c1-share : expectedOf c1 1 .first ≡ shareOf (numberIn (callOf c1 1))
 c1-share = refl
 
-c2-share : expectedOf c2 1 .first ≡ shareOf 23046
+c2-share : expectedOf c2 1 .first ≡ shareOf (numberIn (callOf c2 1))
 c2-share = refl
 
-c4-rest : expectedOf c4 3 .first ≡ shareOf 2142 - (200 + 400)
+c4-rest : expectedOf c4 3 .first ≡ shareOf caseLink - (200 + 400)
 c4-rest = refl
 
 -- C5 to C10 by the rule of one stream
@@ -67,18 +94,31 @@ unfolding attempt arriveOf
 c10-refusal = refl
 
 -- the frames of the sample are sent in the order of their arrivals
-sample-tag : expectedOf sample 4 .second ≡ tagOf (getD (sample .calls) 2 ticking)
+sample-tag : expectedOf sample 4 .second ≡ tagOf (callOf sample 2)
 sample-tag = refl
 
--- K times what is not reserved of L is best effort's limit in C12
-c12-refusal : expectedOf c12 4 .refusal ≡ cond (ltb (1 * (2142 - 200)) (1542 + 400 + 84)) 16 0
+-- C11 is beside the ends of a charge, and C12 begins with the greatest
+c11-below : numberIn (callOf c11 2) + 1 ≡ leastCharge
+c11-below = refl
+
+c11-above : numberIn (callOf c11 3) ≡ greatestCharge + 1
+c11-above = refl
+
+c12-greatest : numberIn (callOf c12 2) ≡ greatestCharge
+c12-greatest = refl
+
+-- K times what is not reserved of L is best effort's limit there: the second frame reaches it, and a third is above
+c12-waits : expectedOf c12 3 .first ≡ 1 * (caseLink - 200)
+c12-waits = refl
+
+c12-refusal : expectedOf c12 4 .refusal ≡ cond (ltb (1 * (caseLink - 200)) (greatestCharge + 400 + 84)) 16 0
 c12-refusal = refl
 
 -- a withdrawn stream's number is free after as many ticks as a port has queues, and its share with it
 drains-still : expectedOf withdrawCase (3 + 2 * (leastQueues - 1)) .refusal ≡ 25
 drains-still = refl
 
-free-then : expectedOf withdrawCase (3 + 2 * leastQueues) .first ≡ shareOf 2142 - 200
+free-then : expectedOf withdrawCase (3 + 2 * leastQueues) .first ≡ shareOf caseLink - 200
 free-then = refl
 
 -- a Frame's charge, to its stream and to best effort

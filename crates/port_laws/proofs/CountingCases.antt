@@ -17,7 +17,7 @@ use Rattle.steps.specs.Call.{terms, Call, opening, reserving, withdrawing, arri
 use Rattle.steps.specs.Outcome.{Outcome, outcome}
 use Rattle.port_laws.specs.Lists.{replies, freshRecord, freshMemory}
 use Rattle.port_laws.specs.Counting.{Action, toTick, toTransmit, toReserve, toWithdraw, toArrive, toBestEffort, toFrame, neither, actionOf, countsAs}
-use Rattle.port_laws.specs.Cases.{caseAddress, caseTagged}
+use Rattle.port_laws.specs.Cases.{caseLink, caseAddress, caseTagged}
 
 -- an action's sort as a number, its stream, and its P or charge
 abbrev sortOf : Action → ℕ
@@ -63,7 +63,7 @@ withdraw-action = refl
 withdraw-stream : streamOf (actionOf (withdrawing 5)) ≡ 5
 withdraw-stream = refl
 
-open-action : sortOf (actionOf (opening (terms 2142 1))) ≡ 0
+open-action : sortOf (actionOf (opening (terms caseLink 1))) ≡ 0
 open-action = refl
 
 bind-action : sortOf (actionOf (binding 5 caseAddress 100)) ≡ 0

@@ -1,5 +1,5 @@
--- Document 01's cases C1 to C12, each as calls on a port never opened, and what they reply. Stream 5 with P = 200, L = 2,142, K = 1, unless said
--- otherwise.
+-- Document 01's cases C1 to C12 with document 02's numbers, each as calls on a port never opened, and what they reply. Stream 5 with P = 200,
+-- L = 2,620, K = 1, unless said otherwise.
 use Prim.Native.Nat.{ℕ}
 use mathlib.Core.List.{List, [], _∷_, _++_}
 use lib.ListN.{replicate}
@@ -18,20 +18,24 @@ pub record Case : Type 0 where
 abbrev pub continued : Case → List Call → List Reply → Case
 continued c cs rs = record { calls = c .calls ++ cs; expected = c .expected ++ rs }
 
+-- L, "unless said otherwise"
+abbrev pub caseLink : ℕ
+caseLink = 2620
+
 -- the port open, and the stream reserved
 abbrev pub openedCase : Case
-openedCase = record { calls = opening (terms 2142 1) ∷ []; expected = granted 600 0 ∷ [] }
+openedCase = record { calls = opening (terms caseLink 1) ∷ []; expected = granted 600 0 ∷ [] }
 
 abbrev pub reservedCase : Case
 reservedCase = continued openedCase (reserving 5 200 ∷ []) (granted 400 0 ∷ [])
 
--- "C1 L 1,625: 3; 1,626: share 84"
+-- "C1 L" 2,103: "3"; 2,104: "share 84"
 abbrev pub c1 : Case
-c1 = record { calls = opening (terms 1625 1) ∷ opening (terms 1626 1) ∷ []; expected = refusedBy 3 ∷ granted 84 0 ∷ [] }
+c1 = record { calls = opening (terms 2103 1) ∷ opening (terms 2104 1) ∷ []; expected = refusedBy 3 ∷ granted 84 0 ∷ [] }
 
--- "C2 L 23,046: share 21,504; 23,047: 3", the refused one first, since a port opens once
+-- "C2 L" 23,524: "share 21,504"; 23,525: "3", the refused one first, since a port opens once
 abbrev pub c2 : Case
-c2 = record { calls = opening (terms 23047 1) ∷ opening (terms 23046 1) ∷ []; expected = refusedBy 3 ∷ granted 21504 0 ∷ [] }
+c2 = record { calls = opening (terms 23525 1) ∷ opening (terms 23524 1) ∷ []; expected = refusedBy 3 ∷ granted 21504 0 ∷ [] }
 
 -- "C3 P 83: 7; 84 granted"
 abbrev pub c3 : Case
@@ -74,16 +78,16 @@ c9 = continued c8 (ticking ∷ arriving 5 84 5 ∷ []) (granted 0 0 ∷ granted 
 abbrev pub c10 : Case
 c10 = continued reservedCase (arriving 5 201 1 ∷ arriving 5 84 2 ∷ []) (refusedBy 14 ∷ refusedBy 14 ∷ [])
 
--- "C11 charges 83 and 1,543: 13"
+-- "C11 charges 83 and" 2,021: "13"
 abbrev pub c11 : Case
-c11 = continued reservedCase (arriving 5 83 1 ∷ arriving 5 1543 2 ∷ []) (refusedBy 13 ∷ refusedBy 13 ∷ [])
+c11 = continued reservedCase (arriving 5 83 1 ∷ arriving 5 2021 2 ∷ []) (refusedBy 13 ∷ refusedBy 13 ∷ [])
 
--- "C12 best effort 1,542, then 400: W 1,942; then 84: 16"
+-- "C12 becomes 2,020, then 400, W 2,420"; "then 84: 16"
 abbrev pub c12 : Case
 c12 =
     continued reservedCase
-    (joiningBestEffort 1542 1 ∷ joiningBestEffort 400 2 ∷ joiningBestEffort 84 3 ∷ [])
-    (granted 1542 0 ∷ granted 1942 0 ∷ refusedBy 16 ∷ [])
+    (joiningBestEffort 2020 1 ∷ joiningBestEffort 400 2 ∷ joiningBestEffort 84 3 ∷ [])
+    (granted 2020 0 ∷ granted 2420 0 ∷ refusedBy 16 ∷ [])
 
 abbrev pub cases : List Case
 cases = c1 ∷ c2 ∷ c3 ∷ c4 ∷ c5 ∷ c6 ∷ sample ∷ c7 ∷ c8 ∷ c9 ∷ c10 ∷ c11 ∷ c12 ∷ []

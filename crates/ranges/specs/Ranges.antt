@@ -1,4 +1,4 @@
--- The ranges of document 01. Each of its numbers stands once.
+-- The ranges of documents 01 and 02. Each of their numbers stands once.
 use Prim.Native.Nat.{ℕ, _+_, _-_}
 use mathlib.Core.Bool.{Bool, _&&_}
 use lib.Dec.{leb}
@@ -7,26 +7,30 @@ use lib.Dec.{leb}
 abbrev pub within : ℕ → ℕ → ℕ → Bool
 within least greatest n = leb least n && leb n greatest
 
--- "A charge is 84 to 1,542": the octets that a frame costs on the wire
+-- "A charge is 84 to" 2,020, the octets that a frame costs on the wire: "The largest charge becomes 2,020"
 abbrev pub leastCharge : ℕ
 leastCharge = 84
 
 abbrev pub greatestCharge : ℕ
-greatestCharge = 1542
+greatestCharge = 2020
 
 abbrev pub chargeFits : ℕ → Bool
 chargeFits = within leastCharge greatestCharge
 
--- "The share is L − 1,542, which leaves one largest best-effort frame per epoch"
+-- "the share is L − 2,020", "which leaves one largest best-effort frame per epoch"
 abbrev pub shareOf : ℕ → ℕ
 shareOf link = link - greatestCharge
 
 abbrev pub greatestShare : ℕ
 greatestShare = 21504
 
--- "L, link octets in an epoch, 1,626 to 23,046": the share is at least the least charge
+-- the L that has a share
+abbrev pub linkOf : ℕ → ℕ
+linkOf share = greatestCharge + share
+
+-- "L, link octets in an epoch", "runs from 2,104 to 23,524": the share is at least the least charge
 abbrev pub linkFits : ℕ → Bool
-linkFits = within (greatestCharge + leastCharge) (greatestCharge + greatestShare)
+linkFits = within (linkOf leastCharge) (linkOf greatestShare)
 
 -- "K, best-effort delay bound in epochs, 1 to 16"
 abbrev pub greatestDelay : ℕ

@@ -1,11 +1,11 @@
-// The ranges of document 01, each with its numbers in one place. Numbers in calls are 32-bit. The definitions are in specs/.
+// The ranges of documents 01 and 02, each with its numbers in one place. Numbers in calls are 32-bit. The definitions are in specs/.
 ghost use mathlib.Core.Path.{_≡_};
 ghost use Rattle.ranges.specs.Ranges.{within, chargeFits, shareOf, linkFits, delayFits, permittedFits, vidFits};
 
 // The ends of a charge's range; P has the same lower end.
 pub const LEAST_CHARGE: u32 = 84;
 
-pub const GREATEST_CHARGE: u32 = 1542;
+pub const GREATEST_CHARGE: u32 = 2020;
 
 // The greatest share.
 const GREATEST_SHARE: u32 = 21504;

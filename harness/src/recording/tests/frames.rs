@@ -50,7 +50,7 @@ fn a_frame_that_is_not_tagged_is_best_effort() {
 
 #[test]
 fn each_stream_has_its_own_pair() {
-    let plan = "epoch 160000\nopen 2000 1\nreserve 63 84\nreserve 0 84\nbind 0 00:00:00:00:00:00 4094\nbind 63 00:00:00:00:00:00 1\n";
+    let plan = "epoch 200000\nopen 2500 1\nreserve 63 84\nreserve 0 84\nbind 0 00:00:00:00:00:00 4094\nbind 63 00:00:00:00:00:00 1\n";
     let frame = |control| (0, tagged([0; 6], control, 60));
     let (events, _) = events_of(plan, &[frame(1), frame(4_094), frame(2)]);
     let of_packets: Vec<&Call> = events.iter().filter(|call| !matches!(call, Call::Tick | Call::Transmit)).skip(3).collect();
@@ -60,7 +60,7 @@ fn each_stream_has_its_own_pair() {
 
 #[test]
 fn a_frame_has_the_charge_of_its_length() {
-    let charges = [(60, 84), (61, 85), (100, 124), (1_517, 1_541), (1_518, 1_542)];
+    let charges = [(60, 84), (61, 85), (100, 124), (1_518, 1_542), (1_519, 1_543), (1_995, 2_019), (1_996, 2_020)];
     for (length, charge) in charges {
         assert_eq!(becomes(untagged(length)), best_effort(charge));
         assert_eq!(becomes(streamed(length)), arrives(charge));
@@ -82,14 +82,14 @@ fn a_short_frame_counts_as_padded() {
 
 #[test]
 fn the_octets_of_padding_are_zeros() {
-    let plan = "epoch 160000\nopen 2000 1\nreserve 5 200\nbind 5 01:00:5e:00:00:05 256\n";
+    let plan = "epoch 200000\nopen 2500 1\nreserve 5 200\nbind 5 01:00:5e:00:00:05 256\n";
     let short = typed(ADDRESS, vec![0x81, 0x00, 0x01], 15);
     assert_eq!(events_of(plan, &[(0, short)]).0[2], Call::Arrive { stream: 5, charge: 84, tag: 1 });
 }
 
 #[test]
 fn what_frame_refuses_with_17_has_no_event() {
-    for octets in [untagged(1_519), streamed(1_519), streamed(9_000), vec![0; 13], vec![]] {
+    for octets in [untagged(1_997), streamed(1_997), streamed(9_000), vec![0; 13], vec![]] {
         let (events, report) = events_of(PLAN, &[(0, octets), (0, streamed(60))]);
         assert_eq!(events[2], Call::Arrive { stream: 5, charge: 84, tag: 2 });
         assert_eq!((report.packets, report.arrivals), (2, 1));
@@ -100,8 +100,8 @@ fn what_frame_refuses_with_17_has_no_event() {
 #[test]
 fn the_charge_is_that_of_the_wire() {
     let form = Form { snap_length: 16, link_type: 0x2400_0001, ..ORDINARY };
-    let packets = [(0, streamed(1_522)), (0, streamed(63)), (0, streamed(1_523))];
+    let packets = [(0, streamed(2_000)), (0, streamed(63)), (0, streamed(2_001))];
     let (capture, report) = captured(PLAN, &form.recording(&packets));
     assert_eq!((report.arrivals, report.padded.first, report.refused.first), (2, vec![2], vec![3]));
-    assert_eq!(reading::text(&capture).lines().nth(3), Some("arrive 5 1542 1"));
+    assert_eq!(reading::text(&capture).lines().nth(3), Some("arrive 5 2020 1"));
 }
