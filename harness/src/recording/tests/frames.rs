@@ -1,8 +1,13 @@
 //! What a packet becomes: the call that Frame would make of it, padding, and 17.
 
 use super::made::{captured, events_of, streamed, tagged, typed, untagged, Form, ADDRESS, ORDINARY, PLAN};
-use crate::call::Call;
+use crate::call::{Call, Given, Reply};
 use crate::capture::reading;
+use crate::comparing::fit::Octets;
+use crate::exports;
+use crate::model::refusal::FRAME_LENGTH;
+use crate::recording::frames::frame;
+use crate::recording::pcap::{Packet, FRONT};
 use crate::recording::report::Packets;
 
 /// The call that one packet becomes under the plan, or none.
@@ -94,6 +99,25 @@ fn what_frame_refuses_with_17_has_no_event() {
         assert_eq!(events[2], Call::Arrive { stream: 5, charge: 84, tag: 2 });
         assert_eq!((report.packets, report.arrivals), (2, 1));
         assert_eq!(report.refused, Packets { count: 1, first: vec![1] });
+    }
+}
+
+/// What the proved Frame replies to octets of no stream, as the first of a port.
+fn proved(octets: &[u8]) -> Reply {
+    let Octets { mut record, mut memory } = Octets::zero();
+    let mut play = |call: &Given| exports::unscanned(call, &mut record, &mut memory);
+    assert_eq!(play(&Call::Open { link: 2_620, delay: 1 }), Reply::granted(600, 0));
+    play(&Call::Frame { octets, tag: 1 })
+}
+
+#[test]
+fn the_proved_frame_refuses_with_17_just_what_has_no_event() {
+    for length in 0..=2_100 {
+        let packet = Packet { number: 1, time: 0, length, front: [0; FRONT] };
+        match frame(&packet) {
+            Some(frame) => assert_eq!(proved(&frame.octets), Reply::granted(length.max(60) + 24, 0), "{length} octets"),
+            None => assert_eq!(proved(&vec![0; length as usize]), Reply::refused(FRAME_LENGTH), "{length} octets"),
+        }
     }
 }
 
