@@ -13,7 +13,7 @@ mod damaged;
 mod discards;
 mod drains;
 mod envelope_frames;
-mod envelope_links;
+mod envelope_openings;
 mod fits;
 mod mixed;
 pub mod numbers;
@@ -194,11 +194,11 @@ pub const GROUPS: [Group; 22] = [
         make: |random, _| on_port_0(&envelope_frames::events(random)),
     },
     Group {
-        name: "envelope_links",
+        name: "envelope_openings",
         about: "L at and about both ends of its range, and what follows from its share",
         seeds: 4,
-        variants: envelope_links::PARTS,
-        make: envelope_links::capture,
+        variants: envelope_openings::PARTS,
+        make: envelope_openings::capture,
     },
 ];
 

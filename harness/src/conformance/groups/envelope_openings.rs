@@ -1,4 +1,4 @@
-//! The group `envelope_links`: openings with L at and about both ends of its range, and about those that a largest charge of 1,542 would give it; then
+//! The group `envelope_openings`: openings with L at and about both ends of its range, and about those that a largest charge of 1,542 would give it; then
 //! the share to its last octet, reservations that would fit a share of L less 1,542 and exceed the one that there is, and best effort up to L less R.
 
 use crate::call::Call;
