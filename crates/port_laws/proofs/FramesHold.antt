@@ -1,7 +1,6 @@
 -- The cases of Bind and Frame hold of the calls' definitions. Assumes nothing.
 use mathlib.Core.Path.{_≡_, refl}
-use mathlib.Core.List.{map}
-use Rattle.port_laws.specs.Cases.{frameCases, repliesTo}
+use Rattle.port_laws.specs.Cases.{framesCase, longFramesCase, repliesTo}
 use Rattle.lists.specs.Turns.{allTo, sumTo, listTo, iterate}
 use Rattle.lists.specs.Equal.{octetsEqual}
 use Rattle.octets.specs.Numbers.{twoOf, fourOf}
@@ -24,6 +23,10 @@ use Rattle.gates.specs.Refusals.{openRefusal, reserveRefusal, arriveRefusal, cl
 use Rattle.binding.specs.Finding.{lookupFrom, lookup, frameLookup}
 use Rattle.gates.specs.FrameRefusals.{bindRefusal, frameRefusal}
 
-pub frames-hold : map repliesTo frameCases ≡ map (λ c. c .expected) frameCases
+pub frames-hold : repliesTo framesCase ≡ framesCase .expected
 unfolding allTo sumTo listTo iterate twoOf fourOf attempt arriveOf tickOf frameAt withFrame joinedMemory frontOf waiting openAt withOpen priorAt withPrior delayAt withDelay linkAt withLink waitsAt withWaits queueAt queuesAt withQueue streamAt withStream withPlace drainAt withDrain drainsAt boundAt vidAt dropped recordFits lentRefusal roleAt openedRecord arriveStep drainedAt tickedRecord tickStep transmitStep bestEffortStep openRefusal reserveRefusal arriveRefusal closedRefusal bestEffortRefusal addressAt withBinding octetsEqual chargeOf lengthFits taggedFrame vidOf lookupFrom lookup frameLookup bindRefusal frameRefusal
 frames-hold = refl
+
+pub long-frames-hold : repliesTo longFramesCase ≡ longFramesCase .expected
+unfolding allTo sumTo listTo iterate twoOf fourOf attempt arriveOf tickOf frameAt withFrame joinedMemory frontOf waiting openAt withOpen priorAt withPrior delayAt withDelay linkAt withLink waitsAt withWaits queueAt queuesAt withQueue streamAt withStream withPlace drainAt withDrain drainsAt boundAt vidAt dropped recordFits lentRefusal roleAt openedRecord arriveStep drainedAt tickedRecord tickStep transmitStep bestEffortStep openRefusal reserveRefusal arriveRefusal closedRefusal bestEffortRefusal addressAt withBinding octetsEqual chargeOf lengthFits taggedFrame vidOf lookupFrom lookup frameLookup bindRefusal frameRefusal
+long-frames-hold = refl

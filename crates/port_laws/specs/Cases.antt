@@ -124,9 +124,6 @@ longFramesCase =
       expected = granted 2020 0 ∷ granted 0 0 ∷ granted 0 0 ∷ granted 1 2020 ∷ refusedBy 17 ∷ granted 2020 0 ∷ granted 2 477 ∷ [];
     }
 
-abbrev pub frameCases : List Case
-frameCases = framesCase ∷ longFramesCase ∷ []
-
 -- a stream that is withdrawn and asked for again, at once and after each tick: "It drains until the fourth tick after the withdrawal"
 abbrev pub withdrawCase : Case
 withdrawCase =
