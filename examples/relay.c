@@ -1,10 +1,10 @@
 /*
  * A host that relays two frames over an epoch's end: it opens a port, reserves a stream and binds it to an address and a VID, takes two frames of
  * which the second has to wait for the next epoch, and sends them. Of the first it knows the stream and the charge; the second it gives with its
- * octets, and the port finds both. Then the machine that sends the stream is taken off the line, and another one gets its share: the host withdraws
- * the stream, sends the frame that still waits, and asks for the other stream after each tick until it is granted. The set-up goes through the calls
- * that test the whole record. After the granted Open nothing but these calls writes the record and the memory, so the traffic goes through the calls
- * that scan nothing, whose replies are then the same.
+ * octets, and the port finds both. Meanwhile it sends a gateway's frame of the longest length as best effort. Then the machine that sends the stream
+ * is taken off the line, and another one gets its share: the host withdraws the stream, sends the frame that still waits, and asks for the other
+ * stream after each tick until it is granted. The set-up goes through the calls that test the whole record. After the granted Open nothing but these
+ * calls writes the record and the memory, so the traffic goes through the calls that scan nothing, whose replies are then the same.
  */
 #include <stdio.h>
 #include <stdlib.h>
@@ -73,11 +73,20 @@ static void arrive(uint32_t charge, uint32_t tag)
 /* A frame of a length comes from the wire: by its header it is one of stream 5. */
 static void frame(size_t length, uint32_t tag)
 {
-    static uint8_t octets[1518];
+    static uint8_t octets[BUNNYSOLDER_LONGEST_FRAME];
 
     memcpy(octets, address, sizeof address);
     memcpy(octets + 12, vlan_tag, sizeof vlan_tag);
     came("frame", tag, bunnysolder_frame_unscanned(port, sizeof port, memory, sizeof memory, octets, length, tag, &first, &second));
+}
+
+/* A gateway's frame of the longest length comes from the wire, without VLAN tag: it is one of no stream. */
+static void gateway_frame(uint32_t tag)
+{
+    static const uint8_t octets[BUNNYSOLDER_LONGEST_FRAME];
+
+    granted("frame", bunnysolder_frame_unscanned(port, sizeof port, memory, sizeof memory, octets, sizeof octets, tag, &first, &second));
+    printf("frame: frame %u is best effort, where %u octets wait\n", tag, first);
 }
 
 /* The link can send. */
@@ -86,6 +95,8 @@ static void transmit(void)
     granted("transmit", bunnysolder_transmit_unscanned(port, sizeof port, memory, sizeof memory, &first, &second));
     if (first == BUNNYSOLDER_NOTHING)
         printf("transmit: nothing\n");
+    else if (first == BUNNYSOLDER_BEST_EFFORT)
+        printf("transmit: frame %u of best effort\n", second);
     else
         printf("transmit: frame %u of stream %u\n", second, first);
 }
@@ -97,11 +108,13 @@ static void tick(void)
     printf("tick: %u frames purged\n", first);
 }
 
-/* Two frames of stream 5 over an epoch's end. */
+/* Two frames of stream 5 over an epoch's end, and one of best effort, which is sent while the second waits. */
 static void relay(void)
 {
     arrive(120, 7);
     frame(76, 8);
+    gateway_frame(12);
+    transmit();
     transmit();
     transmit();
     tick();
@@ -129,7 +142,7 @@ static void take_off_the_line(void)
 
 int main(void)
 {
-    granted("open", bunnysolder_open(port, sizeof port, memory, sizeof memory, 2142, 1, &first, &second));
+    granted("open", bunnysolder_open(port, sizeof port, memory, sizeof memory, 2620, 1, &first, &second));
     printf("open: the share is %u octets\n", first);
     reserve(5, 200);
     bind(5);

@@ -1,6 +1,6 @@
 /*
  * Every function that bunnysolder.h declares, called through it: both sorts of call play document 01's sample, by charges and by frames, and a
- * withdrawal of document 02, and must reply what the documents say. The last line is the total.
+ * withdrawal and the longest frames of document 02, and must reply what the documents say. The last line is the total.
  */
 #include <stdio.h>
 #include <string.h>
@@ -56,8 +56,8 @@ static void sample(const struct sort *s)
     memset(memory, 0, m);
     first = second = UNWRITTEN;
     replies("transmit", s->transmit(port, p, memory, m, &first, &second), BUNNYSOLDER_CLOSED, 0, 0);
-    replies("open", s->open(port, p, memory, m, 23047, 1, &first, &second), BUNNYSOLDER_LINK_RANGE, 0, 0);
-    replies("open", s->open(port, p, memory, m, 2142, 1, &first, &second), BUNNYSOLDER_GRANTED, 600, 0);
+    replies("open", s->open(port, p, memory, m, 23525, 1, &first, &second), BUNNYSOLDER_LINK_RANGE, 0, 0);
+    replies("open", s->open(port, p, memory, m, 2620, 1, &first, &second), BUNNYSOLDER_GRANTED, 600, 0);
     replies("reserve", s->reserve(port, p, memory, m, 5, 200, &first, &second), BUNNYSOLDER_GRANTED, 400, 0);
     replies("reserve", s->reserve(port, p, memory, m, 6, 401, &first, &second), BUNNYSOLDER_SHARE_EXCEEDED, 0, 0);
     replies("arrive", s->arrive(port, p, memory, m, 5, 120, 7, &first, &second), BUNNYSOLDER_GRANTED, BUNNYSOLDER_CURRENT, 80);
@@ -67,27 +67,36 @@ static void sample(const struct sort *s)
     replies("tick", s->tick(port, p, memory, m, &first, &second), BUNNYSOLDER_GRANTED, 0, 0);
     replies("transmit", s->transmit(port, p, memory, m, &first, &second), BUNNYSOLDER_GRANTED, 5, 8);
     replies("arrive", s->arrive(port, p, memory, m, 5, 201, 9, &first, &second), BUNNYSOLDER_DISCARD, 0, 0);
-    replies("best effort", s->best_effort(port, p, memory, m, 1542, 10, &first, &second), BUNNYSOLDER_GRANTED, 1542, 0);
-    replies("best effort", s->best_effort(port, p, memory, m, 400, 11, &first, &second), BUNNYSOLDER_GRANTED, 1942, 0);
+    replies("best effort", s->best_effort(port, p, memory, m, 2020, 10, &first, &second), BUNNYSOLDER_GRANTED, 2020, 0);
+    replies("best effort", s->best_effort(port, p, memory, m, 400, 11, &first, &second), BUNNYSOLDER_GRANTED, 2420, 0);
     replies("best effort", s->best_effort(port, p, memory, m, 84, 12, &first, &second), BUNNYSOLDER_LIMIT_EXCEEDED, 0, 0);
     replies("transmit", s->transmit(port, p, memory, m, &first, &second), BUNNYSOLDER_GRANTED, BUNNYSOLDER_BEST_EFFORT, 10);
     replies("tick", s->tick(port, p, memory, m - 1, &first, &second), BUNNYSOLDER_SHORT_MEMORY, 0, 0);
 }
 
+/* An address to bind to, and room for frames to it, one octet more than the longest has. */
+static const uint8_t address[BUNNYSOLDER_ADDRESS_LENGTH] = { 0x02, 0x00, 0x5E, 0x10, 0x20, 0x30 };
+static uint8_t frame[BUNNYSOLDER_LONGEST_FRAME + 1];
+
+/* Makes the frame one to the address with VLAN tag, and with priority 7 and a VID in it. */
+static void tag_frame(uint8_t vid)
+{
+    const uint8_t vlan_tag[] = { 0x81, 0x00, 0xE0, vid };
+
+    memcpy(frame, address, sizeof address);
+    memcpy(frame + 12, vlan_tag, sizeof vlan_tag);
+}
+
 /* The same sample with Frames in the place of its Arrives, each 24 octets shorter than its charge, and a refusal of Bind and Frame in between. */
 static void sample_by_frames(const struct sort *s)
 {
-    static const uint8_t address[BUNNYSOLDER_ADDRESS_LENGTH] = { 0x02, 0x00, 0x5E, 0x10, 0x20, 0x30 };
-    static const uint8_t vid_100[] = { 0x81, 0x00, 0xE0, 0x64 };
-    static uint8_t frame[1518];
     const size_t p = sizeof port, m = sizeof memory;
 
     memset(port, 0, p);
     memset(memory, 0, m);
-    memcpy(frame, address, sizeof address);
-    memcpy(frame + 12, vid_100, sizeof vid_100);
+    tag_frame(100);
     first = second = UNWRITTEN;
-    replies("open", s->open(port, p, memory, m, 2142, 1, &first, &second), BUNNYSOLDER_GRANTED, 600, 0);
+    replies("open", s->open(port, p, memory, m, 2620, 1, &first, &second), BUNNYSOLDER_GRANTED, 600, 0);
     replies("reserve", s->reserve(port, p, memory, m, 5, 200, &first, &second), BUNNYSOLDER_GRANTED, 400, 0);
     replies("reserve", s->reserve(port, p, memory, m, 6, 200, &first, &second), BUNNYSOLDER_GRANTED, 200, 0);
     replies("bind", s->bind(port, p, memory, m, 5, address, 4095, &first, &second), BUNNYSOLDER_VID_RANGE, 0, 0);
@@ -103,7 +112,7 @@ static void sample_by_frames(const struct sort *s)
     replies("frame", s->frame(port, p, memory, m, frame, 0, 9, &first, &second), BUNNYSOLDER_FRAME_LENGTH, 0, 0);
     frame[12] = 0x08;
     replies("frame", s->frame(port, p, memory, m, frame, 1518, 10, &first, &second), BUNNYSOLDER_GRANTED, 1542, 0);
-    replies("frame", s->frame(port, p, memory, m, frame, 177, 11, &first, &second), BUNNYSOLDER_LIMIT_EXCEEDED, 0, 0);
+    replies("frame", s->frame(port, p, memory, m, frame, 655, 11, &first, &second), BUNNYSOLDER_LIMIT_EXCEEDED, 0, 0);
     replies("transmit", s->transmit(port, p, memory, m, &first, &second), BUNNYSOLDER_GRANTED, BUNNYSOLDER_BEST_EFFORT, 10);
 }
 
@@ -117,7 +126,7 @@ static void withdrawal(const struct sort *s)
     memset(memory, 0, m);
     first = second = UNWRITTEN;
     replies("withdraw", s->withdraw(port, p, memory, m, 5, &first, &second), BUNNYSOLDER_CLOSED, 0, 0);
-    replies("open", s->open(port, p, memory, m, 2142, 1, &first, &second), BUNNYSOLDER_GRANTED, 600, 0);
+    replies("open", s->open(port, p, memory, m, 2620, 1, &first, &second), BUNNYSOLDER_GRANTED, 600, 0);
     replies("withdraw", s->withdraw(port, p, memory, m, 5, &first, &second), BUNNYSOLDER_NOT_RESERVED, 0, 0);
     replies("withdraw", s->withdraw(port, p, memory, m, 64, &first, &second), BUNNYSOLDER_STREAM_RANGE, 0, 0);
     replies("reserve", s->reserve(port, p, memory, m, 5, 200, &first, &second), BUNNYSOLDER_GRANTED, 400, 0);
@@ -134,6 +143,40 @@ static void withdrawal(const struct sort *s)
     replies("reserve", s->reserve(port, p, memory, m, 5, 600, &first, &second), BUNNYSOLDER_GRANTED, 0, 0);
 }
 
+/*
+ * Frames of 1,519 octets and of the longest length, whose charges are 1,543 and 2,020: on stream 5, whose P they fill, on stream 6, whose P is 2,019,
+ * and as best effort, whose limit they fill. One octet more, or one fewer than the shortest, is refused; the reply to the next frame shows that
+ * nothing changed.
+ */
+static void longest_frames(const struct sort *s)
+{
+    const size_t p = sizeof port, m = sizeof memory, longest = BUNNYSOLDER_LONGEST_FRAME, shortest = BUNNYSOLDER_SHORTEST_FRAME;
+
+    memset(port, 0, p);
+    memset(memory, 0, m);
+    first = second = UNWRITTEN;
+    replies("open", s->open(port, p, memory, m, 9145, 1, &first, &second), BUNNYSOLDER_GRANTED, 7125, 0);
+    replies("reserve", s->reserve(port, p, memory, m, 5, 3563, &first, &second), BUNNYSOLDER_GRANTED, 3562, 0);
+    replies("reserve", s->reserve(port, p, memory, m, 6, 2019, &first, &second), BUNNYSOLDER_GRANTED, 1543, 0);
+    replies("bind", s->bind(port, p, memory, m, 5, address, 100, &first, &second), BUNNYSOLDER_GRANTED, 0, 0);
+    replies("bind", s->bind(port, p, memory, m, 6, address, 101, &first, &second), BUNNYSOLDER_GRANTED, 0, 0);
+    tag_frame(100);
+    replies("frame", s->frame(port, p, memory, m, frame, 1519, 7, &first, &second), BUNNYSOLDER_GRANTED, BUNNYSOLDER_CURRENT, 2020);
+    replies("frame", s->frame(port, p, memory, m, frame, longest + 1, 8, &first, &second), BUNNYSOLDER_FRAME_LENGTH, 0, 0);
+    replies("frame", s->frame(port, p, memory, m, frame, longest, 9, &first, &second), BUNNYSOLDER_GRANTED, BUNNYSOLDER_CURRENT, 3563);
+    replies("frame", s->frame(port, p, memory, m, frame, shortest - 1, 10, &first, &second), BUNNYSOLDER_FRAME_LENGTH, 0, 0);
+    replies("frame", s->frame(port, p, memory, m, frame, shortest, 11, &first, &second), BUNNYSOLDER_GRANTED, BUNNYSOLDER_NEXT, 3479);
+    tag_frame(101);
+    replies("frame", s->frame(port, p, memory, m, frame, 1519, 12, &first, &second), BUNNYSOLDER_GRANTED, BUNNYSOLDER_CURRENT, 476);
+    replies("frame", s->frame(port, p, memory, m, frame, longest, 13, &first, &second), BUNNYSOLDER_DISCARD, 0, 0);
+    replies("frame", s->frame(port, p, memory, m, frame, longest + 1, 14, &first, &second), BUNNYSOLDER_FRAME_LENGTH, 0, 0);
+    frame[12] = 0x08;
+    replies("frame", s->frame(port, p, memory, m, frame, 1519, 15, &first, &second), BUNNYSOLDER_GRANTED, 1543, 0);
+    replies("frame", s->frame(port, p, memory, m, frame, longest + 1, 16, &first, &second), BUNNYSOLDER_FRAME_LENGTH, 0, 0);
+    replies("frame", s->frame(port, p, memory, m, frame, longest, 17, &first, &second), BUNNYSOLDER_GRANTED, 3563, 0);
+    replies("frame", s->frame(port, p, memory, m, frame, shortest, 18, &first, &second), BUNNYSOLDER_LIMIT_EXCEEDED, 0, 0);
+}
+
 int main(void)
 {
     int passed = 0, failed = 0;
@@ -144,6 +187,7 @@ int main(void)
         sample(&sorts[i]);
         sample_by_frames(&sorts[i]);
         withdrawal(&sorts[i]);
+        longest_frames(&sorts[i]);
         printf("test %s through the header: %s\n", sorts[i].name, wrong ? "FAILED" : "ok");
         if (wrong)
             failed++;

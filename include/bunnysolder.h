@@ -36,7 +36,7 @@ extern "C" {
 #endif
 
 /* The edition of the rule: the number of the last request of document 02 that the rule has; 0 is document 01 alone. */
-#define BUNNYSOLDER_EDITION 1
+#define BUNNYSOLDER_EDITION 2
 
 /* The octets of a port record, and of the memory for 1,280 frames. */
 #define BUNNYSOLDER_RECORD_LENGTH 1088
@@ -45,12 +45,16 @@ extern "C" {
 /* The octets of a destination address. */
 #define BUNNYSOLDER_ADDRESS_LENGTH 6
 
+/* The octets, without check sequence, of the shortest and the longest frame that Frame takes: a driver pads to the one and has room for the other. */
+#define BUNNYSOLDER_SHORTEST_FRAME 60
+#define BUNNYSOLDER_LONGEST_FRAME 1996
+
 /* The refusals of the calls, with the rule's numbers; 21 to 24 are those of captures, which no call replies. */
 enum bunnysolder_refusal {
     BUNNYSOLDER_GRANTED = 0,
     BUNNYSOLDER_CLOSED = 1,              /* the port is closed */
     BUNNYSOLDER_OPEN_ALREADY = 2,        /* the port is open already */
-    BUNNYSOLDER_LINK_RANGE = 3,          /* L is outside 1,626 to 23,046 */
+    BUNNYSOLDER_LINK_RANGE = 3,          /* L is outside 2,104 to 23,524 */
     BUNNYSOLDER_DELAY_RANGE = 4,         /* K is outside 1 to 16 */
     BUNNYSOLDER_STREAM_RANGE = 5,        /* the stream is above 63 */
     BUNNYSOLDER_RESERVED_ALREADY = 6,    /* the stream is reserved already */
@@ -60,11 +64,11 @@ enum bunnysolder_refusal {
     BUNNYSOLDER_BOUND_ALREADY = 10,      /* the stream is bound already */
     BUNNYSOLDER_PAIR_BOUND_ALREADY = 11, /* the pair of address and VID is bound already */
     BUNNYSOLDER_NOT_RESERVED = 12,       /* the stream is not reserved */
-    BUNNYSOLDER_CHARGE_RANGE = 13,       /* the charge is outside 84 to 1,542 */
+    BUNNYSOLDER_CHARGE_RANGE = 13,       /* the charge is outside 84 to 2,020 */
     BUNNYSOLDER_DISCARD = 14,            /* the frame fits neither at its stream's place nor at a later one */
     BUNNYSOLDER_BEST_EFFORT_FULL = 15,   /* 256 best-effort frames are waiting */
     BUNNYSOLDER_LIMIT_EXCEEDED = 16,     /* W, with the charge in it, would be above K x (L - R) */
-    BUNNYSOLDER_FRAME_LENGTH = 17,       /* the frame is outside 60 to 1,518 octets */
+    BUNNYSOLDER_FRAME_LENGTH = 17,       /* the frame is shorter than BUNNYSOLDER_SHORTEST_FRAME or longer than BUNNYSOLDER_LONGEST_FRAME */
     BUNNYSOLDER_SHORT_MEMORY = 18,       /* the memory is shorter than BUNNYSOLDER_MEMORY_LENGTH */
     BUNNYSOLDER_UNFIT_RECORD = 19,       /* the record is unfit, or shorter than BUNNYSOLDER_RECORD_LENGTH */
     BUNNYSOLDER_QUEUE_FULL = 20,         /* the chosen queue holds 256 frames; never met from a granted Open on, while nobody else writes */
@@ -79,7 +83,7 @@ enum bunnysolder_sent { BUNNYSOLDER_NOTHING = 254, BUNNYSOLDER_BEST_EFFORT = 255
 
 /*
  * Open(L, K): empties the queues, drops all reservations and bindings, and ends all draining. `link` is L, the link octets in an epoch; `delay` is
- * K, the best-effort delay bound in epochs. Replies the share, L - 1,542, and 0. Refusals: 18 19 2 3 4.
+ * K, the best-effort delay bound in epochs. Replies the share, L - 2,020, and 0. Refusals: 18 19 2 3 4.
  */
 uint8_t bunnysolder_open(uint8_t *port, size_t port_length, const uint8_t *memory, size_t memory_length,
                          uint32_t link, uint32_t delay, uint32_t *first, uint32_t *second);
@@ -147,8 +151,8 @@ uint8_t bunnysolder_bind_unscanned(uint8_t *port, size_t port_length, const uint
  * Frame(octets, tag): a frame arrives, given by its octets from the destination on, without check sequence. `tag` is the host's own number for it.
  * Octets 0 to 5 are the destination; where octets 12 and 13 are 81 00 (hexadecimal), the VID is the low 12 bits of octets 14 and 15, high octet
  * first. A frame whose destination and VID are bound is an Arrive on their stream, every other a Best effort, each with its length plus 24 as its
- * charge, and replies as that call. A length of 0 is refused (17) as any other outside 60 to 1,518; `octets` is not null even then. Nothing is
- * kept of the octets. Refusals: 18 19 1 17, then of an Arrive 25, then 14 or 20, of a Best effort 15 16.
+ * charge, and replies as that call. A length under BUNNYSOLDER_SHORTEST_FRAME or above BUNNYSOLDER_LONGEST_FRAME is refused (17), 0 among them;
+ * `octets` is not null even then. Nothing is kept of the octets. Refusals: 18 19 1 17, then of an Arrive 25, then 14 or 20, of a Best effort 15 16.
  */
 uint8_t bunnysolder_frame(uint8_t *port, size_t port_length, uint8_t *memory, size_t memory_length,
                           const uint8_t *octets, size_t octets_length, uint32_t tag, uint32_t *first, uint32_t *second);

@@ -16,9 +16,9 @@
 //! ```
 //! use bunnysolder::{Joined, Port, Purged, Queue, Refusal, Reserved, Sent};
 //!
-//! // L = 2,142 and K = 1 at both ports: the share is 2,142 − 1,542 = 600. Stream 5 gets P = 200 of it, so 600 − 200 = 400 are still free.
-//! let mut first = Port::open(2_142, 1)?;
-//! let mut second = Port::open(2_142, 1)?;
+//! // L = 2,620 and K = 1 at both ports: the share is 2,620 − 2,020 = 600. Stream 5 gets P = 200 of it, so 600 − 200 = 400 are still free.
+//! let mut first = Port::open(2_620, 1)?;
+//! let mut second = Port::open(2_620, 1)?;
 //! assert_eq!([first.share(), second.share()], [600, 600]);
 //! assert_eq!(first.reserve(5, 200)?, Reserved { free: 400 });
 //! assert_eq!(second.reserve(5, 200)?, Reserved { free: 400 });
@@ -56,7 +56,13 @@
 #![deny(unsafe_code, unsafe_op_in_unsafe_fn, missing_docs)]
 
 /// The edition of the rule: the number of the last request of document 02 that the rule has; 0 is document 01 alone.
-pub const EDITION: u32 = 1;
+pub const EDITION: u32 = 2;
+
+/// The octets of the shortest frame that [`Port::frame`] takes, without check sequence; a driver pads to as many.
+pub const SHORTEST_FRAME: usize = 60;
+
+/// The octets of the longest frame that [`Port::frame`] takes, without check sequence; a driver's buffers have as many.
+pub const LONGEST_FRAME: usize = 1_996;
 
 #[allow(unsafe_code)]
 mod exports;

@@ -48,8 +48,8 @@ mod comparing;
 /// ```
 /// use bunnysolder::{Joined, Port, Queue, Refusal, Sent, Waiting};
 ///
-/// let mut port = Port::open(2_142, 1)?;
-/// assert_eq!(port.share(), 600); // 2,142 − 1,542
+/// let mut port = Port::open(2_620, 1)?;
+/// assert_eq!(port.share(), 600); // 2,620 − 2,020
 /// port.reserve(5, 200)?;
 /// assert_eq!(port.best_effort(300, 1)?, Waiting { octets: 300 });
 /// assert_eq!(port.arrive(5, 120, 2)?, Joined { queue: Queue::Current, left: 80 }); // 200 − 120
@@ -79,7 +79,7 @@ impl Port {
         Ok(port)
     }
 
-    /// What Open replied: the share, L − 1,542, the most that all reservations can have together.
+    /// What Open replied: the share, L − 2,020, the most that all reservations can have together.
     pub fn share(&self) -> u32 {
         self.share
     }
@@ -139,7 +139,7 @@ impl Port {
     /// use bunnysolder::{Port, Refusal};
     ///
     /// let address = [0x01, 0x00, 0x5E, 0x00, 0x00, 0x05];
-    /// let mut port = Port::open(2_142, 1)?;
+    /// let mut port = Port::open(2_620, 1)?;
     /// port.reserve(5, 200)?;
     /// assert_eq!(port.bind(6, &address, 100), Err(Refusal::NotReserved));
     /// port.bind(5, &address, 100)?;
@@ -155,31 +155,32 @@ impl Port {
     /// Frame(octets, tag): a frame arrives, given by its octets from the destination on, without check sequence. Octets 0 to 5 are its destination;
     /// where octets 12 and 13 are 81 00 (hexadecimal), its VID is the low 12 bits of octets 14 and 15, high octet first. Where the two are bound to
     /// a stream it is an Arrive on that stream, otherwise a Best effort, with its length plus 24 as its charge. Replies as that call. Nothing is
-    /// kept of the octets: the host keeps the frame, under its tag.
+    /// kept of the octets: the host keeps the frame, under its tag. A frame has [`SHORTEST_FRAME`](crate::SHORTEST_FRAME) to
+    /// [`LONGEST_FRAME`](crate::LONGEST_FRAME) octets.
     ///
     /// Refusals, in this order: [`FrameLength`](Refusal::FrameLength) (17); then of an arrival [`Draining`](Refusal::Draining) (25),
     /// [`Discard`](Refusal::Discard) (14), of a best-effort frame [`BestEffortFull`](Refusal::BestEffortFull) (15),
     /// [`LimitExceeded`](Refusal::LimitExceeded) (16).
     ///
     /// ```
-    /// use bunnysolder::{Framed, Joined, Port, Queue, Refusal, Waiting};
+    /// use bunnysolder::{Framed, Joined, Port, Queue, Refusal, Waiting, LONGEST_FRAME, SHORTEST_FRAME};
     ///
     /// let address = [0x01, 0x00, 0x5E, 0x00, 0x00, 0x05];
-    /// let mut port = Port::open(2_142, 1)?;
+    /// let mut port = Port::open(2_620, 1)?;
     /// port.reserve(5, 200)?;
     /// port.bind(5, &address, 100)?;
     ///
     /// // A frame of 96 octets to that address, with priority 7 and VID 100 in its VLAN tag: a charge of 96 + 24 = 120, and 200 − 120 = 80.
-    /// let mut octets = [0; 96];
-    /// octets[..6].copy_from_slice(&address);
-    /// octets[12..16].copy_from_slice(&[0x81, 0x00, 0xE0, 0x64]);
-    /// assert_eq!(port.frame(&octets, 7)?, Framed::Arrived(Joined { queue: Queue::Current, left: 80 }));
+    /// let mut buffer = [0; LONGEST_FRAME];
+    /// buffer[..6].copy_from_slice(&address);
+    /// buffer[12..16].copy_from_slice(&[0x81, 0x00, 0xE0, 0x64]);
+    /// assert_eq!(port.frame(&buffer[..96], 7)?, Framed::Arrived(Joined { queue: Queue::Current, left: 80 }));
     ///
-    /// // With VID 101 the pair is bound to no stream: the frame is best effort.
-    /// octets[15] = 0x65;
-    /// assert_eq!(port.frame(&octets, 8)?, Framed::BestEffort(Waiting { octets: 120 }));
+    /// // With VID 101 the pair is bound to no stream: the frame is best effort. A gateway's frame may fill the buffer: 1,996 + 24 = 2,020.
+    /// buffer[15] = 0x65;
+    /// assert_eq!(port.frame(&buffer, 8)?, Framed::BestEffort(Waiting { octets: 2_020 }));
     ///
-    /// assert_eq!(port.frame(&octets[..59], 9), Err(Refusal::FrameLength));
+    /// assert_eq!(port.frame(&buffer[..SHORTEST_FRAME - 1], 9), Err(Refusal::FrameLength));
     /// # Ok::<(), Refusal>(())
     /// ```
     pub fn frame(&mut self, octets: &[u8], tag: u32) -> Result<Framed, Refusal> {
@@ -199,7 +200,7 @@ impl Port {
     /// use bunnysolder::{Joined, Port, Queue, Refusal, Reserved, Sent};
     ///
     /// // Stream 5 has the whole share, 600, and a frame that waits.
-    /// let mut port = Port::open(2_142, 1)?;
+    /// let mut port = Port::open(2_620, 1)?;
     /// port.reserve(5, 600)?;
     /// assert_eq!(port.arrive(5, 120, 7)?, Joined { queue: Queue::Current, left: 480 });
     ///

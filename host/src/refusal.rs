@@ -42,16 +42,16 @@ refusals! {
     /// ```
     /// use bunnysolder::{Port, Refusal};
     ///
-    /// // L is at least 1,542 + 84, so that the share, L − 1,542, holds a least reservation.
-    /// let refusal = Port::open(1_625, 1).unwrap_err();
+    /// // L is at least 2,020 + 84, so that the share, L − 2,020, holds a least reservation.
+    /// let refusal = Port::open(2_103, 1).unwrap_err();
     /// assert_eq!(refusal, Refusal::LinkRange);
     /// assert_eq!(refusal.number(), 3);
-    /// assert_eq!(refusal.to_string(), "3: L is outside 1,626 to 23,046");
+    /// assert_eq!(refusal.to_string(), "3: L is outside 2,104 to 23,524");
     /// assert_eq!(Refusal::from_number(3), Some(refusal));
     /// ```
     Closed = 1, "the port is closed";
     OpenAlready = 2, "the port is open already";
-    LinkRange = 3, "L is outside 1,626 to 23,046";
+    LinkRange = 3, "L is outside 2,104 to 23,524";
     DelayRange = 4, "K is outside 1 to 16";
     StreamRange = 5, "the stream is above 63";
     ReservedAlready = 6, "the stream is reserved already";
@@ -61,11 +61,11 @@ refusals! {
     BoundAlready = 10, "the stream is bound already";
     PairBoundAlready = 11, "the pair of address and VID is bound already";
     NotReserved = 12, "the stream is not reserved";
-    ChargeRange = 13, "the charge is outside 84 to 1,542";
+    ChargeRange = 13, "the charge is outside 84 to 2,020";
     Discard = 14, "the frame is discarded: it fits neither at its stream's place nor at a later one";
     BestEffortFull = 15, "256 best-effort frames are waiting";
     LimitExceeded = 16, "W with the charge in it would be above K × (L − R)";
-    FrameLength = 17, "the frame is outside 60 to 1,518 octets";
+    FrameLength = 17, "the frame is outside 60 to 1,996 octets";
     ShortMemory = 18, "the lent memory is under 1,280 places";
     UnfitRecord = 19, "the port record is unfit";
     QueueFull = 20, "the chosen queue holds 256 frames";

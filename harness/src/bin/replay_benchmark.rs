@@ -19,7 +19,7 @@ use harness::comparing::random::Random;
 use harness::comparing::replayed::{judged, printed_of_file};
 use harness::comparing::valgrind;
 use harness::model::capture::{self, PORTS};
-use harness::model::port::{self, Port};
+use harness::model::port::{self, Port, CHARGES, LEAST_CHARGE};
 use harness::model::{replay, rule};
 
 /// How the program is called.
@@ -271,8 +271,10 @@ fn epoch(random: &mut Random, events: &mut Vec<Call>) {
     for place in random.shuffled(ARRIVALS + BEST_EFFORTS + TRANSMITS) {
         let tag = events.len() as u32;
         events.push(match place {
-            place if place < ARRIVALS => Call::Arrive { stream: random.below(STREAMS) as u8, charge: random.between(84..=PERMITTED), tag },
-            place if place < ARRIVALS + BEST_EFFORTS => Call::BestEffort { charge: random.between(84..=1_542), tag },
+            place if place < ARRIVALS => {
+                Call::Arrive { stream: random.below(STREAMS) as u8, charge: random.between(LEAST_CHARGE..=PERMITTED), tag }
+            }
+            place if place < ARRIVALS + BEST_EFFORTS => Call::BestEffort { charge: random.between(CHARGES), tag },
             _ => Call::Transmit,
         });
     }

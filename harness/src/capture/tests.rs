@@ -8,12 +8,12 @@ use crate::model::capture::PORTS;
 use crate::model::replay::replay;
 
 /// Document 01's sample as a person writes it.
-const SAMPLE: &str = "port 0\nopen 2142 1\nreserve 5 200\narrive 5 120 7\narrive 5 100 8\ntransmit\ntransmit\ntick\ntransmit\n";
+const SAMPLE: &str = "port 0\nopen 2620 1\nreserve 5 200\narrive 5 120 7\narrive 5 100 8\ntransmit\ntransmit\ntick\ntransmit\n";
 
 /// The octets of document 01's sample, written out by hand from its "Capture file".
 const SAMPLE_OCTETS: [[u8; 16]; 9] = [
     [b'E', b'P', b'C', b'H', 0, 1, 0, 0, 0, 0, 0, 0, 0, 0, 0, 0],
-    [1, 0, 0, 2, 0, 0, 8, 94, 0, 0, 0, 1, 0, 0, 0, 0],
+    [1, 0, 0, 2, 0, 0, 10, 60, 0, 0, 0, 1, 0, 0, 0, 0],
     [2, 5, 0, 3, 0, 0, 0, 200, 0, 0, 0, 0, 0, 0, 0, 0],
     [3, 5, 0, 4, 0, 0, 0, 120, 0, 0, 0, 7, 0, 0, 0, 0],
     [3, 5, 0, 5, 0, 0, 0, 100, 0, 0, 0, 8, 0, 0, 0, 0],
@@ -128,8 +128,8 @@ fn a_header_with_a_fault_is_digits() {
 
 #[test]
 fn comments_blank_lines_and_spaces_are_left_out() {
-    let text = "# the sample\n\n  port   0 # of one port\n\topen 2142 1\r\n\ntick#\n#";
-    assert_eq!(reading::text(&written(text)), "port 0\nopen 2142 1\ntick\n");
+    let text = "# the sample\n\n  port   0 # of one port\n\topen 2620 1\r\n\ntick#\n#";
+    assert_eq!(reading::text(&written(text)), "port 0\nopen 2620 1\ntick\n");
 }
 
 #[test]
@@ -179,7 +179,7 @@ fn any_capture(random: &mut Random) -> Vec<Record> {
     let events = [
         Call::Tick,
         Call::Arrive { stream: 5, charge: 84, tag: 7 },
-        Call::Open { link: 2_142, delay: 1 },
+        Call::Open { link: 2_620, delay: 1 },
         Call::Transmit,
         Call::Withdraw { stream: 5 },
     ];
@@ -203,7 +203,7 @@ fn a_file_with_more_records_than_an_index_can_name_comes_back() {
 #[test]
 fn bad_text_gets_its_line_and_what_is_wrong() {
     let said = [
-        ("port 0\nopen 2142", "line 2: a K is missing"),
+        ("port 0\nopen 2620", "line 2: a K is missing"),
         ("port 0\nopen", "line 2: an L is missing"),
         ("port 0\nreserve", "line 2: a stream is missing"),
         ("port 0\nreserve 5", "line 2: a P is missing"),

@@ -96,7 +96,7 @@ pub const OF_FRAMES: [Breach; 15] = [
     breach("best effort's stream 255 to 511", Clause::WaitingBestEffortStream, 1, waiting_best_effort_stream, 255, 256),
     breach("best effort's stream 255 to 0", Clause::WaitingBestEffortStream, 1, waiting_best_effort_stream, 255, -255),
     breach("waiting charge 84 to 83", Clause::WaitingCharge, QUEUES, waiting_charge, 84, -1),
-    breach("waiting charge 1,542 to 1,543", Clause::WaitingCharge, QUEUES, waiting_charge, 1_542, 1),
+    breach("waiting charge 2,020 to 2,021", Clause::WaitingCharge, QUEUES, waiting_charge, 2_020, 1),
     breach("waiting charge 84 to 0", Clause::WaitingCharge, QUEUES, waiting_charge, 84, -84),
     breach("waiting charge 255 to 65,535", Clause::WaitingCharge, QUEUES, waiting_charge, 255, 65_280),
     breach("W one more than the sum of any frames", Clause::Waits, 1, waits, 0, 1),
@@ -106,9 +106,11 @@ pub const OF_FRAMES: [Breach; 15] = [
 ];
 
 /// Breaches of what is asked of an open port alone.
-pub const OF_OPEN_PORTS: [Breach; 10] = [
-    breach("L 1,626 to 1,625", Clause::Link, 1, link, 1_626, -1),
-    breach("L 23,046 to 23,047", Clause::Link, 1, link, 23_046, 1),
+pub const OF_OPEN_PORTS: [Breach; 12] = [
+    breach("L 2,104 to 2,103", Clause::Link, 1, link, 2_104, -1),
+    breach("L 2,104 to 1,626", Clause::Link, 1, link, 2_104, -478),
+    breach("L 23,524 to 23,525", Clause::Link, 1, link, 23_524, 1),
+    breach("L 23,047 to 23,525", Clause::Link, 1, link, 23_047, 478),
     breach("K 1 to 0", Clause::Delay, 1, delay, 1, -1),
     breach("K 16 to 17", Clause::Delay, 1, delay, 16, 1),
     breach("K 16 to 255", Clause::Delay, 1, delay, 16, 239),

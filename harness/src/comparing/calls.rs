@@ -1,5 +1,5 @@
 //! Calls with chosen arguments: near what the record holds, or at the ends of their ranges and outside them. The ends stand here as numbers of
-//! document 01, not as the model's, so that a wrong end of the model's shows.
+//! documents 01 and 02, not as the model's, so that a wrong end of the model's shows.
 
 use std::ops::RangeInclusive;
 
@@ -16,14 +16,14 @@ pub const OVER_TWO_OCTETS: u32 = 1 << 16;
 /// Where a number of 8 bits starts over.
 pub const OVER_AN_OCTET: u32 = 1 << 8;
 
-/// L at the ends of its range and outside it, also where fewer bits would hide that.
-const EDGE_LINKS: [u32; 8] = [0, 1_541, 1_625, 1_626, 23_046, 23_047, OVER_TWO_OCTETS + 2_142, u32::MAX];
+/// L at the ends of its range and outside it, also where fewer bits would hide that, and at the ends that a largest charge of 1,542 would give it.
+const EDGE_LINKS: [u32; 12] = [0, 1_626, 2_019, 2_020, 2_103, 2_104, 23_046, 23_047, 23_524, 23_525, OVER_TWO_OCTETS + 2_620, u32::MAX];
 /// K at the ends of its range and outside it.
 const EDGE_DELAYS: [u32; 7] = [0, 1, 16, 17, OVER_AN_OCTET + 1, OVER_TWO_OCTETS + 1, u32::MAX];
 /// P at the lower end of its range and below it, and above every share.
 const EDGE_PERMITTED: [u32; 7] = [0, 83, 84, 21_505, OVER_TWO_OCTETS, OVER_TWO_OCTETS + 84, u32::MAX];
-/// Charges at the ends of their range and outside it.
-const EDGE_CHARGES: [u32; 8] = [0, 83, 84, 1_542, 1_543, OVER_TWO_OCTETS - 1, OVER_TWO_OCTETS + 84, u32::MAX];
+/// Charges at the ends of their range and outside it, and on both sides of 1,542, that of a frame of 1,518 octets.
+const EDGE_CHARGES: [u32; 10] = [0, 83, 84, 1_542, 1_543, 2_020, 2_021, OVER_TWO_OCTETS - 1, OVER_TWO_OCTETS + 84, u32::MAX];
 /// The last stream, and the ends of the streams that there are not.
 const EDGE_STREAMS: [u8; 5] = [63, 64, 65, 254, 255];
 

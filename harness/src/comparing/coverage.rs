@@ -59,6 +59,13 @@ pub enum Seen {
     BestEffortFullAndAbove,
     /// A granted Reserve after which W is above K × (L − R).
     LimitBelowWaits,
+    /// An envelope frame that joined one of the four queues, and one that joined best effort.
+    EnvelopeJoined,
+    EnvelopeBestEffort,
+    /// An envelope frame that was accepted by its octets.
+    EnvelopeFrame,
+    /// A fit record with an envelope frame waiting in a queue.
+    EnvelopeWaits,
     /// A granted Withdraw.
     Withdrawn,
     /// A call that was refused with 25, by what it asks of the draining stream.
@@ -128,6 +135,10 @@ impl fmt::Display for Seen {
             Seen::BestEffortFilled => write!(f, "best effort filled"),
             Seen::BestEffortFullAndAbove => write!(f, "best effort full and above"),
             Seen::LimitBelowWaits => write!(f, "limit fell below W"),
+            Seen::EnvelopeJoined => write!(f, "envelope frames joined"),
+            Seen::EnvelopeBestEffort => write!(f, "envelope frames joined best effort"),
+            Seen::EnvelopeFrame => write!(f, "envelope frames by octets"),
+            Seen::EnvelopeWaits => write!(f, "with envelope frames waiting"),
             Seen::Withdrawn => write!(f, "withdrawn"),
             Seen::RefusedDraining(asked) => write!(f, "{asked} of draining streams refused"),
             Seen::Freed => write!(f, "freed"),
@@ -173,6 +184,14 @@ impl fmt::Display for Asked {
     }
 }
 
+/// The charge of a tagged frame of 1,522 octets with check sequence; IEEE 802.3 calls larger ones envelope frames.
+const LARGEST_TAGGED: u32 = 1_542;
+
+/// Whether a frame of a charge is an envelope frame.
+pub fn is_envelope(charge: u32) -> bool {
+    charge > LARGEST_TAGGED
+}
+
 /// The refusals of a Frame that becomes no other call.
 const BEFORE_A_FRAME: [u8; 4] = [MEMORY_SHORT, RECORD_UNFIT, PORT_CLOSED, FRAME_LENGTH];
 
@@ -215,13 +234,19 @@ impl Coverage {
         match *call {
             Call::Open { .. } => self.count(Seen::Opened),
             Call::Reserve { .. } => self.count_reserve(reply, record),
-            Call::Arrive { stream, .. } => self.count_joined(usize::from(stream), reply, record),
+            Call::Arrive { stream, charge, .. } => {
+                self.add(Seen::EnvelopeJoined, u64::from(is_envelope(charge)));
+                self.count_joined(usize::from(stream), reply, record);
+            }
             Call::Tick => {
                 self.count(Seen::Ticked);
                 self.add(Seen::PurgedFrame, u64::from(reply.first));
             }
             Call::Transmit => self.count(sent(reply, prior_waited)),
-            Call::BestEffort { .. } => self.count(Seen::BestEffort),
+            Call::BestEffort { charge, .. } => {
+                self.count(Seen::BestEffort);
+                self.add(Seen::EnvelopeBestEffort, u64::from(is_envelope(charge)));
+            }
             Call::Bind { .. } => {
                 self.count(Seen::Bound);
                 self.add(Seen::AllBound, u64::from((0..STREAMS).all(|stream| is_bound(record, stream))));
@@ -258,6 +283,7 @@ impl Coverage {
             None => (Call::BestEffort { charge, tag }, Seen::FrameBestEffort),
         };
         self.add(seen, u64::from(reply.refusal == 0));
+        self.add(Seen::EnvelopeFrame, u64::from(reply.refusal == 0 && is_envelope(charge)));
         self.count_call(&becomes, reply, record, false);
     }
 

@@ -1,5 +1,5 @@
 //! Frames and bindings: octets with a chosen header, what a record of any content says of a frame, and Binds and Frames near what is bound. The
-//! numbers of document 01 stand here as numbers, not as the model's.
+//! numbers of documents 01 and 02 stand here as numbers, not as the model's.
 
 use std::sync::Arc;
 
@@ -8,7 +8,7 @@ use crate::comparing::calls::{any_tag, edge_stream, Profile, OVER_TWO_OCTETS};
 use crate::comparing::fit::{any_binding, binding, bindings, is_bound, Binding};
 use crate::comparing::random::Random;
 use crate::layout::{entry, is_reserved, BINDING_END, VID};
-use crate::model::port::STREAMS;
+use crate::model::port::{CHARGES, STREAMS};
 
 /// The octets of a header, up to the last that Frame reads.
 const HEADER_OCTETS: usize = 16;
@@ -21,8 +21,9 @@ pub const BESIDE_LENGTH: u32 = 24;
 
 /// VIDs at the ends of their range and outside it, also where fewer bits would hide that.
 const EDGE_VIDS: [u32; 9] = [0, 1, 4_094, 4_095, 4_096, 4_097, OVER_TWO_OCTETS, OVER_TWO_OCTETS + 1, u32::MAX];
-/// Lengths of frames at the ends of their range and outside it: without a header, with a part of one, and where fewer bits would hide it.
-const EDGE_LENGTHS: [usize; 9] = [0, 1, 15, 59, 60, 1_518, 1_519, 2_000, OVER_TWO_OCTETS as usize + 60];
+/// Lengths of frames at the ends of their range and outside it: without a header, with a part of one, and where fewer bits would hide it; and on
+/// both sides of 1,518.
+const EDGE_LENGTHS: [usize; 11] = [0, 1, 15, 59, 60, 1_518, 1_519, 1_996, 1_997, 2_000, OVER_TWO_OCTETS as usize + 60];
 
 /// What Frame reads of a frame.
 #[derive(Clone, Copy, Debug)]
@@ -87,7 +88,7 @@ pub fn arrival_of(record: &[u8], call: &Call) -> Option<(usize, u32)> {
 /// it.
 pub fn arrival(random: &mut Random, record: &[u8], frames: usize, stream: u8, charge: u32, tag: u32) -> Call {
     let bound = usize::from(stream) < STREAMS && is_bound(record, usize::from(stream));
-    if !bound || !(84..=1_542).contains(&charge) || !random.chance(frames) {
+    if !bound || !CHARGES.contains(&charge) || !random.chance(frames) {
         return Call::Arrive { stream, charge, tag };
     }
     header_of(random, &binding(record, usize::from(stream))).frame(random, charge, tag)

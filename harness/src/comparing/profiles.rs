@@ -14,8 +14,8 @@ const FULL_SHARE: u32 = FULL_LINK - LARGEST_CHARGE;
 pub const FEW_STREAMS: Profile = Profile {
     weights: Weights { reserve: 4, arrive: 70, tick: 15, transmit: 20, best_effort: 5, bind: 3, frame: 30, withdraw: 1, ..NEVER },
     streams: 4,
-    links: 10_000..=FULL_LINK,
-    permitted: Permitted::UpTo(2_000),
+    links: 12_020..=FULL_LINK,
+    permitted: Permitted::UpTo(2_500),
     ..ORDINARY
 };
 
@@ -33,7 +33,7 @@ pub const MANY_STREAMS: Profile = Profile {
         withdraw: 3,
         close: 1,
     },
-    links: 7_000..=FULL_LINK,
+    links: 7_500..=FULL_LINK,
     permitted: Permitted::Parts,
     ..ORDINARY
 };
@@ -51,7 +51,7 @@ pub const HARDLY_ANY_TRANSMITS: Profile = Profile {
 pub const WITHDRAWING: Profile = Profile {
     weights: Weights { reserve: 25, arrive: 40, tick: 30, transmit: 30, best_effort: 10, bind: 15, frame: 40, withdraw: 12, ..NEVER },
     streams: 6,
-    links: 2_142..=FULL_LINK,
+    links: 2_620..=FULL_LINK,
     edges: 5,
     ..ORDINARY
 };

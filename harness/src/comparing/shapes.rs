@@ -89,7 +89,7 @@ pub fn extreme(random: &mut Random) -> Octets {
         let draining = octets.record[at + layout::DRAINING];
         octets.record[at + layout::DRAINING] = if random.chance(10) { random.pick(&[0, 1, 5, 255]) } else { draining };
     }
-    put_extreme(random, &mut octets.record, layout::LINK, &[0, 1_541, 1_542, 1_625, 23_047, u16::MAX]);
+    put_extreme(random, &mut octets.record, layout::LINK, &[0, 1_626, 2_019, 2_020, 2_103, 23_525, u16::MAX]);
     put_extreme(random, &mut octets.record, layout::WAITS, &[0, u16::MAX]);
     put_extreme(random, &mut octets.record, layout::WAITS + 2, &[0, u16::MAX]);
     let (prior, delay) = (octets.record[layout::PRIOR], octets.record[layout::DELAY]);

@@ -10,6 +10,7 @@ use crate::comparing::sides::Side;
 use crate::comparing::test::Run;
 use crate::layout;
 use crate::model::octets::{MEMORY_OCTETS, RECORD_OCTETS};
+use crate::model::port::share;
 use crate::model::refusal::{MEMORY_SHORT, PORT_CLOSED, RECORD_UNFIT};
 
 /// The proved calls beside the model, and the proved quick calls beside their own definition: on fit records both reply the same.
@@ -39,8 +40,8 @@ impl<'a, 'r> Stated<'a, 'r> {
         let used = Octets::fit(&mut random, false);
         let compared = Compared::guarded(sides, run, &used.record, &used.memory);
         let mut list = Stated { run, compared, random };
-        list.call(Call::Open { link, delay }, Reply::granted(link - 1_542, 0))?;
-        let mut free = link - 1_542;
+        let mut free = share(link);
+        list.call(Call::Open { link, delay }, Reply::granted(free, 0))?;
         for &(stream, permitted) in streams {
             free -= permitted;
             list.call(Call::Reserve { stream, permitted }, Reply::granted(free, 0))?;

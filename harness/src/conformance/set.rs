@@ -7,6 +7,9 @@ use crate::conformance::groups::{Group, GROUPS};
 use crate::conformance::sums::{self, Sums};
 use crate::model::replay::replay;
 
+/// The edition of the rule by which the set is made: the number of the last request of document 02 that the rule follows.
+pub const EDITION: u32 = 2;
+
 /// The group of the stored captures.
 pub const STORED: &str = "stored";
 /// What the stored captures are about.
@@ -36,6 +39,11 @@ pub struct Capture {
 /// What a group is about.
 pub fn about(group: &str) -> &'static str {
     GROUPS.iter().find(|seeded| seeded.name == group).map_or(ABOUT_STORED, |seeded| seeded.about)
+}
+
+/// Which set this is, in words.
+pub fn named() -> String {
+    format!("the conformance set of edition {EDITION}")
 }
 
 /// So many captures, in words.

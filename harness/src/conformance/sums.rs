@@ -7,13 +7,13 @@ use std::path::{Path, PathBuf};
 
 use crate::conformance::checksum::Checksum;
 use crate::conformance::groups::GROUPS;
+use crate::conformance::set;
 use crate::model::replay::replay;
 
 /// Begins a line that is there for a reader.
 const COMMENT: char = '#';
-/// What stands before the lines of the captures.
-const HEADING: &str =
-    "# capture, cksum of the capture, cksum of what the rule prints of it; each is the checksum and the number of octets\n";
+/// What stands before the lines of the captures, behind the name of the set.
+const HEADING: &str = "capture, cksum of the capture, cksum of what the rule prints of it; each is the checksum and the number of octets";
 
 /// The checksums of a capture and of what the rule prints of it.
 #[derive(Clone, Copy, Debug, PartialEq, Eq)]
@@ -69,7 +69,7 @@ pub fn of(octets: &[u8], output: &str) -> Sums {
 pub fn text() -> String {
     let lines =
         GROUPS.iter().flat_map(|group| (1..=group.captures()).map(move |number| (group.capture_name(number), group.capture(number))));
-    lines.fold(String::from(HEADING), |text, (name, octets)| {
+    lines.fold(format!("{COMMENT} {}: {HEADING}\n", set::named()), |text, (name, octets)| {
         let Sums { capture, output } = of(&octets, &replay(&octets));
         format!("{text}{name} {capture} {output}\n")
     })

@@ -80,6 +80,7 @@ fn chosen(asked: &Asked) -> Result<Vec<Entry>, Failure> {
 
 /// Lists the captures of each group.
 fn list(entries: &[Entry], output: &mut dyn Write) {
+    tell(output, &set::named());
     for group in set::by_group(entries) {
         let names: Vec<&str> = group.iter().map(|entry| entry.name.as_str()).collect();
         tell(output, &format!("{}, {}: {}\n  {}", group[0].group, captures(group.len()), set::about(group[0].group), names.join(" ")));
@@ -94,6 +95,7 @@ fn write(entries: &[Entry], folder: &Folder, output: &mut dyn Write) -> Result<(
         folder.write(&entry.name, stored::CAPTURE, &capture.octets).map_err(failed)?;
         folder.write(&entry.name, stored::OUTPUT, capture.output.as_bytes()).map_err(failed)?;
     }
-    tell(output, &format!("{}, and what the rule prints of each, in {folder}", captures(entries.len())));
+    let written = captures(entries.len());
+    tell(output, &format!("{}: {written}, and what the rule prints of each, in {folder}", set::named()));
     Ok(())
 }

@@ -46,6 +46,7 @@ impl<'a> Trial<'a> {
 
     /// Runs the program over the captures, group after group, and tells how it went; the status.
     pub fn run(mut self, entries: &[Entry]) -> Result<u8, Failure> {
+        tell(self.output, &set::named());
         for group in set::by_group(entries) {
             let (passed, failed) = (self.passed, self.failed);
             self.group(group)?;

@@ -1,17 +1,13 @@
 //! What each call of a list counts as, from the events alone: a Frame "that is not refused with 17 and becomes an Arrive in its list counts there as
-//! that Arrive". The numbers of document 01 stand here as numbers, not as the model's.
-
-use std::ops::RangeInclusive;
+//! that Arrive". The numbers of documents 01 and 02 stand here and in `ranges` as numbers, not as the model's.
 
 use crate::call::Call;
 use crate::guarantee::list::Event;
+use crate::guarantee::ranges::{BESIDE_LENGTH, LENGTHS};
 use crate::guarantee::taken::{Pair, Taken};
 
-/// "17 frame outside 60 to 1,518 octets".
+/// "17 frame outside" its range of lengths.
 const OUTSIDE: u8 = 17;
-const LENGTHS: RangeInclusive<usize> = 60..=1_518;
-/// "its length without check sequence, plus 4 for the check sequence, plus 20 for preamble and gap".
-const BESIDE_LENGTH: u32 = 4 + 20;
 /// The octets of a header up to those of the VID.
 const HEADER: usize = 16;
 

@@ -1,6 +1,6 @@
 //! One list held against demand 3, and against three claims that say more, from its events alone: a frame is sent as early as the queue of its reply
 //! promises, a stream's frames are current for as long as it offers no more than P, and 17 is the reply to just the frames outside their range.
-//! The numbers of document 01 stand here as numbers, not as the model's.
+//! The numbers of documents 01 and 02 stand here and in `ranges` as numbers, not as the model's.
 
 use std::collections::HashMap;
 use std::ops::RangeInclusive;
@@ -9,12 +9,9 @@ use crate::call::{Call, Reply};
 use crate::guarantee::becoming;
 use crate::guarantee::found::{Broken, Found, Link, Prompt};
 use crate::guarantee::list::Event;
+use crate::guarantee::ranges::{share, CHARGES};
 use crate::layout;
 
-/// "A charge is 84 to 1,542."
-const CHARGES: RangeInclusive<u32> = 84..=1_542;
-/// "The share is L − 1,542".
-const KEPT_FROM_SHARE: u32 = 1_542;
 /// "255 best effort, 254 nothing", in the place of a stream.
 const BEST_EFFORT: u32 = 255;
 const NOTHING: u32 = 254;
@@ -71,7 +68,7 @@ fn frame_sent(events: &[Event], calls: &[Call], number: usize) -> Result<Option<
         return broken(number, "a refusal that no list from an opening meets");
     }
     if becoming::is_judged_wrongly(&events[number]) {
-        return broken(number, &format!("it replies {reply}, and 17 is for frames outside 60 to 1,518 octets alone"));
+        return broken(number, &format!("it replies {reply}, and 17 is for frames outside their range of lengths alone"));
     }
     if let Some(octet) = apart {
         return broken(number, &format!("octet {octet} of the record, {}, is another where tags are", layout::record_field(octet)));
@@ -110,7 +107,7 @@ impl<'a> Told<'a> {
                 return broken(number, &format!("it sends the frame of call {frame} again"));
             }
         }
-        Ok(Told { events, calls, share: link - KEPT_FROM_SHARE, ticks, sends, sent_at })
+        Ok(Told { events, calls, share: share(*link), ticks, sends, sent_at })
     }
 
     /// Whether a call brought a reserved frame that was accepted.
@@ -254,7 +251,7 @@ impl<'a> Told<'a> {
         (grant..self.events.len()).find(is_own)
     }
 
-    /// A stream's offers: "each arrival of a charge from 84 to 1,542 after its grant", before its withdrawal or the end, with its charge.
+    /// A stream's offers: "each arrival of a charge from 84 to 2,020 after its grant", before its withdrawal or the end, with its charge.
     fn offers(&self, named: u8, grant: usize, end: usize) -> Vec<(usize, u32)> {
         let offer = |number: usize| match self.calls[number] {
             Call::Arrive { stream, charge, .. } if stream == named && CHARGES.contains(&charge) => Some((number, charge)),

@@ -35,13 +35,13 @@ fn frames_count_as_what_they_become() {
     hand.bind(STREAM, 9, Reply::granted(0, 0));
     hand.put(Call::Reserve { stream: 6, permitted: 84 }, Reply::granted(316, 0));
     hand.bind(6, 8, Reply::granted(0, 0));
-    for (octet, length, refusal) in [(9, 60, 0), (8, 1_518, 14), (7, 100, 16), (9, 59, 17)] {
+    for (octet, length, refusal) in [(9, 60, 0), (8, 1_996, 14), (7, 100, 16), (9, 59, 17)] {
         hand.frame(octet, length, Reply::refused(refusal));
     }
     let counted = becoming::counted(&hand.events);
     assert_eq!(counted[3], Call::BestEffort { charge: 84, tag: 7 });
     assert_eq!(counted[7], Call::Arrive { stream: STREAM, charge: 84, tag: 7 });
-    assert_eq!(counted[8], Call::Arrive { stream: 6, charge: 1_542, tag: 7 });
+    assert_eq!(counted[8], Call::Arrive { stream: 6, charge: 2_020, tag: 7 });
     assert_eq!(counted[9], Call::BestEffort { charge: 124, tag: 7 });
     assert_eq!(counted[10], hand.events[10].call);
     for number in [0, 1, 2, 4, 5, 6] {
@@ -66,10 +66,10 @@ fn frames_count_by_their_header() {
     }
 }
 
-/// A frame is refused with 17 where its length is outside 60 to 1,518, and only there.
+/// A frame is refused with 17 where its length is outside 60 to 1,996, and only there.
 #[test]
 fn lengths_of_frames_are_judged() {
-    for (length, outside) in [(0, true), (59, true), (60, false), (1_518, false), (1_519, true)] {
+    for (length, outside) in [(0, true), (59, true), (60, false), (1_519, false), (1_996, false), (1_997, true)] {
         for refused in [false, true] {
             let mut hand = Hand::reserved(200);
             let reply = if refused { Reply::refused(17) } else { Reply::granted(84, 0) };

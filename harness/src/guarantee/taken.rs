@@ -1,6 +1,7 @@
 //! What is taken of a port, followed through a list by its granted calls and ticks alone: stream numbers, octets of the share, and pairs of address and
 //! VID. Every reply to a call that names a stream is held against it: a withdrawn stream "drains until the fourth tick after the withdrawal", and "then
-//! number and share are free and its binding is gone". The numbers of documents 01 and 02 stand here as numbers, not as the model's.
+//! number and share are free and its binding is gone". The numbers of documents 01 and 02 stand here and in `ranges` as numbers, not as
+//! the model's.
 
 use std::collections::BTreeMap;
 
@@ -8,13 +9,12 @@ use crate::call::{Call, Reply, ADDRESS_OCTETS};
 use crate::guarantee::becoming;
 use crate::guarantee::found::{Broken, Numbers};
 use crate::guarantee::list::Event;
+use crate::guarantee::ranges::share;
 
 /// "Streams 0 to 63."
 const STREAMS: u8 = 64;
 /// "7 P below 84".
 const LEAST_PERMITTED: u32 = 84;
-/// "The share is L − 1,542".
-const KEPT_FROM_SHARE: u32 = 1_542;
 /// "It drains until the fourth tick after the withdrawal".
 const DRAINING_TICKS: usize = 4;
 /// "25 an arrival, reservation, binding or withdrawal of a draining stream".
@@ -47,7 +47,7 @@ impl Taken {
     /// Follows a call that was granted.
     pub fn follow(&mut self, call: &Call) {
         match *call {
-            Call::Open { link, .. } => *self = Taken { share: link - KEPT_FROM_SHARE, ..Taken::default() },
+            Call::Open { link, .. } => *self = Taken { share: share(link), ..Taken::default() },
             Call::Reserve { stream, permitted } => {
                 self.freed.retain(|&freed| freed != stream);
                 self.streams.insert(stream, Stream { permitted, pair: None, ticks: None });

@@ -10,7 +10,7 @@ use crate::model;
 
 /// The stream of these tests, and the share at the L that they open with.
 pub const STREAM: u8 = 5;
-const LINK: u32 = 2_142;
+const LINK: u32 = 2_620;
 const SHARE: u32 = 600;
 
 /// The words about a frame that a stream is promised for as long as it conforms.
@@ -431,12 +431,36 @@ fn offers() {
     hand.arrive(84, Reply::refused(12));
     hand.put(Call::Reserve { stream: STREAM, permitted: 84 }, Reply::granted(516, 0));
     hand.arrive(83, Reply::refused(13));
-    hand.arrive(1_543, Reply::refused(13));
+    hand.arrive(2_021, Reply::refused(13));
     hand.put(Call::Arrive { stream: 6, charge: 84, tag: 7 }, Reply::refused(12));
     hand.current(84);
     assert_eq!(hand.check(), Ok(Found { conforming: current(1), ..Found::with(Link::NothingToMeet) }));
     hand.put(Call::Reserve { stream: STREAM, permitted: 300 }, Reply::refused(6));
     assert_eq!(hand.check(), Ok(Found { conforming: current(1), ..Found::with(Link::NothingToMeet) }));
+}
+
+/// An arrival of every charge up to the largest is an offer, which a stream that offers no more than P has accepted as current.
+#[test]
+fn offers_of_envelope_frames() {
+    for (charge, is_offer) in [(1_542, true), (1_543, true), (2_020, true), (2_021, false)] {
+        let mut hand = Hand::opened();
+        hand.put(Call::Reserve { stream: STREAM, permitted: 4_000 }, Reply::granted(0, 0));
+        let next = hand.arrive(charge, Reply::granted(2, 0));
+        assert_eq!(hand.check().err(), is_offer.then_some(next));
+    }
+}
+
+/// The share that the link condition asks for is L less the largest charge.
+#[test]
+fn link_condition_by_the_share() {
+    for (permitted, link) in [(SHARE, Link::ByOctets), (SHARE - 1, Link::Failed)] {
+        let mut hand = Hand::reserved(permitted);
+        let frame = hand.current(permitted);
+        hand.tick();
+        hand.send(frame);
+        hand.tick();
+        assert_eq!(hand.link(), link);
+    }
 }
 
 /// Two lists that are alike give a stream's arrivals the same replies; what is not its own does not count.

@@ -389,7 +389,7 @@ impl<'a> Writer<'a> {
     /// A Frame of a length outside its range.
     fn frame_outside(&mut self) -> Call {
         let header = any_header(self.random, &self.playing.octets().record);
-        let length = self.random.pick(&[0, 59, 1_519]);
+        let length = self.random.pick(&[0, 59, 1_997]);
         Call::Frame { octets: header.octets(self.random, length), tag: self.random.number() }
     }
 

@@ -1,5 +1,5 @@
 //! What a lent memory and a port record must be before any rule runs: refusals 18 and 19 of document 01, the latter with a clause
-//! of document 02, "Withdraw a stream".
+//! of document 02, "Withdraw a stream", and the ranges of "Envelope frames".
 
 use std::collections::VecDeque;
 
@@ -36,7 +36,7 @@ pub enum Clause {
     WaitingStream,
     /// "(best effort: not 255)".
     WaitingBestEffortStream,
-    /// "or charge outside 84 to 1,542".
+    /// "or charge outside 84 to 2,020".
     WaitingCharge,
     /// "W not the sum of the charges waiting in best effort".
     Waits,
@@ -161,7 +161,7 @@ fn waiting_best_effort_stream(record: &[u8], memory: &[u8]) -> bool {
     frames.iter().any(|frame| frame.stream != BEST_EFFORT_STREAM)
 }
 
-/// "or charge outside 84 to 1,542", in all five queues.
+/// "or charge outside 84 to 2,020", in all five queues.
 fn waiting_charge(record: &[u8], memory: &[u8]) -> bool {
     let mut frames = (0..QUEUES).filter_map(|queue| waiting(record, memory, queue)).flatten();
     frames.any(|frame| !CHARGES.contains(&frame.charge))

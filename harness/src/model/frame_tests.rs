@@ -5,24 +5,24 @@ use super::tests::{Lent, ENTRY, STREAM};
 use crate::call::Call;
 
 /// An address, and another that differs in its last octet.
-const ADDRESS: [u8; 6] = [1, 2, 3, 4, 5, 6];
+pub const ADDRESS: [u8; 6] = [1, 2, 3, 4, 5, 6];
 const OTHER: [u8; 6] = [1, 2, 3, 4, 5, 7];
 /// Octets 14 and 15 for VID 291.
-const CONTROL: [u8; 2] = [0x01, 0x23];
+pub const CONTROL: [u8; 2] = [0x01, 0x23];
 
 impl Lent {
     /// Plays a Bind.
-    fn bind(&mut self, stream: u8, address: [u8; 6], vid: u32) -> (u8, u32, u32) {
+    pub fn bind(&mut self, stream: u8, address: [u8; 6], vid: u32) -> (u8, u32, u32) {
         self.play(Call::Bind { stream, address, vid })
     }
 
     /// Plays a Frame of a length to the first address, with these octets 12 to 15.
-    fn frame(&mut self, protocol: [u8; 2], control: [u8; 2], length: usize) -> (u8, u32, u32) {
+    pub fn frame(&mut self, protocol: [u8; 2], control: [u8; 2], length: usize) -> (u8, u32, u32) {
         self.play(Call::Frame { octets: octets(protocol, control, length).into(), tag: 0x0102_0304 })
     }
 
     /// Plays a tagged Frame.
-    fn tagged(&mut self, control: [u8; 2], length: usize) -> (u8, u32, u32) {
+    pub fn tagged(&mut self, control: [u8; 2], length: usize) -> (u8, u32, u32) {
         self.frame([0x81, 0x00], control, length)
     }
 }
@@ -38,7 +38,7 @@ fn octets(protocol: [u8; 2], control: [u8; 2], length: usize) -> Vec<u8> {
 #[test]
 fn charges_of_frames() {
     assert_eq!(charge(&[0; 60]), 84);
-    assert_eq!(charge(&[0; 1_518]), 1_542);
+    assert_eq!(charge(&[0; 1_996]), 2_020);
 }
 
 /// The pair is destination and VID, the low 12 bits of octets 14 and 15, of a frame whose octets 12 and 13 are 81 00.
@@ -139,16 +139,16 @@ fn frame_checks_in_order() {
     lent.bind(STREAM, ADDRESS, 0x123);
     assert_eq!(lent.tagged(CONTROL, 177), (14, 0, 0));
     assert_eq!(lent.place(), (3, 0));
-    assert_eq!(lent.best_effort(1_542, 1), (0, 1_542, 0));
-    assert_eq!(lent.best_effort(400, 1), (0, 1_942, 0));
-    for length in [0, 1, 15, 59, 1_519, 65_536 + 60] {
+    assert_eq!(lent.best_effort(2_020, 1), (0, 2_020, 0));
+    assert_eq!(lent.best_effort(400, 1), (0, 2_420, 0));
+    for length in [0, 1, 15, 59, 1_997, 65_536 + 60] {
         assert_eq!(lent.tagged(CONTROL, length), (17, 0, 0));
         assert_eq!(lent.tagged([0, 0], length), (17, 0, 0));
     }
     assert_eq!(lent.tagged(CONTROL, 60), (14, 0, 0));
     assert_eq!(lent.tagged([0, 0], 60), (16, 0, 0));
     lent.fill_best_effort(3, 256);
-    assert_eq!(lent.tagged([0, 0], 1_518), (15, 0, 0));
+    assert_eq!(lent.tagged([0, 0], 1_996), (15, 0, 0));
     lent.put_place(2, 200);
     lent.fill(2, 0);
     assert_eq!(lent.tagged(CONTROL, 60), (20, 0, 0));
@@ -162,7 +162,7 @@ fn open_drops_bindings() {
     let mut lent = Lent::of_the_cases();
     lent.bind(STREAM, ADDRESS, 0x123);
     lent.record[0] = 0;
-    assert_eq!(lent.open(2_142, 1), (0, 600, 0));
+    assert_eq!(lent.open(2_620, 1), (0, 600, 0));
     assert_eq!(lent.reserve(6, 200), (0, 400, 0));
     assert_eq!(lent.tagged(CONTROL, 60), (0, 84, 0));
     assert_eq!(lent.bind(6, ADDRESS, 0x123), (0, 0, 0));

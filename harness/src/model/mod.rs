@@ -6,6 +6,8 @@
 //! It is meant to be read line by line, not to be fast.
 
 pub mod capture;
+#[cfg(test)]
+mod envelope_tests;
 pub mod fitness;
 pub mod frame;
 #[cfg(test)]

@@ -1,5 +1,5 @@
-//! The state of a port in plain form: document 01, "State of a port", with the draining of document 02, "Withdraw a stream", and its numbers, each
-//! named once.
+//! The state of a port in plain form: document 01, "State of a port", with the draining of document 02, "Withdraw a stream", and the numbers of
+//! "Envelope frames", each named once.
 
 use std::collections::VecDeque;
 use std::ops::RangeInclusive;
@@ -26,14 +26,16 @@ pub const BEST_EFFORT_STREAM: u32 = 255;
 /// Transmit replies "254 nothing" in the place of a stream.
 pub const NOTHING: u32 = 254;
 
-/// The least charge: "A charge is 84 to 1,542."
+/// The least charge: "A charge is 84 to" the largest one.
 pub const LEAST_CHARGE: u32 = 84;
-/// The largest charge, which is also what the share leaves free: "The share is L − 1,542".
-pub const LARGEST_CHARGE: u32 = 1_542;
-/// "A charge is 84 to 1,542."
+/// "The largest charge becomes 2,020", which is also what the share leaves free: "so the share is L − 2,020".
+pub const LARGEST_CHARGE: u32 = 2_020;
+/// The charges that a frame may have, 84 to 2,020.
 pub const CHARGES: RangeInclusive<u32> = LEAST_CHARGE..=LARGEST_CHARGE;
-/// "L, link octets in an epoch, 1,626 to 23,046."
-pub const LINKS: RangeInclusive<u32> = 1_626..=23_046;
+/// The greatest share that a port can have: that of 256 frames of the least charge, so that no queue of a list from opening is ever full (20).
+pub const GREATEST_SHARE: u32 = QUEUE_PLACES as u32 * LEAST_CHARGE;
+/// "L runs from 2,104 to 23,524": its share is 84, the least P, to 21,504.
+pub const LINKS: RangeInclusive<u32> = LARGEST_CHARGE + LEAST_PERMITTED..=LARGEST_CHARGE + GREATEST_SHARE;
 /// "K, best-effort delay bound in epochs, 1 to 16."
 pub const DELAYS: RangeInclusive<u32> = 1..=16;
 /// "7 P below 84": P has a least value, and no upper end of its own.
@@ -188,7 +190,7 @@ impl Port {
     }
 }
 
-/// "The share is L − 1,542", for an L in its range.
+/// "the share is L − 2,020", for an L in its range.
 pub fn share(link: u32) -> u32 {
     link - LARGEST_CHARGE
 }

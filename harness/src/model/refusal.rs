@@ -25,7 +25,7 @@ pub const BOUND_ALREADY: u8 = 10;
 pub const PAIR_BOUND_ALREADY: u8 = 11;
 /// "12 stream not reserved".
 pub const NOT_RESERVED: u8 = 12;
-/// "13 charge outside 84 to 1,542".
+/// "13 charge outside 84 to 2,020".
 pub const CHARGE_OUTSIDE: u8 = 13;
 /// "14 discard".
 pub const DISCARD: u8 = 14;
@@ -33,7 +33,7 @@ pub const DISCARD: u8 = 14;
 pub const BEST_EFFORT_FULL: u8 = 15;
 /// "16 W + a above K × (L − R)".
 pub const BEST_EFFORT_EXCEEDED: u8 = 16;
-/// "17 frame outside 60 to 1,518 octets".
+/// "17 frame outside 60 to 1,996 octets".
 pub const FRAME_LENGTH: u8 = 17;
 /// "18 lent memory under 1,280 places".
 pub const MEMORY_SHORT: u8 = 18;
@@ -56,21 +56,21 @@ pub const DRAINING: u8 = 25;
 const WORDS: [(u8, &str); 25] = [
     (PORT_CLOSED, "port closed"),
     (OPEN_ALREADY, "open already"),
-    (LINK_OUTSIDE, "L outside its range, 1,626 to 23,046"),
+    (LINK_OUTSIDE, "L outside its range, 2,104 to 23,524"),
     (DELAY_OUTSIDE, "K outside its range, 1 to 16"),
     (STREAM_ABOVE, "stream above 63"),
     (RESERVED_ALREADY, "reserved already"),
     (PERMITTED_BELOW, "P below 84"),
-    (SHARE_EXCEEDED, "sum of P above the share, which is L less 1,542"),
+    (SHARE_EXCEEDED, "sum of P above the share, which is L less 2,020"),
     (VID_OUTSIDE, "VID outside 1 to 4,094"),
     (BOUND_ALREADY, "stream bound already"),
     (PAIR_BOUND_ALREADY, "pair bound already"),
     (NOT_RESERVED, "stream not reserved"),
-    (CHARGE_OUTSIDE, "charge outside 84 to 1,542"),
+    (CHARGE_OUTSIDE, "charge outside 84 to 2,020"),
     (DISCARD, "discard"),
     (BEST_EFFORT_FULL, "256 best-effort frames waiting"),
     (BEST_EFFORT_EXCEEDED, "W + charge above K × (L − R)"),
-    (FRAME_LENGTH, "frame outside 60 to 1,518 octets"),
+    (FRAME_LENGTH, "frame outside 60 to 1,996 octets"),
     (MEMORY_SHORT, "lent memory under 1,280 places"),
     (RECORD_UNFIT, "port record unfit"),
     (QUEUE_FULL, "the chosen queue holds 256"),

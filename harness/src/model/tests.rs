@@ -1,5 +1,6 @@
 //! The model's own tests: cases of document 01 with what they leave in the record, its refusals, and which octets each call writes. The sample and
-//! all cases are played in `comparing::tests::sample`; the tests of Bind and Frame are in `frame_tests`, those of Withdraw in `withdraw_tests`.
+//! all cases are played in `comparing::tests::sample`; the tests of Bind and Frame are in `frame_tests`, those of Withdraw in `withdraw_tests`,
+//! those of the ranges that "Envelope frames" names in `envelope_tests`.
 
 use super::fitness::{unfit, Clause};
 use super::*;
@@ -27,10 +28,10 @@ impl Lent {
         Lent { record: vec![0; RECORD], memory: vec![0; MEMORY] }
     }
 
-    /// The port of the cases: "Stream P = 200, L = 2,142, K = 1, unless said otherwise".
+    /// The port of the cases: "Stream P = 200, L = 2,620, K = 1, unless said otherwise".
     pub fn of_the_cases() -> Lent {
         let mut lent = Lent::zeroed();
-        assert_eq!(lent.open(2_142, 1), (0, 600, 0));
+        assert_eq!(lent.open(2_620, 1), (0, 600, 0));
         assert_eq!(lent.reserve(STREAM, 200), (0, 400, 0));
         lent
     }
@@ -72,12 +73,12 @@ impl Lent {
     }
 
     /// Writes a 16-bit number into the record.
-    fn put(&mut self, at: usize, value: u16) {
+    pub fn put(&mut self, at: usize, value: u16) {
         self.record[at..at + 2].copy_from_slice(&value.to_be_bytes());
     }
 
     /// Writes a frame into a place of memory.
-    fn put_frame(&mut self, queue: usize, place: usize, stream: u16, charge: u16, tag: u32) {
+    pub fn put_frame(&mut self, queue: usize, place: usize, stream: u16, charge: u16, tag: u32) {
         let at = 8 * (256 * queue + place);
         self.memory[at..at + 2].copy_from_slice(&stream.to_be_bytes());
         self.memory[at + 2..at + 4].copy_from_slice(&charge.to_be_bytes());
@@ -144,15 +145,15 @@ impl Lent {
 /// C1, C2 and the ends of K.
 #[test]
 fn c1_c2_link_ends() {
-    assert_eq!(Lent::zeroed().open(1_625, 1), (3, 0, 0));
-    assert_eq!(Lent::zeroed().open(1_626, 1), (0, 84, 0));
-    assert_eq!(Lent::zeroed().open(23_046, 1), (0, 21_504, 0));
-    assert_eq!(Lent::zeroed().open(23_047, 1), (3, 0, 0));
+    assert_eq!(Lent::zeroed().open(2_103, 1), (3, 0, 0));
+    assert_eq!(Lent::zeroed().open(2_104, 1), (0, 84, 0));
+    assert_eq!(Lent::zeroed().open(23_524, 1), (0, 21_504, 0));
+    assert_eq!(Lent::zeroed().open(23_525, 1), (3, 0, 0));
     assert_eq!(Lent::zeroed().open(u32::MAX, 0), (3, 0, 0));
-    assert_eq!(Lent::zeroed().open(2_142, 0), (4, 0, 0));
-    assert_eq!(Lent::zeroed().open(2_142, 16), (0, 600, 0));
-    assert_eq!(Lent::zeroed().open(2_142, 17), (4, 0, 0));
-    assert_eq!(Lent::zeroed().open(2_142, 257), (4, 0, 0));
+    assert_eq!(Lent::zeroed().open(2_620, 0), (4, 0, 0));
+    assert_eq!(Lent::zeroed().open(2_620, 16), (0, 600, 0));
+    assert_eq!(Lent::zeroed().open(2_620, 17), (4, 0, 0));
+    assert_eq!(Lent::zeroed().open(2_620, 257), (4, 0, 0));
     assert_eq!(Lent::of_the_cases().open(0, 0), (2, 0, 0));
 }
 
@@ -160,7 +161,7 @@ fn c1_c2_link_ends() {
 #[test]
 fn c3_c4_permitted_and_share() {
     let mut lent = Lent::zeroed();
-    lent.open(2_142, 1);
+    lent.open(2_620, 1);
     assert_eq!(lent.reserve(5, 83), (7, 0, 0));
     assert_eq!(lent.reserve(5, 84), (0, 516, 0));
     let mut lent = Lent::of_the_cases();
@@ -219,7 +220,7 @@ fn c11_charges_outside() {
     let mut lent = Lent::of_the_cases();
     let before = lent.clone();
     assert_eq!(lent.arrive(83, 1), (13, 0, 0));
-    assert_eq!(lent.arrive(1_543, 1), (13, 0, 0));
+    assert_eq!(lent.arrive(2_021, 1), (13, 0, 0));
     assert_eq!(lent.arrive(u32::MAX, 1), (13, 0, 0));
     assert_eq!(lent.play(Call::Arrive { stream: 64, charge: 0, tag: 0 }), (5, 0, 0));
     assert_eq!(lent.play(Call::Arrive { stream: 6, charge: 0, tag: 0 }), (12, 0, 0));
@@ -374,13 +375,13 @@ fn transmit_takes_prior_then_current_then_best_effort() {
     lent.put_frame(0, 3, 63, 84, 10);
     lent.put_frame(1, 255, 0, 84, 11);
     lent.put_frame(2, 0, 1, 84, 12);
-    lent.put_frame(4, 255, 255, 1_542, 13);
+    lent.put_frame(4, 255, 255, 2_020, 13);
     lent.put_frame(4, 0, 255, 84, 14);
     for (queue, start, count) in [(0, 3, 1), (1, 255, 1), (2, 0, 1), (4, 255, 2)] {
         lent.put(16 + 4 * queue, start);
         lent.put(18 + 4 * queue, count);
     }
-    lent.put(10, 1_626);
+    lent.put(10, 2_104);
     let memory = lent.memory.clone();
     assert_eq!(lent.transmit(), (0, 63, 10));
     assert_eq!(lent.transmit(), (0, 0, 11));
@@ -397,9 +398,9 @@ fn transmit_takes_prior_then_current_then_best_effort() {
 #[test]
 fn c12_best_effort_to_the_limit() {
     let mut lent = Lent::of_the_cases();
-    assert_eq!(lent.best_effort(1_542, 1), (0, 1_542, 0));
+    assert_eq!(lent.best_effort(2_020, 1), (0, 2_020, 0));
     assert_eq!(lent.best_effort(401, 2), (16, 0, 0));
-    assert_eq!(lent.best_effort(400, 2), (0, 1_942, 0));
+    assert_eq!(lent.best_effort(400, 2), (0, 2_420, 0));
     let before = lent.clone();
     assert_eq!(lent.best_effort(84, 3), (16, 0, 0));
     assert_eq!(lent, before);
@@ -411,11 +412,11 @@ fn best_effort_checks_in_order() {
     let mut lent = Lent::of_the_cases();
     lent.fill_best_effort(9, 256);
     let before = lent.clone();
-    for charge in [0, 83, 1_543, 65_536 + 84, u32::MAX] {
+    for charge in [0, 83, 2_021, 65_536 + 84, u32::MAX] {
         assert_eq!(lent.best_effort(charge, 1), (13, 0, 0));
     }
     assert_eq!(lent.best_effort(84, 1), (15, 0, 0));
-    assert_eq!(lent.best_effort(1_542, 1), (15, 0, 0));
+    assert_eq!(lent.best_effort(2_020, 1), (15, 0, 0));
     assert_eq!(lent, before);
     assert_eq!(lent.transmit(), (0, 255, 0));
     assert_eq!(lent.best_effort(84, 1), (16, 0, 0));
@@ -425,28 +426,28 @@ fn best_effort_checks_in_order() {
 #[test]
 fn best_effort_writes_what_its_rule_names() {
     let mut lent = Lent::zeroed();
-    lent.open(23_046, 16);
+    lent.open(23_524, 16);
     lent.fill_best_effort(250, 6);
     let mut after = lent.clone();
-    assert_eq!(lent.best_effort(1_542, 0x0102_0304), (0, 2_046, 0));
-    after.put(10, 2_046);
+    assert_eq!(lent.best_effort(2_020, 0x0102_0304), (0, 2_524, 0));
+    after.put(10, 2_524);
     after.put(34, 7);
-    after.memory[8 * 1_024..8 * 1_025].copy_from_slice(&[0, 255, 6, 6, 1, 2, 3, 4]);
+    after.memory[8 * 1_024..8 * 1_025].copy_from_slice(&[0, 255, 7, 228, 1, 2, 3, 4]);
     assert_eq!(lent, after);
 }
 
-/// K × (L − R) at K 1, 2 and 16: so many frames of 1,542, then one octet more than the rest, then the rest.
+/// K × (L − R) at K 1, 2 and 16: so many frames of 2,020, then one octet more than the rest, then the rest.
 #[test]
 fn best_effort_limit_by_delay() {
-    for (delay, largest, rest) in [(1, 1, 400), (2, 2, 800), (16, 20, 232)] {
+    for (delay, largest, rest) in [(1, 1, 400), (2, 2, 800), (16, 19, 340)] {
         let mut lent = Lent::zeroed();
-        lent.open(2_142, delay);
+        lent.open(2_620, delay);
         lent.reserve(STREAM, 200);
         for sent in 1..=largest {
-            assert_eq!(lent.best_effort(1_542, sent), (0, 1_542 * sent, 0));
+            assert_eq!(lent.best_effort(2_020, sent), (0, 2_020 * sent, 0));
         }
         assert_eq!(lent.best_effort(rest + 1, 0), (16, 0, 0));
-        assert_eq!(lent.best_effort(rest, 0), (0, delay * 1_942, 0));
+        assert_eq!(lent.best_effort(rest, 0), (0, delay * 2_420, 0));
         assert_eq!(lent.best_effort(84, 0), (16, 0, 0));
         assert_eq!(lent.unfit(), []);
     }
@@ -457,8 +458,8 @@ fn best_effort_limit_by_delay() {
 fn reservation_after_best_effort_lowers_the_limit() {
     let mut lent = Lent::of_the_cases();
     assert_eq!(lent.best_effort(100, 1), (0, 100, 0));
-    assert_eq!(lent.best_effort(1_542, 2), (0, 1_642, 0));
-    assert_eq!(lent.best_effort(300, 3), (0, 1_942, 0));
+    assert_eq!(lent.best_effort(2_020, 2), (0, 2_120, 0));
+    assert_eq!(lent.best_effort(300, 3), (0, 2_420, 0));
     assert_eq!(lent.reserve(6, 400), (0, 0, 0));
     assert_eq!(lent.unfit(), []);
     assert_eq!(lent.best_effort(84, 4), (16, 0, 0));
@@ -466,7 +467,7 @@ fn reservation_after_best_effort_lowers_the_limit() {
     assert_eq!(lent.best_effort(84, 4), (16, 0, 0));
     assert_eq!(lent.transmit(), (0, 255, 2));
     assert_eq!(lent.waits(), 300);
-    assert_eq!(lent.best_effort(1_242, 5), (0, 1_542, 0));
+    assert_eq!(lent.best_effort(1_720, 5), (0, 2_020, 0));
 }
 
 /// Of an unreserved stream nothing counts in R, whatever its entry holds.
@@ -475,8 +476,8 @@ fn best_effort_counts_reserved_streams_alone() {
     let mut lent = Lent::of_the_cases();
     lent.record[ENTRY + 16] = 2;
     lent.put(ENTRY + 20, 65_535);
-    assert_eq!(lent.best_effort(1_542, 1), (0, 1_542, 0));
-    assert_eq!(lent.best_effort(400, 2), (0, 1_942, 0));
+    assert_eq!(lent.best_effort(2_020, 1), (0, 2_020, 0));
+    assert_eq!(lent.best_effort(400, 2), (0, 2_420, 0));
 }
 
 /// Open writes its fields and no memory, also on a record whose spare octets and marks hold anything.
@@ -491,9 +492,9 @@ fn open_writes_what_its_rule_names() {
     lent.record[ENTRY + 6] = 4;
     lent.put_place(2, 0);
     let mut after = lent.clone();
-    assert_eq!(lent.open(2_142, 16), (0, 600, 0));
+    assert_eq!(lent.open(2_620, 16), (0, 600, 0));
     after.record[0..3].copy_from_slice(&[1, 0, 16]);
-    after.put(6, 2_142);
+    after.put(6, 2_620);
     after.record[16..36].fill(0);
     for stream in 0..64 {
         after.record[64 + 16 * stream] = 0;
@@ -506,7 +507,7 @@ fn open_writes_what_its_rule_names() {
 #[test]
 fn reserve_writes_what_its_rule_names() {
     let mut lent = Lent::zeroed();
-    lent.open(2_142, 1);
+    lent.open(2_620, 1);
     lent.record[ENTRY..ENTRY + 16].fill(0xEE);
     let mut after = lent.clone();
     assert_eq!(lent.reserve(STREAM, 300), (0, 300, 0));
@@ -517,7 +518,7 @@ fn reserve_writes_what_its_rule_names() {
 /// 18 comes before 19, and longer slices are fine.
 #[test]
 fn lengths() {
-    let reply = |record: usize, memory: usize| Lent { record: vec![0; record], memory: vec![0; memory] }.open(2_142, 1).0;
+    let reply = |record: usize, memory: usize| Lent { record: vec![0; record], memory: vec![0; memory] }.open(2_620, 1).0;
     assert_eq!(reply(0, 0), 18);
     assert_eq!(reply(RECORD, MEMORY - 1), 18);
     assert_eq!(reply(RECORD - 1, MEMORY - 1), 18);
@@ -542,7 +543,7 @@ fn unfit_head_and_queues() {
     assert_eq!(lent.unfit(), [Clause::Prior, Clause::Start, Clause::Count]);
     let mut closed = Lent::zeroed();
     closed.record[1] = 4;
-    assert_eq!(closed.open(2_142, 1), (19, 0, 0));
+    assert_eq!(closed.open(2_620, 1), (19, 0, 0));
 }
 
 /// 19: place and left of reserved streams, on a closed port too, and nothing of unreserved ones.
@@ -595,17 +596,17 @@ fn unfit_waiting_frames() {
     assert_eq!(lent.unfit(), [Clause::WaitingStream]);
     lent.put_frame(3, 200, 63, 83, 0);
     assert_eq!(lent.unfit(), [Clause::WaitingCharge]);
-    lent.put_frame(3, 200, 63, 1_542, 0);
+    lent.put_frame(3, 200, 63, 2_020, 0);
     assert_eq!(lent.unfit(), []);
     lent.put_frame(4, 0, 254, 84, 0);
     lent.put(18 + 16, 1);
     assert_eq!(lent.unfit(), [Clause::WaitingBestEffortStream, Clause::Waits]);
-    lent.put_frame(4, 0, 255, 1_543, 0);
-    lent.put(10, 1_543);
+    lent.put_frame(4, 0, 255, 2_021, 0);
+    lent.put(10, 2_021);
     assert_eq!(lent.unfit(), [Clause::WaitingCharge]);
-    lent.put_frame(4, 0, 255, 1_542, 0);
+    lent.put_frame(4, 0, 255, 2_020, 0);
     assert_eq!(lent.unfit(), [Clause::Waits]);
-    lent.put(10, 1_542);
+    lent.put(10, 2_020);
     assert_eq!(lent.unfit(), []);
 }
 
@@ -620,7 +621,7 @@ fn unfit_on_an_open_port_only() {
     assert_eq!(lent.unfit(), [Clause::Permitted]);
     lent.record[2] = 17;
     assert_eq!(lent.unfit(), [Clause::Delay, Clause::Permitted]);
-    lent.put(6, 1_625);
+    lent.put(6, 2_103);
     assert_eq!(lent.unfit(), [Clause::Link, Clause::Delay, Clause::Permitted]);
     lent.record[0] = 0;
     assert_eq!(lent.unfit(), []);
@@ -636,21 +637,21 @@ fn draw(seed: &mut u64) -> u32 {
 fn any_call(seed: &mut u64) -> Call {
     let stream = (draw(seed) % 3) as u8 * 63;
     match draw(seed) % 15 {
-        0 => Call::Open { link: 1_600 + draw(seed) % 22_000, delay: draw(seed) % 18 },
-        1 => Call::Reserve { stream, permitted: draw(seed) % 2_000 },
+        0 => Call::Open { link: 2_000 + draw(seed) % 22_000, delay: draw(seed) % 18 },
+        1 => Call::Reserve { stream, permitted: draw(seed) % 2_500 },
         2 => Call::Tick,
         3 => Call::Transmit,
-        4 | 5 => Call::BestEffort { charge: draw(seed) % 1_600, tag: draw(seed) },
+        4 | 5 => Call::BestEffort { charge: draw(seed) % 2_100, tag: draw(seed) },
         6 => Call::Bind { stream, address: [0; 6], vid: draw(seed) % 3 },
         7..=9 => any_frame(seed),
         10 => Call::Withdraw { stream },
-        _ => Call::Arrive { stream, charge: draw(seed) % 1_600, tag: draw(seed) },
+        _ => Call::Arrive { stream, charge: draw(seed) % 2_100, tag: draw(seed) },
     }
 }
 
 /// A Frame of zeros, tagged or not, with VID 1 or 2, near its range of lengths.
 fn any_frame(seed: &mut u64) -> Call {
-    let mut octets = vec![0; draw(seed) as usize % 1_600];
+    let mut octets = vec![0; draw(seed) as usize % 2_100];
     if let [_, _, _, _, _, _, _, _, _, _, _, _, tagged, _, _, vid, ..] = &mut octets[..] {
         (*tagged, *vid) = (0x81 * (draw(seed) % 2) as u8, 1 + (draw(seed) % 2) as u8);
     }

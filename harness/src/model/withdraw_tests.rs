@@ -93,13 +93,13 @@ fn number_and_share_are_free_at_the_fourth_tick() {
 fn draining_octets_are_in_r() {
     let mut lent = Lent::of_the_cases();
     lent.withdraw(STREAM);
-    assert_eq!(lent.best_effort(1_542, 1), (0, 1_542, 0));
+    assert_eq!(lent.best_effort(2_020, 1), (0, 2_020, 0));
     for _ in 0..4 {
         assert_eq!(lent.best_effort(401, 2), (16, 0, 0));
         assert_eq!(lent.reserve(6, 401), (8, 0, 0));
         lent.ticks(1);
     }
-    assert_eq!(lent.best_effort(600, 2), (0, 2_142, 0));
+    assert_eq!(lent.best_effort(600, 2), (0, 2_620, 0));
     let mut lent = Lent::of_the_cases();
     lent.withdraw(STREAM);
     assert_eq!(lent.reserve(6, 100), (0, 300, 0));
@@ -177,7 +177,7 @@ fn draining_is_asked_right_after_5() {
     for permitted in [0, 83, 84, 200, 401, u32::MAX] {
         assert_eq!(lent.reserve(STREAM, permitted), (25, 0, 0));
     }
-    for charge in [0, 83, 84, 201, 1_543, u32::MAX] {
+    for charge in [0, 83, 84, 201, 2_021, u32::MAX] {
         assert_eq!(lent.arrive(charge, 1), (25, 0, 0));
     }
     for vid in [0, 7, 8, 4_095] {
@@ -220,7 +220,7 @@ fn unfit_draining_counts() {
         assert_eq!(lent.unfit(), broken);
         lent.record[0] = 0;
         assert_eq!(lent.unfit(), broken);
-        assert_eq!(lent.open(2_142, 1).0, if broken.is_empty() { 0 } else { 19 });
+        assert_eq!(lent.open(2_620, 1).0, if broken.is_empty() { 0 } else { 19 });
     }
 }
 
@@ -230,7 +230,7 @@ fn open_ends_all_draining() {
     let mut lent = Lent::of_the_cases();
     lent.withdraw(STREAM);
     lent.record[0] = 0;
-    assert_eq!(lent.open(2_142, 1), (0, 600, 0));
+    assert_eq!(lent.open(2_620, 1), (0, 600, 0));
     assert_eq!(lent.record[DRAINING], 0);
     assert_eq!(lent.reserve(STREAM, 600), (0, 0, 0));
     assert_eq!(lent.arrive(84, 1), (0, 1, 516));
@@ -251,7 +251,7 @@ fn capture(records: &[(u8, u8, u32, u32)]) -> Vec<u8> {
 /// "in captures it is kind 7, with any stream octet and A and B 0".
 #[test]
 fn withdrawals_in_captures() {
-    let opened = [(1, 0, 2_142, 1), (2, 5, 200, 0)];
+    let opened = [(1, 0, 2_620, 1), (2, 5, 200, 0)];
     let withdrawn = [(7, 5, 0, 0), (7, 5, 0, 0), (7, 6, 0, 0), (7, 64, 0, 0), (7, 255, 0, 0)];
     let replayed = replay(&capture(&[&opened[..], &withdrawn].concat()));
     assert_eq!(replayed, "0 1 1 0 600 0\n0 2 2 0 400 0\n0 3 7 0 0 0\n0 4 7 25 0 0\n0 5 7 12 0 0\n0 6 7 5 0 0\n0 7 7 5 0 0\n");

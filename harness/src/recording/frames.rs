@@ -13,7 +13,7 @@ pub struct Frame {
     pub padded: bool,
 }
 
-/// The frame of a packet, or none where Frame would refuse it: "17 frame outside 60 to 1,518 octets". Its first octets are those of the packet, all
+/// The frame of a packet, or none where Frame would refuse it: "17 frame outside 60 to 1,996 octets". Its first octets are those of the packet, all
 /// that Frame reads; the others are zeros, as many as the packet had on the wire, and up to 60 those of padding.
 pub fn frame(packet: &Packet) -> Option<Frame> {
     let (length, least) = (packet.length as usize, *FRAME_LENGTHS.start());

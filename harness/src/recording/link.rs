@@ -6,8 +6,8 @@
 //!
 //! Where several things happen at one time, the tick comes first, since what happens just at an epoch's end is in the next one; then the transmit
 //! of a link that became free, then the withdrawals, then the packets. An idle link transmits right after each packet, and right after each tick,
-//! which may have made a frame current. So between two ticks some transmit sends no reserved frame, or all but less than 1,542 octets of the epoch,
-//! the share, is used for reserved frames: the link condition of demand 3.
+//! which may have made a frame current. So between two ticks some transmit sends no reserved frame, or reserved frames get all octets of the epoch
+//! but fewer than the largest charge, and so the share: the link condition of demand 3.
 
 use crate::call::Call;
 use crate::capture::file::MOST_RECORDS;

@@ -3,6 +3,8 @@
 use std::fmt;
 
 use crate::capture::file::MOST_RECORDS;
+use crate::model::frame::FRAME_LENGTHS;
+use crate::model::refusal::{self, FRAME_LENGTH};
 
 /// How many packets a line of a report names at most.
 const NAMED: usize = 5;
@@ -69,9 +71,9 @@ impl fmt::Display for Report {
     fn fmt(&self, f: &mut fmt::Formatter<'_>) -> fmt::Result {
         let Report { packets, arrivals, best_effort, refused, left_out, padded, earlier, waiting, not_withdrawn, epochs, events } = self;
         let told = [
-            ("padded to 60 octets", padded),
-            ("refused with 17, outside 60 to 1,518 octets, and not in the capture", refused),
-            ("earlier than a packet before, and taken as of its time", earlier),
+            (format!("padded to {} octets", FRAME_LENGTHS.start()), padded),
+            (format!("{}, and not in the capture", refusal::told(FRAME_LENGTH)), refused),
+            (String::from("earlier than a packet before, and taken as of its time"), earlier),
         ];
         for (what, packets) in told.into_iter().filter(|(_, packets)| packets.count > 0) {
             writeln!(f, "{} {what}: {packets}", packets.count)?;

@@ -107,7 +107,7 @@ mod tests {
     /// A call of every sort.
     fn calls() -> Vec<Call> {
         vec![
-            Call::Open { link: 2_142, delay: 1 },
+            Call::Open { link: 2_620, delay: 1 },
             Call::Reserve { stream: 5, permitted: 200 },
             Call::Arrive { stream: 5, charge: 100, tag: 8 },
             Call::Tick,
@@ -127,7 +127,7 @@ mod tests {
     #[test]
     fn events_are_told_in_words() {
         let calls = calls();
-        assert_eq!(said(&calls[0], 0, 600, 0), "6 open with L 2142 and K 1: opens, with a share of 600");
+        assert_eq!(said(&calls[0], 0, 600, 0), "6 open with L 2620 and K 1: opens, with a share of 600");
         assert_eq!(said(&calls[1], 0, 400, 0), "6 reserve for stream 5, P 200: reserves, 400 of the share still free");
         assert_eq!(said(&calls[2], 0, 1, 80), "6 arrive on stream 5, charge 100, tag 8: joins current, 80 left");
         assert_eq!(said(&calls[2], 0, 2, 100), "6 arrive on stream 5, charge 100, tag 8: joins next, 100 left");

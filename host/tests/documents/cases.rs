@@ -9,18 +9,18 @@ fn share(link: u32) -> Result<u32, Refusal> {
     Port::open(link, 1).map(|port| port.share())
 }
 
-/// "C1 L 1,625: 3; 1,626: share 84."
+/// "C1 L 2,103: 3; 2,104: share 84."
 #[test]
 fn c1_least_link() {
-    assert_eq!(share(1_625), Err(Refusal::LinkRange));
-    assert_eq!(share(1_626), Ok(84));
+    assert_eq!(share(2_103), Err(Refusal::LinkRange));
+    assert_eq!(share(2_104), Ok(84));
 }
 
-/// "C2 L 23,046: share 21,504; 23,047: 3."
+/// "C2 L 23,524: share 21,504; 23,525: 3."
 #[test]
 fn c2_largest_link() {
-    assert_eq!(share(23_046), Ok(21_504));
-    assert_eq!(share(23_047), Err(Refusal::LinkRange));
+    assert_eq!(share(23_524), Ok(21_504));
+    assert_eq!(share(23_525), Err(Refusal::LinkRange));
 }
 
 /// "C3 P 83: 7; 84 granted."
@@ -105,20 +105,20 @@ fn c10_larger_than_the_reservation() {
     assert_eq!(port.arrive(STREAM, 84, 2), Err(Refusal::Discard));
 }
 
-/// "C11 charges 83 and 1,543: 13."
+/// "C11 charges 83 and 2,021: 13."
 #[test]
 fn c11_charges_outside() {
     let mut port = reserved();
     assert_eq!(port.arrive(STREAM, 83, 1), Err(Refusal::ChargeRange));
-    assert_eq!(port.arrive(STREAM, 1_543, 2), Err(Refusal::ChargeRange));
+    assert_eq!(port.arrive(STREAM, 2_021, 2), Err(Refusal::ChargeRange));
 }
 
-/// "C12 best effort 1,542, then 400: W 1,942; then 84: 16."
+/// "C12 best effort 2,020, then 400: W 2,420; then 84: 16."
 #[test]
 fn c12_best_effort_to_its_limit() {
     let mut port = reserved();
-    assert_eq!(port.best_effort(1_542, 1), waiting(1_542));
-    assert_eq!(port.best_effort(400, 2), waiting(1_942));
+    assert_eq!(port.best_effort(2_020, 1), waiting(2_020));
+    assert_eq!(port.best_effort(400, 2), waiting(2_420));
     assert_eq!(port.best_effort(84, 3), Err(Refusal::LimitExceeded));
 }
 

@@ -1,6 +1,7 @@
 //! Documents 01 and 02 through a port of this package, as a user calls it, with the replies that the documents state.
 
 mod cases;
+mod envelope;
 mod names;
 mod refusals;
 mod threads;
@@ -8,16 +9,16 @@ mod withdrawing;
 
 use std::fmt::Debug;
 
-use bunnysolder::{Joined, Port, Queue, Refusal, Reserved, Waiting};
+use bunnysolder::{Joined, Port, Queue, Refusal, Reserved, Waiting, LONGEST_FRAME};
 
 /// The stream of the documents' cases.
 const STREAM: u8 = 5;
 /// An address to bind to.
 const ADDRESS: [u8; 6] = [0x01, 0x80, 0xC2, 0x00, 0x00, 0x0E];
 
-/// An open port without reservations: "L = 2,142, K = 1, unless said otherwise".
+/// An open port without reservations: "L = 2,620, K = 1, unless said otherwise".
 fn opened() -> Port {
-    let port = Port::open(2_142, 1).expect("L and K are in their ranges");
+    let port = Port::open(2_620, 1).expect("L and K are in their ranges");
     assert_eq!(port.share(), 600);
     port
 }
@@ -46,8 +47,8 @@ fn refused<T: Debug>(reply: Result<T, Refusal>, name: Refusal, number: u8) {
 }
 
 /// Octets with a VLAN tag to the address of these tests, one more than a frame may have.
-fn frame(vid: u8) -> [u8; 1_519] {
-    let mut octets = [0; 1_519];
+fn frame(vid: u8) -> [u8; LONGEST_FRAME + 1] {
+    let mut octets = [0; LONGEST_FRAME + 1];
     octets[..6].copy_from_slice(&ADDRESS);
     octets[12..16].copy_from_slice(&[0x81, 0x00, 0x00, vid]);
     octets

@@ -7,10 +7,10 @@ use crate::{frame, joined, refused, reserved, waiting, ADDRESS, STREAM};
 /// 3 where L is outside, before 4; 4 where K is.
 #[test]
 fn open_is_refused() {
-    refused(Port::open(1_625, 0), Refusal::LinkRange, 3);
+    refused(Port::open(2_103, 0), Refusal::LinkRange, 3);
     refused(Port::open(u32::MAX, 17), Refusal::LinkRange, 3);
-    refused(Port::open(2_142, 0), Refusal::DelayRange, 4);
-    refused(Port::open(2_142, 17), Refusal::DelayRange, 4);
+    refused(Port::open(2_620, 0), Refusal::DelayRange, 4);
+    refused(Port::open(2_620, 17), Refusal::DelayRange, 4);
 }
 
 /// 5, 6, 7, 8 in this order.
@@ -31,7 +31,7 @@ fn arrive_is_refused() {
     refused(port.arrive(64, 83, 1), Refusal::StreamRange, 5);
     refused(port.arrive(6, 83, 1), Refusal::NotReserved, 12);
     refused(port.arrive(STREAM, 83, 1), Refusal::ChargeRange, 13);
-    refused(port.arrive(STREAM, 1_543, 1), Refusal::ChargeRange, 13);
+    refused(port.arrive(STREAM, 2_021, 1), Refusal::ChargeRange, 13);
     assert_eq!(port.arrive(STREAM, 100, 1), joined(Queue::Current, 100));
     refused(port.arrive(STREAM, 201, 2), Refusal::Discard, 14);
     refused(port.arrive(STREAM, 84, 3), Refusal::Discard, 14);
@@ -70,11 +70,11 @@ fn a_frame_that_arrives_is_refused() {
     let mut port = reserved();
     assert_eq!(port.bind(STREAM, &ADDRESS, 1), Ok(()));
     let bound = frame(1);
-    for length in [0, 59, 1_519] {
+    for length in [0, 59, 1_997] {
         refused(port.frame(&bound[..length], 1), Refusal::FrameLength, 17);
     }
-    refused(port.frame(&bound[..1_518], 1), Refusal::Discard, 14);
-    refused(port.frame(&bound[..1_519], 1), Refusal::FrameLength, 17);
+    refused(port.frame(&bound[..1_996], 1), Refusal::Discard, 14);
+    refused(port.frame(&bound[..1_997], 1), Refusal::FrameLength, 17);
     refused(port.frame(&bound[..60], 1), Refusal::Discard, 14);
 }
 

@@ -57,7 +57,8 @@ fn frames_of_a_draining_stream_are_refused() {
     assert_eq!(port.withdraw(STREAM), Ok(()));
     refused(port.frame(&frame(1)[..59], 1), Refusal::FrameLength, 17);
     refused(port.frame(&frame(1)[..60], 1), Refusal::Draining, 25);
-    refused(port.frame(&frame(1)[..1_518], 1), Refusal::Draining, 25);
+    refused(port.frame(&frame(1)[..1_996], 1), Refusal::Draining, 25);
+    refused(port.frame(&frame(1)[..1_997], 1), Refusal::FrameLength, 17);
     assert_eq!(port.frame(&frame(2)[..60], 1), waiting(84).map(Framed::BestEffort));
 }
 
@@ -87,16 +88,16 @@ fn the_share_is_free_after_the_last_tick() {
     assert_eq!(port.reserve(6, 401), Ok(Reserved { free: 199 }));
 }
 
-/// W is at most 1 × (2,142 − 200) = 1,942 while the stream drains, and 2,142 after it.
+/// W is at most 1 × (2,620 − 200) = 2,420 while the stream drains, and 2,620 after it.
 #[test]
 fn best_effort_has_the_share_after_the_last_tick() {
     let mut port = withdrawn();
-    assert_eq!(port.best_effort(1_542, 1), waiting(1_542));
+    assert_eq!(port.best_effort(2_020, 1), waiting(2_020));
     for _ in 0..DRAINING_TICKS {
         refused(port.best_effort(401, 2), Refusal::LimitExceeded, 16);
         ticks(&mut port, 1);
     }
-    assert_eq!(port.best_effort(600, 2), waiting(2_142));
+    assert_eq!(port.best_effort(600, 2), waiting(2_620));
 }
 
 /// "its binding is gone": until the fourth tick its pair is refused to others (11), and then a frame with it is best effort.

@@ -72,7 +72,7 @@ fn bind_checks_in_order(run: &mut Run) -> Result<(), String> {
 
 /// An open port with two streams bound, one reserved alone.
 fn two_bound(run: &mut Run, sides: [Side; 2]) -> Result<Octets, String> {
-    let mut list = Stated::opened(run, sides, 2_142, 1, &STREAMS)?;
+    let mut list = Stated::opened(run, sides, 2_620, 1, &STREAMS)?;
     list.bound(5, (ONE, 100))?;
     list.bound(6, (OTHER, 100))?;
     Ok(list.octets())
@@ -86,7 +86,7 @@ pub fn demand_met(run: &Run, seen: Seen) -> Result<(), String> {
 /// VIDs at the ends of their range are bound and found, and those outside it are refused, also where fewer bits would hide that.
 fn bind_vids_at_the_ends(run: &mut Run) -> Result<(), String> {
     for sides in BOTH_SORTS {
-        let mut list = Stated::opened(run, sides, 23_046, 1, &[(5, 168), (63, 168)])?;
+        let mut list = Stated::opened(run, sides, 23_524, 1, &[(5, 168), (63, 168)])?;
         for vid in [0, 4_095, 4_096, 4_097, 8_191, OVER_TWO_OCTETS - 1, OVER_TWO_OCTETS, OVER_TWO_OCTETS + 1, u32::MAX] {
             list.bind(5, (ONE, vid), Reply::refused(VID_OUTSIDE))?;
         }
@@ -136,7 +136,7 @@ fn bindings_vids_apart(run: &mut Run) -> Result<(), String> {
 /// An open port with all streams reserved, each for two frames of 60 octets.
 fn all_reserved<'a, 'r>(run: &'a mut Run<'r>, sides: [Side; 2]) -> Result<Stated<'a, 'r>, String> {
     let streams: Vec<(u8, u32)> = (0..64).map(|stream| (stream, 168)).collect();
-    Stated::opened(run, sides, 23_046, 16, &streams)
+    Stated::opened(run, sides, 23_524, 16, &streams)
 }
 
 /// Binds all streams, in any order, to the first pairs; then a frame of each pair goes to its stream, or to best effort where it is bound nowhere.
@@ -168,7 +168,7 @@ fn open_drops_bindings(run: &mut Run) -> Result<(), String> {
             list.bound(stream, (ONE, 100 + u32::from(stream)))?;
         }
         list.close();
-        list.call(Call::Open { link: 23_046, delay: 1 }, Reply::granted(21_504, 0))?;
+        list.call(Call::Open { link: 23_524, delay: 1 }, Reply::granted(21_504, 0))?;
         for stream in 0..64 {
             list.bind(stream, (ONE, 100 + u32::from(stream)), Reply::refused(NOT_RESERVED))?;
             list.frame_of(&Header::tagged(ONE, 100 + u16::from(stream)), None)?;

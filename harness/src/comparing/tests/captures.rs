@@ -81,7 +81,7 @@ fn captures_of_few_streams(run: &mut Run) -> Result<(), String> {
     play(run, 500, 50..=600, |_| FEW_STREAMS)?;
     run.demand(&at_each_place(Seen::JoinedAt, 5_000))?;
     run.demand(&at_each_place(Seen::ExactFitAt, 1_000))?;
-    run.demand(&[(Seen::Refused(DISCARD), 5_000)])
+    run.demand(&[(Seen::Refused(DISCARD), 5_000), (Seen::EnvelopeJoined, 1_000)])
 }
 
 /// All 64 streams, with reservations up to the share and past it.

@@ -27,7 +27,7 @@ pub const TESTS: [Test; 6] = [
 const CAPTURE: &str = "
 first 3 11            # in the middle of port 2's chain
 port 0                # record 1
-open 2142 1
+open 2620 1
 reserve 5 200
 arrive 5 120 7
 best effort 84 1
@@ -36,13 +36,13 @@ transmit
 chain                 # record 7, on no chain
 tick
 port 1                # record 8
-open 2226 16 next 10
+open 2704 16 next 10
 chain                 # record 9, on no chain
 transmit
 port 2                # record 10
 reserve 63 84
 arrive 63 84 2
-best effort 1542 3
+best effort 2020 3
 tick
 transmit
 withdraw 63
@@ -50,7 +50,7 @@ withdraw 63
 
 /// What `replay` prints of it.
 const OUTPUT: &str = "0 1 1 0 600 0\n0 2 2 0 400 0\n0 3 3 0 1 80\n0 4 4 0 84 0\n0 5 5 0 0 0\n0 6 6 0 5 7\n\
-1 1 1 0 684 0\n1 2 2 0 600 0\n1 3 3 0 1 84\n1 4 4 0 1542 0\n1 5 5 0 0 0\n1 6 6 0 63 2\n1 7 7 0 0 0\n\
+1 1 1 0 684 0\n1 2 2 0 600 0\n1 3 3 0 1 84\n1 4 4 0 2020 0\n1 5 5 0 0 0\n1 6 6 0 63 2\n1 7 7 0 0 0\n\
 2 1 2 1 0 0\n2 2 3 1 0 0\n2 3 4 1 0 0\n2 4 5 1 0 0\n2 5 6 1 0 0\n2 6 7 1 0 0\n3 1 3 1 0 0\n3 2 4 1 0 0\n3 3 5 1 0 0\n3 4 6 1 0 0\n3 5 7 1 0 0\n";
 
 /// Its records on no chain.

@@ -40,7 +40,7 @@ const HEADER: Header = Header { destination: BOUND, protocol: TAGGED, control: V
 
 /// A list after Open with stream 5 reserved for two frames of 60 octets, and bound.
 fn one_bound<'a, 'r>(run: &'a mut Run<'r>, sides: [Side; 2]) -> Result<Stated<'a, 'r>, String> {
-    let mut list = Stated::opened(run, sides, 2_142, 1, &[(5, 168), (6, 168)])?;
+    let mut list = Stated::opened(run, sides, 2_620, 1, &[(5, 168), (6, 168)])?;
     list.bound(5, (BOUND, u32::from(VID)))?;
     Ok(list)
 }
@@ -49,7 +49,7 @@ fn one_bound<'a, 'r>(run: &'a mut Run<'r>, sides: [Side; 2]) -> Result<Stated<'a
 fn sample_by_frames(run: &mut Run) -> Result<(), String> {
     let untagged = Header { protocol: [0x08, 0x00], ..HEADER };
     for sides in BOTH_SORTS {
-        let mut list = Stated::opened(run, sides, 2_142, 1, &[(5, 200)])?;
+        let mut list = Stated::opened(run, sides, 2_620, 1, &[(5, 200)])?;
         list.bound(5, (BOUND, u32::from(VID)))?;
         list.frame(&HEADER, 96, 7, Reply::granted(1, 80))?;
         list.frame(&HEADER, 76, 8, Reply::granted(2, 100))?;
@@ -57,8 +57,8 @@ fn sample_by_frames(run: &mut Run) -> Result<(), String> {
         list.call(Call::Transmit, Reply::granted(254, 0))?;
         list.call(Call::Tick, Reply::granted(0, 0))?;
         list.call(Call::Transmit, Reply::granted(5, 8))?;
-        list.frame(&untagged, 1_518, 9, Reply::granted(1_542, 0))?;
-        list.frame(&untagged, 376, 10, Reply::granted(1_942, 0))?;
+        list.frame(&untagged, 1_996, 9, Reply::granted(2_020, 0))?;
+        list.frame(&untagged, 376, 10, Reply::granted(2_420, 0))?;
         list.frame(&untagged, 60, 11, Reply::refused(BEST_EFFORT_EXCEEDED))?;
         list.call(Call::Transmit, Reply::granted(255, 9))?;
     }
@@ -89,7 +89,7 @@ fn frames_by_address_and_vid(run: &mut Run) -> Result<(), String> {
 fn frames_of_every_priority(run: &mut Run) -> Result<(), String> {
     for sides in BOTH_SORTS {
         for vid in [1, VID, 0x0800, 4_094] {
-            let mut list = Stated::opened(run, sides, 2_142, 1, &[(5, 168)])?;
+            let mut list = Stated::opened(run, sides, 2_620, 1, &[(5, 168)])?;
             list.bound(5, (BOUND, u32::from(vid)))?;
             for priority in 0..PRIORITIES {
                 for (low, stream) in [(vid, Some(5)), (0, None), (4_095, None), (vid ^ 0x0400, None)] {
@@ -135,21 +135,21 @@ fn frames_tagged_twice(run: &mut Run) -> Result<(), String> {
     run.demand(&[(Seen::FrameArrived, 4), (Seen::FrameBestEffort, 6)])
 }
 
-/// Every length from 0 to 2,000: 60 to 1,518 octets are taken, at a charge of 24 more, and all others are 17.
+/// Every length from 0 to 2,100: 60 to 1,996 octets are taken, at a charge of 24 more, and all others are 17.
 fn frames_of_every_length(run: &mut Run) -> Result<(), String> {
     for sides in BOTH_SORTS {
-        let mut list = Stated::opened(run, sides, 23_046, 16, &[(5, 3_000)])?;
+        let mut list = Stated::opened(run, sides, 23_524, 16, &[(5, 3_000)])?;
         list.bound(5, (BOUND, u32::from(VID)))?;
         let before = list.octets();
-        for length in (0..=2_000).chain([65_535, 65_536, 65_536 + 60]) {
-            let (charge, taken) = (length as u32 + 24, (60..=1_518).contains(&length));
+        for length in (0..=2_100).chain([65_535, 65_536, 65_536 + 60]) {
+            let (charge, taken) = (length as u32 + 24, (60..=1_996).contains(&length));
             let of = |reply: Reply| if taken { reply } else { Reply::refused(FRAME_LENGTH) };
             list.lend_again(&before);
             list.frame(&HEADER, length, 1, of(Reply::granted(1, 3_000_u32.saturating_sub(charge))))?;
             list.frame(&Header { control: 1, ..HEADER }, length, 2, of(Reply::granted(charge, 0)))?;
         }
     }
-    run.demand(&[(Seen::FrameArrived, 2_918), (Seen::FrameBestEffort, 2_918), (Seen::FrameRefused(FRAME_LENGTH), 2_180)])
+    run.demand(&[(Seen::FrameArrived, 3_874), (Seen::FrameBestEffort, 3_874), (Seen::FrameRefused(FRAME_LENGTH), 668)])
 }
 
 /// "18 19 1 17, then 14/20 or 15 16": lengths outside the range, on ports where what the frame becomes would be refused too.
@@ -158,9 +158,11 @@ fn frame_checks_in_order(run: &mut Run) -> Result<(), String> {
         let full = nothing_is_accepted(run, sides)?;
         for (octets, before) in refused_before_all_else(&full) {
             let mut list = Stated::on(run, sides, &octets);
-            for (vid, length, own) in [(VID, 59, 17), (VID, 1_519, 17), (VID, 60, 14), (1, 0, 17), (1, 59, 17), (1, 1_519, 17), (1, 60, 16)]
+            for (length, of_bound, of_others) in
+                [(0, 17, 17), (59, 17, 17), (60, 14, 16), (1_519, 14, 16), (1_996, 14, 16), (1_997, 17, 17)]
             {
-                list.frame(&Header::tagged(BOUND, vid), length, 1, Reply::refused(before.unwrap_or(own)))?;
+                list.frame(&HEADER, length, 1, Reply::refused(before.unwrap_or(of_bound)))?;
+                list.frame(&Header { control: 1, ..HEADER }, length, 1, Reply::refused(before.unwrap_or(of_others)))?;
             }
         }
     }
@@ -170,18 +172,18 @@ fn frame_checks_in_order(run: &mut Run) -> Result<(), String> {
 
 /// A port whose only stream has nothing left at last, and whose best effort is at its limit.
 fn nothing_is_accepted(run: &mut Run, sides: [Side; 2]) -> Result<Octets, String> {
-    let mut list = Stated::opened(run, sides, 2_142, 1, &[(5, 200)])?;
+    let mut list = Stated::opened(run, sides, 2_620, 1, &[(5, 200)])?;
     list.bound(5, (BOUND, u32::from(VID)))?;
     list.frame(&HEADER, 177, 1, Reply::refused(DISCARD))?;
-    list.frame(&Header { control: 1, ..HEADER }, 1_518, 2, Reply::granted(1_542, 0))?;
-    list.frame(&Header { control: 1, ..HEADER }, 376, 3, Reply::granted(1_942, 0))?;
+    list.frame(&Header { control: 1, ..HEADER }, 1_996, 2, Reply::granted(2_020, 0))?;
+    list.frame(&Header { control: 1, ..HEADER }, 376, 3, Reply::granted(2_420, 0))?;
     Ok(list.octets())
 }
 
 /// A Frame is refused as what it becomes: 14 as in C8 and C10, 16 as in C12, 15 at 256 frames, and 20 on a record that no list from an opening has.
 fn frames_refused_as_what_they_become(run: &mut Run) -> Result<(), String> {
     for sides in BOTH_SORTS {
-        let mut list = Stated::opened(run, sides, 23_046, 16, &[(5, 200)])?;
+        let mut list = Stated::opened(run, sides, 23_524, 16, &[(5, 200)])?;
         list.bound(5, (BOUND, u32::from(VID)))?;
         for (place, left) in [(1, 200), (2, 200), (3, 0)] {
             list.frame(&HEADER, 176, place, Reply::granted(place, left))?;
@@ -192,7 +194,7 @@ fn frames_refused_as_what_they_become(run: &mut Run) -> Result<(), String> {
         for waiting in 1..=256 {
             list.frame(&Header { control: 0, ..HEADER }, 60, waiting, Reply::granted(84 * waiting, 0))?;
         }
-        list.frame(&Header { control: 0, ..HEADER }, 1_518, 257, Reply::refused(BEST_EFFORT_FULL))?;
+        list.frame(&Header { control: 0, ..HEADER }, 1_996, 257, Reply::refused(BEST_EFFORT_FULL))?;
         let mut full = list.octets();
         let queue = (usize::from(full.record[layout::PRIOR]) + 3) % 4;
         full.put_queue(&mut list.random, queue, 200, 256);
@@ -206,7 +208,7 @@ fn frames_refused_as_what_they_become(run: &mut Run) -> Result<(), String> {
 /// the quick Bind is 12 before 10, and 9 before 11, which never hold together on one that is fit.
 fn frames_of_the_first_that_is_bound(run: &mut Run) -> Result<(), String> {
     let sides = [Side::Quick, Side::InPlace];
-    let mut list = Stated::opened(run, sides, 23_046, 1, &[(5, 168), (9, 168), (63, 168)])?;
+    let mut list = Stated::opened(run, sides, 23_524, 1, &[(5, 168), (9, 168), (63, 168)])?;
     list.bound(9, (BOUND, u32::from(VID)))?;
     let mut octets = list.octets();
     let binding = binding(&octets.record, 9);

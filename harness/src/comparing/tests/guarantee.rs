@@ -52,7 +52,7 @@ const fn test(name: &'static str, body: fn(&mut Run) -> Result<(), String>) -> T
 
 /// Streams that overfill beside streams that offer all they may and no more, with the share filled and the link serving either way.
 const OVERFILLED: Manner = Manner {
-    links: 2_142..=12_000,
+    links: 2_620..=12_478,
     streams: 2..=12,
     conforming: 50,
     ceasing: 0,
@@ -75,8 +75,15 @@ const CEASING: Manner = Manner { conforming: 90, ceasing: 20, ..OVERFILLED };
 const TWINS: Manner = Manner { streams: 1..=4, least: true, one_tag: true, turns: 0..=20, ..OVERFILLED };
 
 /// Streams of which most overfill, with no octet of the share left over, and a link that serves the share and no frame more.
-const JUST_THE_SHARE: Manner =
-    Manner { streams: 1..=8, conforming: 20, exact: 100, turns: 0..=12, services: &[Service::Share], links: 1_626..=9_000, ..OVERFILLED };
+const JUST_THE_SHARE: Manner = Manner {
+    streams: 1..=8,
+    conforming: 20,
+    exact: 100,
+    turns: 0..=12,
+    services: &[Service::Share],
+    links: *LINKS.start()..=9_478,
+    ..OVERFILLED
+};
 
 /// The same with a link that now and then serves one frame too few.
 const ONE_FRAME_SHORT: Manner =
@@ -114,7 +121,7 @@ const FULL: Manner = Manner {
 
 /// All 64 streams, and many ticks.
 const MANY: Manner = Manner {
-    links: 15_000..=*LINKS.end(),
+    links: 15_478..=*LINKS.end(),
     streams: STREAMS as u32..=STREAMS as u32,
     turns: 0..=60,
     services: &[Service::Share, Service::Share, Service::Share, Service::Share, Service::Idle],
@@ -343,9 +350,9 @@ fn told((number, event): (usize, &Event)) -> String {
     format!("{number} {} ({})", event.call, event.reply)
 }
 
-/// L 2,142, with a share of 600, and stream 5, which may have all of it and offers it three times over before the first tick.
+/// L 2,620, with a share of 600, and stream 5, which may have all of it and offers it three times over before the first tick.
 const THREE_TIMES_THE_SHARE: [Call; 8] = [
-    Call::Open { link: 2_142, delay: 1 },
+    Call::Open { link: 2_620, delay: 1 },
     Call::Reserve { stream: 5, permitted: 600 },
     Call::Arrive { stream: 5, charge: 300, tag: 0 },
     Call::Arrive { stream: 5, charge: 300, tag: 0 },
@@ -374,7 +381,7 @@ fn is_tight(run: &mut Run) -> Result<(), String> {
     let epoch = [Call::Tick, Call::Transmit, Call::Transmit];
     let just_served = [&THREE_TIMES_THE_SHARE[..], &epoch, &epoch, &epoch, &[Call::Tick]].concat();
     let one_too_few = [&THREE_TIMES_THE_SHARE[..], &epoch, &epoch, &epoch[..2], &[Call::Tick]].concat();
-    let one_octet_too_few = [&[Call::Open { link: 2_143, delay: 1 }], &just_served[1..]].concat();
+    let one_octet_too_few = [&[Call::Open { link: 2_621, delay: 1 }], &just_served[1..]].concat();
     let conforming = [&THREE_TIMES_THE_SHARE[..4], &epoch, &[Call::Transmit, Call::Tick]].concat();
     let late = Prompt { current: 2, sent: 2, after_first: 2 };
     let granted_again =

@@ -56,6 +56,7 @@ fn few_streams_pressed(run: &mut Run) -> Result<(), String> {
     never_met_from_opening(run)?;
     run.demand(&at_each_place(Seen::JoinedAt, 5_000))?;
     run.demand(&at_each_place(Seen::ExactFitAt, 1_000))?;
+    run.demand(&[(Seen::EnvelopeJoined, 1_000), (Seen::EnvelopeFrame, 1_000)])?;
     run.demand(&[(Seen::Refused(DISCARD), 5_000), (Seen::FrameRefused(DISCARD), 2_000), (Seen::FrameArrived, 5_000)])
 }
 
@@ -147,7 +148,7 @@ fn best_effort_between_transmits(run: &mut Run) -> Result<(), String> {
     play(run, SIDES, &Plan { lists: 150, calls: 600, begin: a_closed_port }, |_| profile.clone())?;
     never_met_from_opening(run)?;
     run.demand(&[(Seen::SentFromBestEffort, 15_000), (Seen::BestEffort, 15_000), (Seen::Refused(BEST_EFFORT_EXCEEDED), 3_000)])?;
-    run.demand(&[(Seen::BestEffortAtLimit, 500), (Seen::BestEffortOneAbove, 200)])
+    run.demand(&[(Seen::BestEffortAtLimit, 500), (Seen::BestEffortOneAbove, 200), (Seen::EnvelopeBestEffort, 1_000)])
 }
 
 /// Reservations that are granted while frames wait in best effort, so that its limit falls, also below W.

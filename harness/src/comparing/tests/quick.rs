@@ -36,6 +36,7 @@ const fn test(name: &'static str, body: fn(&mut Run) -> Result<(), String>) -> T
 fn as_the_call_on_fit_records(run: &mut Run) -> Result<(), String> {
     try_shape(run, WITH_CALLS, ("fit", any_fit), 20_000)?;
     run.demand_none(Seen::UnfitRecord)?;
+    run.demand(&[(Seen::EnvelopeWaits, 3_000), (Seen::EnvelopeJoined, 500), (Seen::EnvelopeBestEffort, 500)])?;
     run.demand(&[DISCARD, QUEUE_FULL, SHARE_EXCEEDED, PORT_CLOSED].map(|refusal| (Seen::Refused(refusal), 1_000)))?;
     run.demand(&[BEST_EFFORT_FULL, BEST_EFFORT_EXCEEDED].map(|refusal| (Seen::Refused(refusal), 1_000)))?;
     run.demand(&[(Seen::BestEffort, 5_000), (Seen::BestEffortAtLimit, 200)])?;

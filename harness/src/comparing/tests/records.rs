@@ -42,6 +42,7 @@ const fn test(name: &'static str, body: fn(&mut Run) -> Result<(), String>) -> T
 fn fit_records(run: &mut Run) -> Result<(), String> {
     try_shape(run, SIDES, ("fit", any_fit), 3_000)?;
     run.demand_none(Seen::UnfitRecord)?;
+    run.demand(&[(Seen::EnvelopeWaits, 500), (Seen::EnvelopeJoined, 100), (Seen::EnvelopeBestEffort, 100)])?;
     let met = [PORT_CLOSED, OPEN_ALREADY, LINK_OUTSIDE, DELAY_OUTSIDE, STREAM_ABOVE, RESERVED_ALREADY, PERMITTED_BELOW, SHARE_EXCEEDED];
     run.demand(&met.map(|refusal| (Seen::Refused(refusal), 100)))?;
     run.demand(&[NOT_RESERVED, CHARGE_OUTSIDE, DISCARD, QUEUE_FULL].map(|refusal| (Seen::Refused(refusal), 100)))?;

@@ -36,8 +36,8 @@ const fn best_effort(charge: u32, tag: u32, reply: Reply) -> Stated {
     (Call::BestEffort { charge, tag }, reply)
 }
 
-/// Open of the cases: L 2,142.
-const OPEN: Stated = open(2_142, Reply::granted(600, 0));
+/// Open of the cases: L 2,620.
+const OPEN: Stated = open(2_620, Reply::granted(600, 0));
 /// Reserve of the cases: P 200.
 const RESERVE: Stated = reserve(5, 200, Reply::granted(400, 0));
 /// A tick that purges nothing.
@@ -57,10 +57,10 @@ const SAMPLE: [Stated; 8] = [
 
 /// C1 to C12, those of one number with each their own list.
 const CASES: [(&str, &[Stated]); 14] = [
-    ("C1, 1,625", &[open(1_625, Reply::refused(LINK_OUTSIDE))]),
-    ("C1, 1,626", &[open(1_626, Reply::granted(84, 0))]),
-    ("C2, 23,046", &[open(23_046, Reply::granted(21_504, 0))]),
-    ("C2, 23,047", &[open(23_047, Reply::refused(LINK_OUTSIDE))]),
+    ("C1, 2,103", &[open(2_103, Reply::refused(LINK_OUTSIDE))]),
+    ("C1, 2,104", &[open(2_104, Reply::granted(84, 0))]),
+    ("C2, 23,524", &[open(23_524, Reply::granted(21_504, 0))]),
+    ("C2, 23,525", &[open(23_525, Reply::refused(LINK_OUTSIDE))]),
     ("C3", &[OPEN, reserve(5, 83, Reply::refused(PERMITTED_BELOW)), reserve(5, 84, Reply::granted(516, 0))]),
     ("C4", &[OPEN, RESERVE, reserve(6, 401, Reply::refused(SHARE_EXCEEDED)), reserve(6, 400, Reply::granted(0, 0))]),
     ("C5", &[OPEN, RESERVE, arrive(200, 1, Reply::granted(1, 200)), arrive(84, 2, Reply::granted(2, 116))]),
@@ -82,14 +82,14 @@ const CASES: [(&str, &[Stated]); 14] = [
         &[OPEN, RESERVE, TO_CURRENT, TO_NEXT, TO_LAST, arrive(84, 4, Reply::refused(DISCARD)), TICK, arrive(84, 5, Reply::granted(3, 116))],
     ),
     ("C10", &[OPEN, RESERVE, arrive(201, 1, Reply::refused(DISCARD)), arrive(84, 2, Reply::refused(DISCARD))]),
-    ("C11", &[OPEN, RESERVE, arrive(83, 1, Reply::refused(CHARGE_OUTSIDE)), arrive(1_543, 2, Reply::refused(CHARGE_OUTSIDE))]),
+    ("C11", &[OPEN, RESERVE, arrive(83, 1, Reply::refused(CHARGE_OUTSIDE)), arrive(2_021, 2, Reply::refused(CHARGE_OUTSIDE))]),
     (
         "C12",
         &[
             OPEN,
             RESERVE,
-            best_effort(1_542, 1, Reply::granted(1_542, 0)),
-            best_effort(400, 2, Reply::granted(1_942, 0)),
+            best_effort(2_020, 1, Reply::granted(2_020, 0)),
+            best_effort(400, 2, Reply::granted(2_420, 0)),
             best_effort(84, 3, Reply::refused(BEST_EFFORT_EXCEEDED)),
         ],
     ),

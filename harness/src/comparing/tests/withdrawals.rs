@@ -70,7 +70,7 @@ const REFUSED: Reply = Reply::refused(25);
 
 /// Streams 5 and 6, draining, of which 5 is bound to (ONE, 100); 7, reserved and bound to (OTHER, 100); 9, reserved alone; 8, not reserved.
 fn two_draining(run: &mut Run, sides: [Side; 2]) -> Result<Octets, String> {
-    let mut list = Stated::opened(run, sides, 2_226, 1, &[(5, 200), (6, 200), (7, 84), (9, 84)])?;
+    let mut list = Stated::opened(run, sides, 2_704, 1, &[(5, 200), (6, 200), (7, 84), (9, 84)])?;
     list.bound(5, (ONE, VID))?;
     list.bound(7, (OTHER, VID))?;
     list.withdrawn(5)?;
@@ -96,8 +96,8 @@ const CALLS: [(Call, u8); 41] = [
     (arrive(5, 84), 25),
     (arrive(5, 83), 25),
     (arrive(5, 0), 25),
-    (arrive(5, 1_542), 25),
-    (arrive(6, 1_543), 25),
+    (arrive(5, 2_020), 25),
+    (arrive(6, 2_021), 25),
     (arrive(6, u32::MAX), 25),
     (arrive(8, 84), 12),
     (arrive(8, 83), 12),
@@ -135,7 +135,7 @@ fn withdraw_checks_in_order(run: &mut Run) -> Result<(), String> {
                 list.call(call.clone(), Reply::refused(before.unwrap_or(*own)))?;
             }
             list.lend_again(&octets);
-            for (length, own) in [(59, 17), (60, 25), (177, 25), (1_518, 25), (1_519, 17)] {
+            for (length, own) in [(59, 17), (60, 25), (177, 25), (1_519, 25), (1_996, 25), (1_997, 17)] {
                 list.frame(&Header::tagged(ONE, VID as u16), length, 1, Reply::refused(before.unwrap_or(own)))?;
             }
         }
@@ -164,7 +164,7 @@ fn draining_is_asked_before_full_queues(run: &mut Run) -> Result<(), String> {
 }
 
 /// What is refused before each of the four ticks: the stream takes nothing and its number is taken; its P of 200 is in R, so that 100 of the share
-/// of 600 are free beside stream 6, and best effort goes to 1,642; its pair is taken.
+/// of 600 are free beside stream 6, and best effort goes to 2,120; its pair is taken.
 const WHILE_DRAINING: [(Call, u8); 8] = [
     (arrive(5, 84), 25),
     (reserve(5, 84), 25),
@@ -179,12 +179,12 @@ const WHILE_DRAINING: [(Call, u8); 8] = [
 /// A list that withdraws a stream with frames in three queues, asks at every tick, and reserves again at the fourth.
 fn withdrawn_and_asked_at_every_tick(run: &mut Run) -> Result<(), String> {
     for sides in BOTH_SORTS {
-        let mut list = Stated::opened(run, sides, 2_142, 1, &[(5, 200), (6, 300)])?;
+        let mut list = Stated::opened(run, sides, 2_620, 1, &[(5, 200), (6, 300)])?;
         list.bound(5, (ONE, VID))?;
         for (place, left) in [(1, 200), (2, 200), (3, 0)] {
             list.call(Call::Arrive { stream: 5, charge: 200, tag: place }, Reply::granted(place, left))?;
         }
-        list.call(Call::BestEffort { charge: 1_542, tag: 7 }, Reply::granted(1_542, 0))?;
+        list.call(Call::BestEffort { charge: 2_020, tag: 7 }, Reply::granted(2_020, 0))?;
         list.withdrawn(5)?;
         for sent in [Some(1), Some(2), Some(3), None] {
             for (call, refusal) in WHILE_DRAINING {
@@ -206,9 +206,9 @@ fn free_after_draining(list: &mut Stated) -> Result<(), String> {
     for (call, refusal) in [(arrive(5, 84), 12), (withdraw(5), 12), (bind(5, ONE, VID), 12), (reserve(7, 301), 8)] {
         list.call(call, Reply::refused(refusal))?;
     }
-    list.frame(&Header::tagged(ONE, VID as u16), 60, 1, Reply::granted(1_626, 0))?;
+    list.frame(&Header::tagged(ONE, VID as u16), 60, 1, Reply::granted(2_104, 0))?;
     list.call(Call::BestEffort { charge: 217, tag: 1 }, Reply::refused(16))?;
-    list.call(Call::BestEffort { charge: 216, tag: 1 }, Reply::granted(1_842, 0))?;
+    list.call(Call::BestEffort { charge: 216, tag: 1 }, Reply::granted(2_320, 0))?;
     list.call(reserve(5, 300), ZEROS)?;
     list.bound(6, (ONE, VID))?;
     list.call(bind(5, ONE, VID), Reply::refused(11))?;
@@ -221,14 +221,14 @@ fn whole_share_granted_again_at_once(run: &mut Run) -> Result<(), String> {
     for sides in BOTH_SORTS {
         for stream in 0..64 {
             for again in [stream, (stream + 1) % 64] {
-                let mut list = Stated::opened(run, sides, 23_046, 1, &[(stream, 21_504)])?;
+                let mut list = Stated::opened(run, sides, 23_524, 1, &[(stream, 21_504)])?;
                 list.withdrawn(stream)?;
                 for _ in 0..4 {
                     list.call(reserve(again, 21_504), Reply::refused(if again == stream { 25 } else { 8 }))?;
                     list.call(Call::Tick, ZEROS)?;
                 }
                 list.call(reserve(again, 21_504), ZEROS)?;
-                list.call(arrive(again, 1_542), Reply::granted(1, 19_962))?;
+                list.call(arrive(again, 2_020), Reply::granted(1, 19_484))?;
                 list.withdrawn(again)?;
             }
         }
@@ -240,7 +240,7 @@ fn whole_share_granted_again_at_once(run: &mut Run) -> Result<(), String> {
 fn streams_withdrawn_in_different_epochs(run: &mut Run) -> Result<(), String> {
     for sides in BOTH_SORTS {
         let streams: Vec<(u8, u32)> = (0..64).map(|stream| (stream, 336)).collect();
-        let mut list = Stated::opened(run, sides, 23_046, 1, &streams)?;
+        let mut list = Stated::opened(run, sides, 23_524, 1, &streams)?;
         let order = list.random.shuffled(64);
         (0..order.len() + 4).try_for_each(|epoch| one_withdrawn_one_free(&mut list, &order, epoch))?;
     }
@@ -315,7 +315,7 @@ fn entry_after_a_tick(record: &[u8], stream: usize) -> [u8; 16] {
 /// "The count of an unreserved stream means nothing": whatever it is, the stream is not reserved and can be, and Reserve clears it.
 fn counts_of_unreserved_streams(run: &mut Run) -> Result<(), String> {
     for sides in BOTH_SORTS {
-        let mut list = Stated::opened(run, sides, 2_142, 1, &[(5, 200)])?;
+        let mut list = Stated::opened(run, sides, 2_620, 1, &[(5, 200)])?;
         let begin = list.octets();
         for count in 0..=255 {
             let (mut octets, stream) = (begin.clone(), list.random.pick(&[0, 4, 6, 63]));
@@ -346,7 +346,7 @@ fn open_ends_all_draining(run: &mut Run) -> Result<(), String> {
             octets.record[layout::entry(stream) + 6] = 1 + stream as u8 * 4;
         }
         let mut list = Stated::on(run, sides, &octets);
-        list.call(Call::Open { link: 2_142, delay: 1 }, Reply::granted(600, 0))?;
+        list.call(Call::Open { link: 2_620, delay: 1 }, Reply::granted(600, 0))?;
         let record = list.record();
         if (0..64).any(|stream| [0, 6, 7].map(|octet| record[layout::entry(stream) + octet]) != [0; 3]) {
             return Err(String::from("a granted Open leaves a mark or a draining count in an entry"));

@@ -5,12 +5,12 @@ use crate::call::Call;
 use crate::comparing::random::Random;
 use crate::conformance::groups::numbers;
 use crate::conformance::groups::played::Played;
-use crate::model::port::LEAST_CHARGE;
+use crate::model::port::{LARGEST_CHARGE, LEAST_CHARGE};
 
 /// The events: rounds of two streams, with transmits and ticks between.
 pub fn events(random: &mut Random) -> Vec<Call> {
     let streams = numbers::streams(random, 2);
-    let permitted = [random.between(252..=1_542), random.between(252..=3_000)];
+    let permitted = [random.between(252..=LARGEST_CHARGE), random.between(252..=3_000)];
     let mut played = numbers::reserved(&streams, &permitted, 0, random.between(1..=2));
     for _ in 0..random.between(14..=24) {
         let stream = random.pick(&streams);

@@ -83,7 +83,7 @@ pub fn capture(random: &mut Random, way: usize) -> Vec<u8> {
 /// An event of each kind, and a few more.
 fn every_kind(random: &mut Random) -> Vec<Call> {
     let mut events = vec![
-        Call::Open { link: 2_142, delay: 1 },
+        Call::Open { link: 2_620, delay: 1 },
         Call::Reserve { stream: 5, permitted: 200 },
         Call::Arrive { stream: 5, charge: 120, tag: 3 },
         Call::BestEffort { charge: 400, tag: 4 },

@@ -3,9 +3,9 @@
 
 use crate::call::Call;
 use crate::comparing::random::Random;
-use crate::conformance::groups::numbers::{self, FEW_FRAMES};
+use crate::conformance::groups::numbers::{self, ABOUT_LINKS, FEW_FRAMES};
 use crate::conformance::groups::played::Played;
-use crate::model::port::{LEAST_PERMITTED, STREAMS};
+use crate::model::port::{CHARGES, LEAST_PERMITTED, STREAMS};
 
 /// The events: traffic of a few streams, with withdrawals and reservations between.
 pub fn events(random: &mut Random) -> Vec<Call> {
@@ -19,10 +19,10 @@ pub fn events(random: &mut Random) -> Vec<Call> {
             0 => arrive(random, &mut played),
             1 => played.tick(1),
             2 => played.transmit(1),
-            3 => played.best_effort(random.between(84..=1_542)),
+            3 => played.best_effort(random.between(CHARGES)),
             4 => withdraw(random, &mut played),
             5 => reserve(random, &mut played, &streams),
-            _ => drop(played.play(Call::Open { link: random.between(1_600..=23_100), delay: random.between(1..=2) })),
+            _ => drop(played.play(Call::Open { link: random.between(ABOUT_LINKS), delay: random.between(1..=2) })),
         }
     }
     played.events()

@@ -2,7 +2,7 @@
 
 use crate::call::Call;
 use crate::comparing::random::Random;
-use crate::conformance::groups::numbers;
+use crate::conformance::groups::numbers::{self, ABOUT_LINKS};
 use crate::conformance::groups::played::Played;
 use crate::model::port::{BEST_EFFORT_STREAM, DELAYS, LARGEST_CHARGE, LEAST_CHARGE, LEAST_PERMITTED, STREAMS};
 
@@ -16,7 +16,7 @@ pub fn long_run(random: &mut Random) -> Vec<Call> {
 pub fn events(random: &mut Random, most: usize) -> Vec<Call> {
     let count = 1 + random.below(10);
     let streams = numbers::streams(random, count);
-    let permitted: Vec<u32> = streams.iter().map(|_| random.between(LEAST_PERMITTED..=2_000)).collect();
+    let permitted: Vec<u32> = streams.iter().map(|_| random.between(LEAST_PERMITTED..=2_100)).collect();
     let mut played = numbers::reserved(&streams, &permitted, random.between(0..=1_000), random.between(DELAYS));
     let weights = [random.pick(&[25, 40]), (50 / count).max(6), random.pick(&[20, 40]), random.pick(&[3, 10]), 1, 1];
     while (played.next_number() as usize) <= most {
@@ -26,7 +26,7 @@ pub fn events(random: &mut Random, most: usize) -> Vec<Call> {
             2 => played.transmit(1),
             3 => played.best_effort(random.between(LEAST_CHARGE..=LARGEST_CHARGE)),
             4 => reserve(random, &mut played),
-            _ => drop(played.play(Call::Open { link: random.between(1_600..=23_100), delay: random.between(0..=17) })),
+            _ => drop(played.play(Call::Open { link: random.between(ABOUT_LINKS), delay: random.between(0..=17) })),
         }
     }
     let mut events = played.events();

@@ -12,9 +12,11 @@ mod chains;
 mod damaged;
 mod discards;
 mod drains;
+mod envelope_frames;
+mod envelope_openings;
 mod fits;
 mod mixed;
-mod numbers;
+pub mod numbers;
 mod phases;
 mod played;
 mod ports;
@@ -43,7 +45,7 @@ pub struct Group {
 }
 
 /// Every group, in the order in which they are run.
-pub const GROUPS: [Group; 20] = [
+pub const GROUPS: [Group; 22] = [
     Group {
         name: "phases",
         about: "the same traffic with the tick at every phase",
@@ -183,6 +185,20 @@ pub const GROUPS: [Group; 20] = [
         seeds: 6,
         variants: withdraw_files::WAYS,
         make: withdraw_files::capture,
+    },
+    Group {
+        name: "envelope_frames",
+        about: "frames of 1,517 to 1,997 octets at each place and as best effort, among small ones",
+        seeds: 80,
+        variants: 1,
+        make: |random, _| on_port_0(&envelope_frames::events(random)),
+    },
+    Group {
+        name: "envelope_openings",
+        about: "L at and about both ends of its range, and what follows from its share",
+        seeds: 4,
+        variants: envelope_openings::PARTS,
+        make: envelope_openings::capture,
     },
 ];
 

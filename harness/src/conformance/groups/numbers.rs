@@ -1,14 +1,37 @@
 //! What the generators draw: streams, links with room for their reservations, and reservations and charges of every sort.
 
+use std::ops::RangeInclusive;
+
 use crate::comparing::random::Random;
 use crate::conformance::groups::played::Played;
 use crate::model::port::{CHARGES, LARGEST_CHARGE, LEAST_CHARGE, LINKS, STREAMS};
 
+/// The charge of a tagged frame of 1,522 octets with check sequence; IEEE 802.3 calls larger ones envelope frames.
+pub const LARGEST_TAGGED: u32 = 1_542;
+
 /// P of every sort: the least, a few frames of the least charge and one octet beside them, around the largest charge, and several such frames.
-pub const PERMITTED: [u32; 14] = [84, 85, 168, 169, 200, 252, 400, 1_000, 1_541, 1_542, 1_543, 2_000, 3_084, 5_000];
+pub const PERMITTED: [u32; 14] = [
+    84,
+    85,
+    168,
+    169,
+    200,
+    252,
+    400,
+    1_000,
+    LARGEST_CHARGE - 1,
+    LARGEST_CHARGE,
+    LARGEST_CHARGE + 1,
+    LARGEST_CHARGE + 458,
+    2 * LARGEST_CHARGE,
+    5_000,
+];
 
 /// P of a few frames, of which none is above the largest charge.
-pub const FEW_FRAMES: [u32; 8] = [168, 200, 252, 300, 420, 600, 1_000, 1_542];
+pub const FEW_FRAMES: [u32; 8] = [168, 200, 252, 300, 420, 600, 1_000, LARGEST_CHARGE];
+
+/// L from somewhat below its range to somewhat above it.
+pub const ABOUT_LINKS: RangeInclusive<u32> = *LINKS.start() - 26..=*LINKS.end() + 54;
 
 /// So many streams, any, in any order.
 pub fn streams(random: &mut Random, count: usize) -> Vec<u8> {

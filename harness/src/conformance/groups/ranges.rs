@@ -3,12 +3,12 @@
 use crate::call::Call;
 use crate::comparing::random::Random;
 use crate::conformance::groups::played::Played;
-use crate::model::port::LEAST_PERMITTED;
+use crate::model::port::{LARGEST_CHARGE, LEAST_PERMITTED, LINKS};
 
 /// L outside its range.
-const WRONG_LINKS: [u32; 6] = [0, 1_625, 23_047, 65_536 + 2_142, 0x8000_0000 + 2_142, u32::MAX];
+const WRONG_LINKS: [u32; 6] = [0, *LINKS.start() - 1, *LINKS.end() + 1, 65_536 + *LINKS.start(), 0x8000_0000 + *LINKS.start(), u32::MAX];
 /// L at an end of its range, and any.
-const LINKS: [u32; 6] = [1_626, 1_627, 2_142, 10_000, 23_045, 23_046];
+const RIGHT_LINKS: [u32; 6] = [*LINKS.start(), *LINKS.start() + 1, 2_620, 10_000, *LINKS.end() - 1, *LINKS.end()];
 /// K outside its range.
 const WRONG_DELAYS: [u32; 5] = [0, 17, 256 + 1, 65_536 + 1, u32::MAX];
 /// K at an end of its range, and any.
@@ -18,9 +18,10 @@ const STREAMS: [u8; 6] = [0, 1, 31, 32, 62, 63];
 /// Streams that no port has.
 const WRONG_STREAMS: [u8; 6] = [64, 65, 127, 128, 254, 255];
 /// Charges outside their range, some of which a frame's length without check sequence, preamble and gap would be.
-const WRONG_CHARGES: [u32; 9] = [0, 60, 64, 83, 1_543, 1_562, 65_536 + 84, 0x8000_0000 + 84, u32::MAX];
+const WRONG_CHARGES: [u32; 9] = [0, 60, 64, 83, LARGEST_CHARGE + 1, LARGEST_CHARGE + 20, 65_536 + 84, 0x8000_0000 + 84, u32::MAX];
 /// Charges at an end of their range, and such as are above what a frame's length can be.
-const CHARGES: [u32; 9] = [84, 85, 88, 108, 1_518, 1_522, 1_538, 1_541, 1_542];
+const RIGHT_CHARGES: [u32; 9] =
+    [84, 85, 88, 108, LARGEST_CHARGE - 24, LARGEST_CHARGE - 20, LARGEST_CHARGE - 4, LARGEST_CHARGE - 1, LARGEST_CHARGE];
 /// Tags of every width.
 const TAGS: [u32; 9] = [0, 1, 255, 256, 65_535, 65_536, 0x7FFF_FFFF, 0x8000_0000, u32::MAX];
 
@@ -28,12 +29,12 @@ const TAGS: [u32; 9] = [0, 1, 255, 256, 65_535, 65_536, 0x7FFF_FFFF, 0x8000_0000
 pub fn events(random: &mut Random) -> Vec<Call> {
     let mut played = Played::closed();
     for _ in 0..random.below(5) {
-        let (link, delay) = (random.pick(&LINKS), random.pick(&DELAYS));
+        let (link, delay) = (random.pick(&RIGHT_LINKS), random.pick(&DELAYS));
         let (wrong_link, wrong_delay) = (random.pick(&WRONG_LINKS), random.pick(&WRONG_DELAYS));
         let (link, delay) = random.pick(&[(wrong_link, delay), (link, wrong_delay), (wrong_link, wrong_delay)]);
         played.play(Call::Open { link, delay });
     }
-    played.play(Call::Open { link: random.pick(&LINKS), delay: random.pick(&DELAYS) });
+    played.play(Call::Open { link: random.pick(&RIGHT_LINKS), delay: random.pick(&DELAYS) });
     calls(random, &mut played);
     played.events()
 }
@@ -74,7 +75,7 @@ fn arrive(random: &mut Random, played: &mut Played, reserved: &[u8]) {
 /// A charge, most often one in its range.
 fn charge(random: &mut Random) -> u32 {
     if random.chance(80) {
-        random.pick(&CHARGES)
+        random.pick(&RIGHT_CHARGES)
     } else {
         random.pick(&WRONG_CHARGES)
     }

@@ -9,7 +9,7 @@ use crate::model::port::{LEAST_PERMITTED, STREAMS};
 
 /// The events: traffic of the streams that are reserved so far, and now and then a further reservation.
 pub fn events(random: &mut Random) -> Vec<Call> {
-    let mut played = Played::opened(random.between(2_000..=9_000), random.between(1..=4));
+    let mut played = Played::opened(numbers::link(0, random.between(458..=7_458)), random.between(1..=4));
     reserve(random, &mut played);
     for _ in 0..random.between(120..=220) {
         match random.weighted(&[9, 40, 15, 28, 8]) {

@@ -13,7 +13,7 @@ const COUNTS: [usize; 7] = [2, 3, 5, 8, 16, 32, 64];
 pub fn events(random: &mut Random) -> Vec<Call> {
     let count = random.pick(&COUNTS);
     let streams = numbers::streams(random, count);
-    let most = (share(*LINKS.end()) / count as u32).min(2_000);
+    let most = (share(*LINKS.end()) / count as u32).min(2_500);
     let permitted: Vec<u32> = streams.iter().map(|_| random.between(LEAST_PERMITTED..=most)).collect();
     let mut played = numbers::reserved(&streams, &permitted, 0, random.between(1..=3));
     let weights = [40, random.pick(&[15, 40, 60]), (80 / count).max(2), 3];

@@ -3,14 +3,16 @@
 use std::collections::BTreeMap;
 
 use crate::call::{Call, Reply};
+use crate::conformance::groups::numbers::LARGEST_TAGGED;
 use crate::conformance::groups::GROUPS;
 use crate::model::capture::{events, Refused};
 use crate::model::port::{Port, BEST_EFFORT_STREAM, LAST, NOTHING};
+use crate::model::refusal::DISCARD;
 use crate::model::rule;
 use crate::timeline::words::ROLES;
 
 /// How often each thing must happen at least, by its name.
-const DEMANDED: [(&str, usize); 52] = [
+const DEMANDED: [(&str, usize); 57] = [
     ("open granted", 1_500),
     ("open refused 2", 1_000),
     ("open refused 3", 100),
@@ -58,6 +60,11 @@ const DEMANDED: [(&str, usize); 52] = [
     ("withdraw refused 5", 80),
     ("withdraw refused 12", 300),
     ("withdraw refused 25", 500),
+    ("envelope frame joins current", 1_000),
+    ("envelope frame joins next", 1_000),
+    ("envelope frame joins last", 500),
+    ("envelope frame discarded", 500),
+    ("envelope frame joins best effort", 1_000),
     ("file refused 21", 40),
     ("file refused 22", 20),
     ("file refused 23", 60),
@@ -125,7 +132,7 @@ fn count_port(counts: &mut Counts, events: &[Call]) {
         let before = port.clone();
         let reply = rule::step(&event.given(), &mut port);
         ticks += usize::from(*event == Call::Tick && reply.refusal == 0);
-        done(event, &reply, &before, &port).into_iter().for_each(|what| count(counts, what));
+        done(event, &reply, &before, &port).into_iter().chain(envelope(event, &reply)).for_each(|what| count(counts, what));
     }
     if ticks >= 10 {
         count(counts, String::from("port of at least ten epochs"));
@@ -150,6 +157,17 @@ fn done(event: &Call, reply: &Reply, before: &Port, after: &Port) -> Vec<String>
         })],
         _ => vec![format!("{} granted", kind(event))],
     }
+}
+
+/// Where an envelope frame joined, or that it was discarded.
+fn envelope(event: &Call, reply: &Reply) -> Option<String> {
+    let joins = match (event, reply.refusal) {
+        (Call::Arrive { charge, .. }, 0) if *charge > LARGEST_TAGGED => format!("joins {}", ROLES[reply.first as usize]),
+        (Call::Arrive { charge, .. }, DISCARD) if *charge > LARGEST_TAGGED => String::from("discarded"),
+        (Call::BestEffort { charge, .. }, 0) if *charge > LARGEST_TAGGED => String::from("joins best effort"),
+        _ => return None,
+    };
+    Some(format!("envelope frame {joins}"))
 }
 
 /// What a tick purged, and whether it freed a stream.

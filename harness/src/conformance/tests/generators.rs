@@ -13,7 +13,7 @@ use crate::conformance::sums;
 use crate::model::capture::events;
 
 /// What `cksum` prints of conformance/sums: with another number the set is another one.
-const SET: &str = "4018019006 108051";
+const SET: &str = "127982726 115373";
 
 /// A group by its name.
 fn group(name: &str) -> &'static Group {
@@ -89,6 +89,19 @@ fn captures_of_best_effort_have_each_delay() {
         })
         .collect();
     assert_eq!(delays, (1..=16).collect::<Vec<u32>>());
+}
+
+#[test]
+fn captures_of_links_have_every_l_about_the_ends() {
+    let links = group("envelope_openings");
+    let of = |number| events(&links.capture(number)).expect("a good capture").into_iter().flatten();
+    let asked: BTreeSet<u32> = (1..=links.captures())
+        .flat_map(of)
+        .filter_map(|event| if let Call::Open { link, .. } = event { Some(link) } else { None })
+        .collect();
+    for link in (1_625..=1_627).chain(2_019..=2_021).chain(2_100..=2_108).chain(23_045..=23_047).chain(23_520..=23_528) {
+        assert!(asked.contains(&link), "{link}");
+    }
 }
 
 #[test]

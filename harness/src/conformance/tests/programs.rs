@@ -10,6 +10,8 @@ use std::time::{Duration, Instant};
 use crate::capture::stored;
 use crate::conformance::tool::{run, Failure};
 
+/// The first line of what the command tells.
+const NAMED: &str = "the conformance set of edition 2\n";
 /// Seconds that no program of these tests needs.
 const AMPLE: &str = "60";
 
@@ -72,7 +74,8 @@ fn parts_within(test: &str, words: &str, limit: &str, lines: &[&str]) {
 #[test]
 fn a_program_that_agrees() {
     let (status, output) = Folder::new("agrees").of_sample(&prints("sample"), AMPLE);
-    assert_eq!((status, output.as_str()), (0, "stored: 1 agree with the rule\nof 1 capture 1 agree with the rule\n1 passed, 0 failed\n"));
+    let told = format!("{NAMED}stored: 1 agree with the rule\nof 1 capture 1 agree with the rule\n1 passed, 0 failed\n");
+    assert_eq!((status, output.as_str()), (0, told.as_str()));
 }
 
 #[test]
@@ -203,7 +206,7 @@ fn a_program_that_does_not_read_its_input() {
 fn a_program_that_cannot_be_started() {
     let told = |program: &str| {
         let (status, output, errors) = Folder::new("not-started").left(&["--only", "sample", program]);
-        assert_eq!((status, output.as_str()), (2, ""), "{errors}");
+        assert_eq!((status, output.as_str()), (2, NAMED), "{errors}");
         errors
     };
     assert_eq!(told("./nowhere"), "the program './nowhere' cannot be started: No such file or directory (os error 2)\n");
@@ -264,16 +267,16 @@ fn wrong_words_are_told_with_the_usage() {
 fn captures_are_listed() {
     let (status, output, _) = Folder::new("list").left(&["--only", "c1", "--only", "fits", "--list"]);
     let lines: Vec<&str> = output.lines().collect();
-    assert_eq!((status, lines.len()), (0, 4));
-    assert_eq!(lines[..2], ["stored, 1 capture: the captures of captures/, whose README says what each shows", "  c1"]);
-    assert!(lines[2].starts_with("fits, 160 captures: exact fits") && lines[3].starts_with("  fits-001 fits-002 "), "{output}");
+    assert_eq!((status, lines.len(), lines[0]), (0, 5, NAMED.trim_end()));
+    assert_eq!(lines[1..3], ["stored, 1 capture: the captures of captures/, whose README says what each shows", "  c1"]);
+    assert!(lines[3].starts_with("fits, 160 captures: exact fits") && lines[4].starts_with("  fits-001 fits-002 "), "{output}");
 }
 
 #[test]
 fn captures_are_written() {
     let folder = Folder::new("write");
     let (status, output, _) = folder.left(&["--only", "c1", "--only", "without_events", "--write"]);
-    let told = format!("21 captures, and what the rule prints of each, in {}\n", folder.0.display());
+    let told = format!("the conformance set of edition 2: 21 captures, and what the rule prints of each, in {}\n", folder.0.display());
     assert_eq!((status, output), (0, told));
     let stored = stored::one("c1").expect("it is stored");
     let read = |name: &str| fs::read(folder.0.join(name)).expect(name);

@@ -8,10 +8,10 @@ use crate::model::port::Port;
 use crate::model::rule;
 use crate::timeline::words::ROLES;
 
-/// A port after events: L 2,142, K 1, stream 5 with P 200, then the others.
+/// A port after events: L 2,620, K 1, stream 5 with P 200, then the others.
 fn after(others: &[Call]) -> Port {
     let mut port = Port::closed();
-    for event in [Call::Open { link: 2_142, delay: 1 }, Call::Reserve { stream: 5, permitted: 200 }].iter().chain(others) {
+    for event in [Call::Open { link: 2_620, delay: 1 }, Call::Reserve { stream: 5, permitted: 200 }].iter().chain(others) {
         rule::step(&event.given(), &mut port);
     }
     port
@@ -74,10 +74,10 @@ fn a_reservation() {
 #[test]
 fn best_effort() {
     let frame = |charge| Call::BestEffort { charge, tag: 8 };
-    let within = "W 1542 and the charge 400 make 1942, within K × (L − R), 1 × (2142 − 200) = 1942";
-    are_told(after(&[frame(1_542)]), frame(400), &[within]);
-    let above = "W 1542 and the charge 401 make 1943, above K × (L − R), 1 × (2142 − 200) = 1942";
-    are_told(after(&[frame(1_542)]), frame(401), &[above, "16 is the first that holds of the call's checks, in their order 1 13 15 16"]);
+    let within = "W 2020 and the charge 400 make 2420, within K × (L − R), 1 × (2620 − 200) = 2420";
+    are_told(after(&[frame(2_020)]), frame(400), &[within]);
+    let above = "W 2020 and the charge 401 make 2421, above K × (L − R), 1 × (2620 − 200) = 2420";
+    are_told(after(&[frame(2_020)]), frame(401), &[above, "16 is the first that holds of the call's checks, in their order 1 13 15 16"]);
 }
 
 #[test]
@@ -106,9 +106,9 @@ fn what_draining_streams_keep() {
     let checks = "8 is the first that holds of the call's checks, in their order 1 5 25 6 7 8";
     are_told(after(&[withdraw.clone()]), reserve, &[above, of_r, checks]);
     let frame = |charge| Call::BestEffort { charge, tag: 8 };
-    let above = "W 1542 and the charge 401 make 1943, above K × (L − R), 1 × (2142 − 200) = 1942";
+    let above = "W 2020 and the charge 401 make 2421, above K × (L − R), 1 × (2620 − 200) = 2420";
     let checks = "16 is the first that holds of the call's checks, in their order 1 13 15 16";
-    are_told(after(&[withdraw, frame(1_542)]), frame(401), &[above, of_r, checks]);
+    are_told(after(&[withdraw, frame(2_020)]), frame(401), &[above, of_r, checks]);
 }
 
 #[test]

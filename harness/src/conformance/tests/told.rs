@@ -61,7 +61,7 @@ fn another_reply_is_told_with_the_steps_and_the_events_before() {
         "  100 is above 80, and the place is not last: it advances to next, and left becomes P, 200",
         "  100 is within what is left: the frame joins next, and left falls to 100",
         "the events of port 0 before it, with the rule's replies:",
-        "  1 open with L 2142 and K 1: opens, with a share of 600",
+        "  1 open with L 2620 and K 1: opens, with a share of 600",
         "  2 reserve for stream 5, P 200: reserves, 400 of the share still free",
         "  3 arrive on stream 5, charge 120, tag 7: joins current, 80 left",
     ];
@@ -131,7 +131,7 @@ fn output_that_is_cut_off_is_told() {
     let (octets, _) = sample();
     let lines = |printed: &str| told(&octets, &left(printed))[..3].to_vec();
     let nothing = [
-        "at port 0, event 1: open with L 2142 and K 1",
+        "at port 0, event 1: open with L 2620 and K 1",
         "the rule:     0 1 1 0 600 0   opens, with a share of 600",
         "the program:  nothing         prints nothing",
     ];
@@ -175,7 +175,7 @@ fn a_transmit_is_told_with_where_the_frame_waits() {
 #[test]
 fn a_file_that_the_program_refuses_is_told_with_the_record() {
     let expected = [
-        "at port 0, event 1: open with L 2142 and K 1",
+        "at port 0, event 1: open with L 2620 and K 1",
         "the rule:     0 1 1 0 600 0   opens, with a share of 600",
         "the program:  refused 23 2    the capture is refused with 23: first or next index (record 2)",
         "record 2 of 0 to 8, on the chain of port 0",
@@ -255,7 +255,7 @@ fn what_a_program_says_of_itself_is_told() {
 
 #[test]
 fn of_many_events_the_last_are_told() {
-    let mut events = vec![Call::Open { link: 2_142, delay: 1 }, Call::Reserve { stream: 5, permitted: 200 }];
+    let mut events = vec![Call::Open { link: 2_620, delay: 1 }, Call::Reserve { stream: 5, permitted: 200 }];
     events.extend(vec![Call::Tick; 20]);
     let arrival = Call::Arrive { stream: 5, charge: 120, tag: 7 };
     events.extend([arrival.clone(), Call::Tick, arrival]);

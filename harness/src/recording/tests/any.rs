@@ -33,8 +33,9 @@ fn any_address(random: &mut Random) -> [u8; 6] {
 
 /// A frame of any of the sorts, most often one of a bound pair.
 fn any_frame(random: &mut Random, pairs: &[(u8, Pair)], most: u32) -> Vec<u8> {
-    let any = random.between(60..=most) as usize;
-    let length = random.pick(&[60, 60, 14, 59, 1_518, 1_519, any, any, any, any, any]);
+    let (shortest, longest) = (*FRAME_LENGTHS.start(), *FRAME_LENGTHS.end());
+    let any = random.between(shortest as u32..=most) as usize;
+    let length = random.pick(&[shortest, shortest, 14, shortest - 1, longest, longest + 1, any, any, any, any, any]);
     match random.weighted(&[70, 10, 15, 5]) {
         0 if !pairs.is_empty() && length >= 16 => {
             let pair = random.pick(pairs).1;
@@ -101,10 +102,10 @@ fn any_made(number: u64) -> Made {
     let any = random.between(1..=5_000_000);
     let epoch = random.pick(&[1, 3, 1_000, 160_000, any, any, any]);
     let any = random.between(LINKS);
-    let link = random.pick(&[*LINKS.start(), *LINKS.end(), 2_000, 4_000, any]);
+    let link = random.pick(&[*LINKS.start(), *LINKS.end(), 2_500, 4_000, any]);
     let (plan, pairs) = any_plan(&mut random, epoch, link);
     let (lines, withdrawals) = any_withdrawals(&mut random, epoch, &plan);
-    let (count, most) = (random.pick(&[1, 10, 100, 400, 2_500]), random.pick(&[60, 150, 1_518]));
+    let (count, most) = (random.pick(&[1, 10, 100, 400, 2_500]), random.pick(&[60, 150, *FRAME_LENGTHS.end() as u32]));
     let mut time = 1_700_000_000_000_000_000_i64;
     let mut packets = Vec::new();
     for _ in 0..count {
@@ -120,10 +121,10 @@ fn hold(claim: impl Fn(&Made) -> bool) -> usize {
     (0..400).filter(|&number| claim(&any_made(number))).count()
 }
 
-/// The octets of a packet, with zeros up to 60.
+/// The octets of a packet, with zeros up to the shortest frame's length.
 fn padded(octets: &[u8]) -> Vec<u8> {
     let mut octets = octets.to_vec();
-    octets.resize(octets.len().max(60), 0);
+    octets.resize(octets.len().max(*FRAME_LENGTHS.start()), 0);
     octets
 }
 

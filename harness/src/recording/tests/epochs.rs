@@ -1,10 +1,7 @@
 //! Ticks by the packets' times, and what follows the last packet.
 
-use super::made::{events_of, streamed, text_of, untagged, PLAN};
+use super::made::{events_of, streamed, text_of, untagged, EPOCH, PLAN};
 use crate::call::Call;
-
-/// The epoch of the plan in nanoseconds.
-const EPOCH: u64 = 160_000;
 
 #[test]
 fn a_packet_just_before_the_epochs_end_comes_before_the_tick() {
@@ -36,7 +33,7 @@ fn every_epoch_of_a_silence_has_its_tick() {
 
 #[test]
 fn an_epoch_may_have_one_nanosecond() {
-    let (events, report) = events_of("epoch 1\nopen 2000 1", &[(7, untagged(60)), (10, untagged(60))]);
+    let (events, report) = events_of("epoch 1\nopen 2500 1", &[(7, untagged(60)), (10, untagged(60))]);
     assert_eq!(events.iter().filter(|call| **call == Call::Tick).count(), 3);
     assert_eq!((report.epochs, report.events), (4, 12));
 }
@@ -74,6 +71,6 @@ fn packets_of_earlier_times_arrive_at_the_latest_time_so_far() {
 
 #[test]
 fn a_packet_that_is_refused_with_17_begins_epoch_0_and_brings_no_tick() {
-    let packets = [(0, untagged(1_519)), (EPOCH, untagged(60)), (9 * EPOCH, untagged(1_519))];
+    let packets = [(0, untagged(1_997)), (EPOCH, untagged(60)), (9 * EPOCH, untagged(1_997))];
     assert_eq!(text_of(&packets), "tick\ntransmit\nbest effort 84 2\ntransmit\n");
 }

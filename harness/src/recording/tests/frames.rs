@@ -1,8 +1,13 @@
 //! What a packet becomes: the call that Frame would make of it, padding, and 17.
 
 use super::made::{captured, events_of, streamed, tagged, typed, untagged, Form, ADDRESS, ORDINARY, PLAN};
-use crate::call::Call;
+use crate::call::{Call, Given, Reply};
 use crate::capture::reading;
+use crate::comparing::fit::Octets;
+use crate::exports;
+use crate::model::refusal::FRAME_LENGTH;
+use crate::recording::frames::frame;
+use crate::recording::pcap::{Packet, FRONT};
 use crate::recording::report::Packets;
 
 /// The call that one packet becomes under the plan, or none.
@@ -50,7 +55,7 @@ fn a_frame_that_is_not_tagged_is_best_effort() {
 
 #[test]
 fn each_stream_has_its_own_pair() {
-    let plan = "epoch 160000\nopen 2000 1\nreserve 63 84\nreserve 0 84\nbind 0 00:00:00:00:00:00 4094\nbind 63 00:00:00:00:00:00 1\n";
+    let plan = "epoch 200000\nopen 2500 1\nreserve 63 84\nreserve 0 84\nbind 0 00:00:00:00:00:00 4094\nbind 63 00:00:00:00:00:00 1\n";
     let frame = |control| (0, tagged([0; 6], control, 60));
     let (events, _) = events_of(plan, &[frame(1), frame(4_094), frame(2)]);
     let of_packets: Vec<&Call> = events.iter().filter(|call| !matches!(call, Call::Tick | Call::Transmit)).skip(3).collect();
@@ -60,7 +65,7 @@ fn each_stream_has_its_own_pair() {
 
 #[test]
 fn a_frame_has_the_charge_of_its_length() {
-    let charges = [(60, 84), (61, 85), (100, 124), (1_517, 1_541), (1_518, 1_542)];
+    let charges = [(60, 84), (61, 85), (100, 124), (1_518, 1_542), (1_519, 1_543), (1_995, 2_019), (1_996, 2_020)];
     for (length, charge) in charges {
         assert_eq!(becomes(untagged(length)), best_effort(charge));
         assert_eq!(becomes(streamed(length)), arrives(charge));
@@ -82,14 +87,14 @@ fn a_short_frame_counts_as_padded() {
 
 #[test]
 fn the_octets_of_padding_are_zeros() {
-    let plan = "epoch 160000\nopen 2000 1\nreserve 5 200\nbind 5 01:00:5e:00:00:05 256\n";
+    let plan = "epoch 200000\nopen 2500 1\nreserve 5 200\nbind 5 01:00:5e:00:00:05 256\n";
     let short = typed(ADDRESS, vec![0x81, 0x00, 0x01], 15);
     assert_eq!(events_of(plan, &[(0, short)]).0[2], Call::Arrive { stream: 5, charge: 84, tag: 1 });
 }
 
 #[test]
 fn what_frame_refuses_with_17_has_no_event() {
-    for octets in [untagged(1_519), streamed(1_519), streamed(9_000), vec![0; 13], vec![]] {
+    for octets in [untagged(1_997), streamed(1_997), streamed(9_000), vec![0; 13], vec![]] {
         let (events, report) = events_of(PLAN, &[(0, octets), (0, streamed(60))]);
         assert_eq!(events[2], Call::Arrive { stream: 5, charge: 84, tag: 2 });
         assert_eq!((report.packets, report.arrivals), (2, 1));
@@ -97,11 +102,30 @@ fn what_frame_refuses_with_17_has_no_event() {
     }
 }
 
+/// What the proved Frame replies to octets of no stream, as the first of a port.
+fn proved(octets: &[u8]) -> Reply {
+    let Octets { mut record, mut memory } = Octets::zero();
+    let mut play = |call: &Given| exports::unscanned(call, &mut record, &mut memory);
+    assert_eq!(play(&Call::Open { link: 2_620, delay: 1 }), Reply::granted(600, 0));
+    play(&Call::Frame { octets, tag: 1 })
+}
+
+#[test]
+fn the_proved_frame_refuses_with_17_just_what_has_no_event() {
+    for length in 0..=2_100 {
+        let packet = Packet { number: 1, time: 0, length, front: [0; FRONT] };
+        match frame(&packet) {
+            Some(frame) => assert_eq!(proved(&frame.octets), Reply::granted(length.max(60) + 24, 0), "{length} octets"),
+            None => assert_eq!(proved(&vec![0; length as usize]), Reply::refused(FRAME_LENGTH), "{length} octets"),
+        }
+    }
+}
+
 #[test]
 fn the_charge_is_that_of_the_wire() {
     let form = Form { snap_length: 16, link_type: 0x2400_0001, ..ORDINARY };
-    let packets = [(0, streamed(1_522)), (0, streamed(63)), (0, streamed(1_523))];
+    let packets = [(0, streamed(2_000)), (0, streamed(63)), (0, streamed(2_001))];
     let (capture, report) = captured(PLAN, &form.recording(&packets));
     assert_eq!((report.arrivals, report.padded.first, report.refused.first), (2, vec![2], vec![3]));
-    assert_eq!(reading::text(&capture).lines().nth(3), Some("arrive 5 1542 1"));
+    assert_eq!(reading::text(&capture).lines().nth(3), Some("arrive 5 2020 1"));
 }

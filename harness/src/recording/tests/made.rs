@@ -11,11 +11,14 @@ use crate::recording::turning;
 /// The address of these tests.
 pub const ADDRESS: [u8; 6] = [0x01, 0x00, 0x5e, 0x00, 0x00, 0x05];
 
-/// A plan with one stream. The link carries 2,000 octets in an epoch of 160,000 nanoseconds, one in 80, and the share is 458.
-pub const PLAN: &str = "epoch 160000\nopen 2000 1\nreserve 5 200\nbind 5 01:00:5e:00:00:05 10\n";
+/// A plan with one stream. The link carries 2,500 octets in an epoch, one in 80 nanoseconds, and the share is 480.
+pub const PLAN: &str = "epoch 200000\nopen 2500 1\nreserve 5 200\nbind 5 01:00:5e:00:00:05 10\n";
+
+/// The epoch of that plan in nanoseconds.
+pub const EPOCH: u64 = 200_000;
 
 /// What a capture begins with under that plan, as text.
-pub const BEGINS: &str = "port 0\nopen 2000 1\nreserve 5 200\n";
+pub const BEGINS: &str = "port 0\nopen 2500 1\nreserve 5 200\n";
 
 /// How a recording is written.
 #[derive(Clone, Copy)]

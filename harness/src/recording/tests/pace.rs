@@ -1,6 +1,6 @@
 //! Transmits as often as the link could send: how long a frame keeps it busy, and when it is idle.
 
-use super::made::{captured, streamed, text_of, untagged, NANOSECONDS};
+use super::made::{captured, streamed, text_of, untagged, EPOCH, NANOSECONDS};
 use crate::capture::reading;
 
 /// The text form of the capture of packets that all come at once, under a port without streams.
@@ -19,31 +19,34 @@ fn transmits(in_epochs: &[usize]) -> String {
 
 #[test]
 fn short_frames_back_to_back() {
-    // 2,000 octets are 23 frames of 84 and 68 octets, which is 24 beginnings; after 5 epochs, 10,000 octets, 120 frames have begun.
-    assert_eq!(at_once(160_000, 2_000, &[60; 125]), transmits(&[24, 24, 24, 24, 24, 5]));
-    // 1,680 octets are just 20 frames: the next begins with the next epoch.
-    assert_eq!(at_once(160_000, 1_680, &[60; 45]), transmits(&[20, 20, 5]));
+    // 2,500 octets are 29 frames of 84 and 64 octets, which is 30 beginnings; after 5 epochs, 12,500 octets, 149 frames have begun.
+    assert_eq!(at_once(200_000, 2_500, &[60; 155]), transmits(&[30, 30, 30, 30, 29, 6]));
+    // 2,520 octets are just 30 frames: the next begins with the next epoch.
+    assert_eq!(at_once(200_000, 2_520, &[60; 65]), transmits(&[30, 30, 5]));
 }
 
 #[test]
 fn long_frames_back_to_back() {
-    // Beginnings at 0 and 1,542 of the first 2,000 octets, at 3,084 of the second, at 4,626 of the third, at 6,168 and 7,710 of the fourth.
-    assert_eq!(at_once(160_000, 2_000, &[1_518; 6]), transmits(&[2, 1, 1, 2]));
+    // Beginnings at 0 and 2,020 of the first 2,500 octets, at 4,040 of the second, at 6,060 of the third, at 8,080 of the fourth, at 10,100 and
+    // 12,120 of the fifth.
+    assert_eq!(at_once(200_000, 2_500, &[1_996; 7]), transmits(&[2, 1, 1, 1, 2]));
+    // Beginnings at 0 and 1,543 of the first, at 3,086 and 4,629 of the second, at 6,172 of the third, at 7,715 and 9,258 of the fourth.
+    assert_eq!(at_once(200_000, 2_500, &[1_519; 7]), transmits(&[2, 2, 1, 2]));
 }
 
 #[test]
 fn short_and_long_frames_back_to_back() {
-    // 84 and 1,542 are 1,626, the least L: each epoch has one of either.
-    assert_eq!(at_once(160_000, 1_626, &[60, 1_518, 60, 1_518, 60, 1_518]), transmits(&[2, 2, 2]));
-    assert_eq!(at_once(160_000, 1_627, &[60, 1_518, 60, 1_518, 60, 1_518]), transmits(&[3, 2, 1]));
+    // 84 and 2,020 are 2,104, the least L: each epoch has one of either.
+    assert_eq!(at_once(200_000, 2_104, &[60, 1_996, 60, 1_996, 60, 1_996]), transmits(&[2, 2, 2]));
+    assert_eq!(at_once(200_000, 2_105, &[60, 1_996, 60, 1_996, 60, 1_996]), transmits(&[3, 2, 1]));
 }
 
 #[test]
 fn the_pace_is_exact_for_any_epoch() {
-    // A frame of 84 takes a part of a nanosecond; in 16 epochs, 26,016 octets, 310 begin.
-    let exact = at_once(162_600, 1_626, &[60; 300]);
+    // A frame of 84 takes a part of a nanosecond; in 12 epochs, 25,248 octets, 301 begin.
+    let exact = at_once(210_400, 2_104, &[60; 300]);
     for epoch in [1, 2, 7, 10, 999, 1_000_003, u32::MAX] {
-        assert_eq!(at_once(epoch, 1_626, &[60; 300]), exact, "epoch {epoch}");
+        assert_eq!(at_once(epoch, 2_104, &[60; 300]), exact, "epoch {epoch}");
     }
 }
 
@@ -60,11 +63,11 @@ fn the_link_is_free_when_its_frame_has_been_sent() {
 
 #[test]
 fn a_link_that_is_free_at_the_epochs_end_sends_after_the_tick() {
-    // 1,542 and 458 octets are just an epoch's.
-    let packets = [(0, untagged(1_518)), (0, untagged(434)), (123_360, untagged(60))];
-    assert_eq!(text_of(&packets), "best effort 1542 1\ntransmit\nbest effort 458 2\ntransmit\nbest effort 84 3\ntick\ntransmit\n");
-    let packets = [(0, untagged(1_518)), (0, untagged(433)), (123_360, untagged(60))];
-    assert_eq!(text_of(&packets), "best effort 1542 1\ntransmit\nbest effort 457 2\ntransmit\nbest effort 84 3\ntransmit\n");
+    // 2,020 and 480 octets are just an epoch's, and 2,020 take 161,600 nanoseconds.
+    let packets = [(0, untagged(1_996)), (0, untagged(456)), (161_600, untagged(60))];
+    assert_eq!(text_of(&packets), "best effort 2020 1\ntransmit\nbest effort 480 2\ntransmit\nbest effort 84 3\ntick\ntransmit\n");
+    let packets = [(0, untagged(1_996)), (0, untagged(455)), (161_600, untagged(60))];
+    assert_eq!(text_of(&packets), "best effort 2020 1\ntransmit\nbest effort 479 2\ntransmit\nbest effort 84 3\ntransmit\n");
 }
 
 #[test]
@@ -86,9 +89,9 @@ fn an_idle_link_sends_after_the_tick_what_that_made_current() {
 
 #[test]
 fn a_busy_link_goes_on_after_the_tick() {
-    // The frame of 159,999 keeps the link busy until 166,719.
+    // The frame of 199,999 keeps the link busy until 206,719.
     let begin = "best effort 84 1\ntransmit\ntransmit\nbest effort 84 2\ntransmit\ntick\n";
-    let packets = |third: u64| [(0, untagged(60)), (159_999, untagged(60)), (third, untagged(60))];
-    assert_eq!(text_of(&packets(166_718)), format!("{begin}best effort 84 3\ntransmit\n"));
-    assert_eq!(text_of(&packets(166_719)), format!("{begin}transmit\nbest effort 84 3\ntransmit\n"));
+    let packets = |third: u64| [(0, untagged(60)), (EPOCH - 1, untagged(60)), (third, untagged(60))];
+    assert_eq!(text_of(&packets(206_718)), format!("{begin}best effort 84 3\ntransmit\n"));
+    assert_eq!(text_of(&packets(206_719)), format!("{begin}transmit\nbest effort 84 3\ntransmit\n"));
 }

@@ -1,6 +1,6 @@
 //! Plans as they are read, and what is said of a bad one.
 
-use super::made::PLAN;
+use super::made::{EPOCH, PLAN};
 use crate::call::Call;
 use crate::recording::plan::{read, Plan, Withdrawal};
 
@@ -22,8 +22,8 @@ fn with(lines: &str) -> String {
 #[test]
 fn a_plan_is_read() {
     let plan = plan(PLAN);
-    assert_eq!(plan.epoch, 160_000);
-    assert_eq!(plan.calls, [Call::Open { link: 2_000, delay: 1 }, Call::Reserve { stream: 5, permitted: 200 }]);
+    assert_eq!(u64::from(plan.epoch), EPOCH);
+    assert_eq!(plan.calls, [Call::Open { link: 2_500, delay: 1 }, Call::Reserve { stream: 5, permitted: 200 }]);
     let stream = plan.port.streams[5];
     assert_eq!((stream.permitted, stream.bound, stream.address, stream.vid), (200, 1, [0x01, 0x00, 0x5e, 0x00, 0x00, 0x05], 10));
     assert_eq!(plan.port.streams.iter().filter(|stream| stream.is_bound()).count(), 1);
@@ -31,14 +31,14 @@ fn a_plan_is_read() {
 
 #[test]
 fn comments_blank_lines_and_the_order_make_no_difference() {
-    let text = "# of the line\n\n open 2000  1\r\n\treserve 5 200 # samples\nbind 5 01:00:5E:00:00:05 10\nepoch 160000#\n";
+    let text = "# of the line\n\n open 2500  1\r\n\treserve 5 200 # samples\nbind 5 01:00:5E:00:00:05 10\nepoch 200000#\n";
     assert_eq!(plan(text), plan(PLAN));
 }
 
 #[test]
 fn a_stream_need_not_be_bound_and_a_port_need_have_none() {
-    assert_eq!(plan("epoch 1\nopen 1626 16\n").calls, [Call::Open { link: 1_626, delay: 16 }]);
-    assert!(!plan("open 2000 1\nreserve 63 84\nepoch 4294967295").port.streams[63].is_bound());
+    assert_eq!(plan("epoch 1\nopen 2104 16\n").calls, [Call::Open { link: 2_104, delay: 16 }]);
+    assert!(!plan("open 2500 1\nreserve 63 84\nepoch 4294967295").port.streams[63].is_bound());
 }
 
 #[test]
@@ -79,10 +79,10 @@ fn a_wrong_line_is_told() {
             with("withdraw 5 18446744073709551616"),
             "line 5: '18446744073709551616' is not a time, which is a number from 0 to 18446744073709551615",
         ),
-        (with("epoch 160000"), "line 5: the epoch has a length already"),
+        (with("epoch 200000"), "line 5: the epoch has a length already"),
         (String::from("epoch"), "line 1: an epoch's length is missing"),
         (String::from("epoch 0"), "line 1: an epoch has at least 1 nanosecond"),
-        (String::from("open 2000 1\n"), "line 1: no line before the end gives the epoch's length"),
+        (String::from("open 2500 1\n"), "line 1: no line before the end gives the epoch's length"),
         (String::from("epoch 1\n\n"), "line 1: no line before the end opens the port"),
         (String::new(), "line 1: no line before the end gives the epoch's length"),
     ];
@@ -116,23 +116,24 @@ fn what_a_call_would_refuse_is_told() {
     let said = [
         (String::from("reserve 5 200"), "line 1: refused with 1: port closed"),
         (format!("bind 5 {bound} 10"), "line 1: refused with 1: port closed"),
-        (with("open 2000 1"), "line 5: refused with 2: open already"),
-        (String::from("open 1625 0"), "line 1: refused with 3: L outside its range, 1,626 to 23,046"),
-        (String::from("open 23047 1"), "line 1: refused with 3: L outside its range, 1,626 to 23,046"),
-        (String::from("open 2000 17"), "line 1: refused with 4: K outside its range, 1 to 16"),
+        (with("open 2500 1"), "line 5: refused with 2: open already"),
+        (String::from("open 1626 1"), "line 1: refused with 3: L outside its range, 2,104 to 23,524"),
+        (String::from("open 2103 0"), "line 1: refused with 3: L outside its range, 2,104 to 23,524"),
+        (String::from("open 23525 1"), "line 1: refused with 3: L outside its range, 2,104 to 23,524"),
+        (String::from("open 2500 17"), "line 1: refused with 4: K outside its range, 1 to 16"),
         (with("reserve 64 83"), "line 5: refused with 5: stream above 63"),
         (with("reserve 5 83"), "line 5: refused with 6: reserved already"),
         (with("reserve 6 83"), "line 5: refused with 7: P below 84"),
-        (with("reserve 6 259"), "line 5: refused with 8: sum of P above the share, which is L less 1,542"),
+        (with("reserve 6 281"), "line 5: refused with 8: sum of P above the share, which is L less 2,020"),
         (with(&format!("bind 64 {bound} 0")), "line 5: refused with 5: stream above 63"),
         (with(&format!("bind 6 {bound} 0")), "line 5: refused with 12: stream not reserved"),
         (with(&format!("bind 5 {bound} 0")), "line 5: refused with 9: VID outside 1 to 4,094"),
         (with(&format!("bind 5 {bound} 4095")), "line 5: refused with 9: VID outside 1 to 4,094"),
         (with(&format!("bind 5 {bound} 65546")), "line 5: refused with 9: VID outside 1 to 4,094"),
         (with(&format!("bind 5 {bound} 10")), "line 5: refused with 10: stream bound already"),
-        (with(&format!("reserve 6 258\nbind 6 {bound} 10")), "line 6: refused with 11: pair bound already"),
-        (with(&format!("withdraw 5 0\nreserve 6 258\nbind 6 {bound} 10")), "line 7: refused with 11: pair bound already"),
-        (with("withdraw 5 0\nreserve 6 259"), "line 6: refused with 8: sum of P above the share, which is L less 1,542"),
+        (with(&format!("reserve 6 280\nbind 6 {bound} 10")), "line 6: refused with 11: pair bound already"),
+        (with(&format!("withdraw 5 0\nreserve 6 280\nbind 6 {bound} 10")), "line 7: refused with 11: pair bound already"),
+        (with("withdraw 5 0\nreserve 6 281"), "line 6: refused with 8: sum of P above the share, which is L less 2,020"),
         (String::from("withdraw 5 0"), "line 1: refused with 1: port closed"),
         (with("withdraw 64 0"), "line 5: refused with 5: stream above 63"),
         (with("withdraw 6 0"), "line 5: refused with 12: stream not reserved"),
@@ -145,6 +146,6 @@ fn what_a_call_would_refuse_is_told() {
 
 #[test]
 fn the_ends_of_the_ranges_are_granted() {
-    let text = "open 23046 16\nepoch 1\nreserve 0 21420\nreserve 63 84\nbind 0 00:00:00:00:00:00 1\nbind 63 ff:ff:ff:ff:ff:ff 4094\n";
+    let text = "open 23524 16\nepoch 1\nreserve 0 21420\nreserve 63 84\nbind 0 00:00:00:00:00:00 1\nbind 63 ff:ff:ff:ff:ff:ff 4094\n";
     assert_eq!(plan(text).calls.len(), 3);
 }

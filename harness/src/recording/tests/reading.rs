@@ -70,11 +70,11 @@ fn a_recording_may_have_no_packet() {
 
 #[test]
 fn a_packet_that_was_cut_has_its_length() {
-    for snap_length in [16, 17, 59, 1_600] {
+    for snap_length in [16, 17, 59, 1_600, 2_000] {
         let form = Form { snap_length, ..ORDINARY };
-        let whole = tagged(ADDRESS, 0xe00a, 1_519);
+        let whole = tagged(ADDRESS, 0xe00a, 1_997);
         let packets = read(&form.recording(&[(0, whole.clone()), (5_000, streamed(60))]));
-        assert_eq!((packets[0].length, &packets[0].front[..]), (1_519, &whole[..16]));
+        assert_eq!((packets[0].length, &packets[0].front[..]), (1_997, &whole[..16]));
         assert_eq!((packets[1].number, packets[1].time, packets[1].length), (2, 5_000, 60));
     }
 }

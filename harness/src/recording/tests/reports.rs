@@ -8,7 +8,7 @@ use crate::capture::stored;
 use crate::recording::report::Report;
 use crate::recording::tool;
 
-/// So many packets at one time, then more with their times. After the first, which is sent at once, 21 wait and the others are refused by the port.
+/// So many packets at one time, then more with their times. After the first, which is sent at once, 27 wait and the others are refused by the port.
 fn crowded(packets: usize, more: &[(u64, Vec<u8>)]) -> Report {
     let packets: Vec<(u64, Vec<u8>)> = (0..packets).map(|_| (0, untagged(60))).chain(more.iter().cloned()).collect();
     let (events, report) = events_of(PLAN, &packets);
@@ -18,21 +18,21 @@ fn crowded(packets: usize, more: &[(u64, Vec<u8>)]) -> Report {
 
 #[test]
 fn a_capture_may_be_just_full() {
-    // Open and Reserve, the packets, the transmit of the first and those of the 21 that wait.
-    let report = crowded(4_071, &[]);
-    assert_eq!((report.events, report.best_effort, report.waiting, report.is_whole()), (4_095, 4_071, 0, true));
-    let report = crowded(4_070, &[]);
-    assert_eq!((report.events, report.best_effort, report.waiting, report.is_whole()), (4_094, 4_070, 0, true));
+    // Open and Reserve, the packets, the transmit of the first and those of the 27 that wait.
+    let report = crowded(4_065, &[]);
+    assert_eq!((report.events, report.best_effort, report.waiting, report.is_whole()), (4_095, 4_065, 0, true));
+    let report = crowded(4_064, &[]);
+    assert_eq!((report.events, report.best_effort, report.waiting, report.is_whole()), (4_094, 4_064, 0, true));
 }
 
 #[test]
 fn transmits_without_room_are_told() {
-    let report = crowded(4_072, &[]);
-    assert_eq!((report.events, report.best_effort, report.waiting, report.is_whole()), (4_095, 4_072, 1, false));
+    let report = crowded(4_066, &[]);
+    assert_eq!((report.events, report.best_effort, report.waiting, report.is_whole()), (4_095, 4_066, 1, false));
     let report = crowded(4_092, &[]);
-    assert_eq!((report.events, report.best_effort, report.waiting, report.is_whole()), (4_095, 4_092, 21, false));
+    assert_eq!((report.events, report.best_effort, report.waiting, report.is_whole()), (4_095, 4_092, 27, false));
     assert_eq!(report.left_out.count, 0);
-    let told = "21 accepted and not sent, since a capture has at most 4095 events\n\
+    let told = "27 accepted and not sent, since a capture has at most 4095 events\n\
                 packets 4092: arrivals 0, best effort 4092, refused 0, left out 0; padded 0, epochs 1, events 4095";
     assert_eq!(report.to_string(), told);
 }
@@ -41,7 +41,7 @@ fn transmits_without_room_are_told() {
 fn packets_without_room_are_told() {
     let report = crowded(4_093, &[]);
     assert_eq!((report.events, report.best_effort, report.left_out.count, report.is_whole()), (4_095, 4_092, 1, false));
-    let report = crowded(4_100, &[(0, untagged(1_519)), (0, untagged(14)), (5, streamed(60))]);
+    let report = crowded(4_100, &[(0, untagged(1_997)), (0, untagged(14)), (5, streamed(60))]);
     let told = "11 left out, since a capture has at most 4095 events: packet 4093 and all after it\n\
                 packets 4103: arrivals 0, best effort 4092, refused 0, left out 11; padded 0, epochs 1, events 4095";
     assert_eq!(report.to_string(), told);
@@ -66,9 +66,9 @@ fn a_capture_that_is_full_has_the_events_before() {
 
 #[test]
 fn the_first_few_packets_are_named() {
-    let long = |count: usize| -> Vec<(u64, Vec<u8>)> { (0..count).map(|_| (9, untagged(1_519))).collect() };
+    let long = |count: usize| -> Vec<(u64, Vec<u8>)> { (0..count).map(|_| (9, untagged(1_997))).collect() };
     let first_line = |count: usize| String::from(events_of(PLAN, &long(count)).1.to_string().lines().next().expect("a line"));
-    let told = "refused with 17, outside 60 to 1,518 octets, and not in the capture: packet 1";
+    let told = "refused with 17: frame outside 60 to 1,996 octets, and not in the capture: packet 1";
     assert_eq!(first_line(1), format!("1 {told}"));
     assert_eq!(first_line(5), format!("5 {told}, packet 2, packet 3, packet 4, packet 5"));
     assert_eq!(first_line(6), format!("6 {told}, packet 2, packet 3, packet 4, packet 5 and more"));
@@ -110,7 +110,7 @@ fn a_capture_of_all_packets_is_status_0() {
 
 #[test]
 fn a_capture_without_some_packets_is_status_3() {
-    let (status, output, told) = used(&[&stored_path("recording.plan")], &NANOSECONDS.recording(&[(0, untagged(1_519))]));
+    let (status, output, told) = used(&[&stored_path("recording.plan")], &NANOSECONDS.recording(&[(0, untagged(1_997))]));
     assert_eq!((status, output.len()), (3, 64));
     assert!(told.starts_with("1 refused with 17"), "{told}");
 }

@@ -1,11 +1,8 @@
 //! Streams that are withdrawn at a time of the plan: where the withdrawal stands, what becomes of the stream's packets, and what is told.
 
-use super::made::{captured, events_of, streamed, untagged, BEGINS, NANOSECONDS, PLAN};
+use super::made::{captured, events_of, streamed, untagged, BEGINS, EPOCH, NANOSECONDS, PLAN};
 use crate::capture::reading;
 use crate::recording::report::Report;
-
-/// The epoch of the plan in nanoseconds.
-const EPOCH: u64 = 160_000;
 
 /// The text form of the capture of packets where stream 5 is withdrawn at a time, without what it begins with, and the report.
 fn withdrawn_at(time: u64, packets: &[(u64, Vec<u8>)]) -> (String, Report) {
@@ -71,7 +68,7 @@ fn a_withdrawal_after_the_end_is_told() {
 
 #[test]
 fn a_withdrawal_before_a_last_packet_without_an_event_is_in_the_capture() {
-    let packets = [(0, untagged(60)), (2_000, untagged(1_519))];
+    let packets = [(0, untagged(60)), (2_000, untagged(1_997))];
     let (text, report) = withdrawn_at(1_000, &packets);
     assert_eq!((text.as_str(), report.not_withdrawn.len()), ("best effort 84 1\ntransmit\nwithdraw 5\n", 0));
     assert_eq!(withdrawn_at(2_001, &packets).1.not_withdrawn, [5]);
@@ -85,7 +82,7 @@ fn without_packets_nothing_is_withdrawn() {
 
 #[test]
 fn withdrawals_stand_by_their_times_and_at_one_time_by_their_lines() {
-    let plan = "epoch 160000\nopen 2000 1\nreserve 7 84\nreserve 5 84\nreserve 6 84\nwithdraw 6 900\nwithdraw 7 800\nwithdraw 5 900\n";
+    let plan = "epoch 200000\nopen 2500 1\nreserve 7 84\nreserve 5 84\nreserve 6 84\nwithdraw 6 900\nwithdraw 7 800\nwithdraw 5 900\n";
     let (events, report) = events_of(plan, &[(0, untagged(60)), (1_000, untagged(60))]);
     let calls: Vec<String> = events[4..].iter().map(|call| call.to_string()).collect();
     assert_eq!(calls[..6], ["best effort 84 1", "transmit", "withdraw 7", "withdraw 6", "withdraw 5", "best effort 84 2"]);
@@ -95,12 +92,12 @@ fn withdrawals_stand_by_their_times_and_at_one_time_by_their_lines() {
 #[test]
 fn a_withdrawal_without_room_is_told() {
     let packets = |count: usize| -> Vec<(u64, Vec<u8>)> { (0..count).map(|_| (0, untagged(60))).collect() };
-    // Open and Reserve, the packets, the transmit of the first, the withdrawal, and the transmits of the 21 that wait.
-    let report = withdrawn_at(0, &packets(4_070)).1;
+    // Open and Reserve, the packets, the transmit of the first, the withdrawal, and the transmits of the 27 that wait.
+    let report = withdrawn_at(0, &packets(4_064)).1;
     assert_eq!((report.events, report.waiting, report.not_withdrawn.len(), report.is_whole()), (4_095, 0, 0, true));
-    let report = withdrawn_at(1, &packets(4_070)).1;
+    let report = withdrawn_at(1, &packets(4_064)).1;
     assert_eq!((report.events, report.waiting, report.not_withdrawn.len(), report.is_whole()), (4_095, 0, 0, true));
     let report = withdrawn_at(1, &packets(4_092)).1;
-    assert_eq!((report.events, report.waiting, report.left_out.count), (4_095, 21, 0));
+    assert_eq!((report.events, report.waiting, report.left_out.count), (4_095, 27, 0));
     assert_eq!(report.not_withdrawn, [5]);
 }

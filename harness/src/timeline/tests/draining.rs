@@ -9,10 +9,10 @@ use crate::timeline::drawn;
 
 /// A stream that is withdrawn while a frame waits, and four ticks.
 const WITHDRAWN: &str =
-    "port 0\nopen 2142 1\nreserve 5 200\narrive 5 84 1\nwithdraw 5\narrive 5 84 2\ntick\ntransmit\ntick\ntick\ntick\nreserve 5 84\n";
+    "port 0\nopen 2620 1\nreserve 5 200\narrive 5 84 1\nwithdraw 5\narrive 5 84 2\ntick\ntransmit\ntick\ntick\ntick\nreserve 5 84\n";
 
 /// Two streams that are withdrawn in different epochs, of which the first is reserved and withdrawn again while the other still drains.
-const TWO: &str = "port 0\nopen 2142 1\nreserve 5 200\nreserve 6 200\nwithdraw 5\ntick\nwithdraw 6\ntick\ntick\ntick\n\
+const TWO: &str = "port 0\nopen 2620 1\nreserve 5 200\nreserve 6 200\nwithdraw 5\ntick\nwithdraw 6\ntick\ntick\ntick\n\
     reserve 5 84\nwithdraw 5\ntick\n";
 
 /// What is seen in the picture of the events of a text form from a number on.
@@ -47,7 +47,7 @@ fn a_withdrawn_stream_has_a_box_after_each_tick_until_it_is_free() {
 #[test]
 fn the_row_is_there_where_a_stream_drains_and_only_there() {
     assert_eq!(seen(WITHDRAWN).rows(), ["link", "prior", "current", "next", "last", "best effort", "draining", "refused"]);
-    let refused = seen("port 0\nopen 2142 1\nwithdraw 5\nwithdraw 64\n");
+    let refused = seen("port 0\nopen 2620 1\nwithdraw 5\nwithdraw 64\n");
     assert_eq!(refused.rows(), ["link", "prior", "current", "next", "last", "best effort", "refused"]);
     assert_eq!(refused.crossed(), ["2 refused withdraw 12", "3 refused withdraw 5"]);
     assert!(!seen_from(WITHDRAWN, 11).rows().contains(&"draining"));
@@ -91,7 +91,7 @@ fn a_stream_that_drains_stands_again_where_the_events_that_are_shown_begin() {
 
 #[test]
 fn a_stream_that_still_drains_has_a_bar_to_the_right_edge() {
-    let seen = seen("port 0\nopen 2142 1\nreserve 5 200\nwithdraw 5\ntick\ntransmit\ntransmit\n");
+    let seen = seen("port 0\nopen 2620 1\nreserve 5 200\nwithdraw 5\ntick\ntransmit\ntransmit\n");
     assert_eq!(draining(seen.bars()), ["draining 5: 4 ticks from 3 to 3", "draining 5: 3 ticks from 4 to 6"]);
 }
 
@@ -118,12 +118,12 @@ fn the_legend_tells_of_withdrawn_streams_where_there_are_some() {
         many ticks it is free";
     let legend = seen(WITHDRAWN).legend().join(" ");
     assert!(legend.contains(told) && legend.contains("25 refused: stream draining"), "{legend}");
-    assert!(!seen("port 0\nopen 2142 1\nwithdraw 5\ntick\n").legend().join(" ").contains("drains"));
+    assert!(!seen("port 0\nopen 2620 1\nwithdraw 5\ntick\n").legend().join(" ").contains("drains"));
 }
 
 #[test]
 fn a_withdrawn_stream_has_the_colour_of_its_frames() {
-    let seen = seen("port 0\nopen 2142 1\nreserve 5 200\nreserve 6 200\narrive 6 84 1\nwithdraw 5\nwithdraw 6\n");
+    let seen = seen("port 0\nopen 2620 1\nreserve 5 200\nreserve 6 200\narrive 6 84 1\nwithdraw 5\nwithdraw 6\n");
     let fill = |label: &str| seen.looks().into_iter().find(|[own, ..]| own == label).expect("the box is there")[1].clone();
     assert_eq!(fill("6: 1"), fill("6: 4 ticks"));
     assert_ne!(fill("5: 4 ticks"), fill("6: 4 ticks"));
@@ -131,7 +131,7 @@ fn a_withdrawn_stream_has_the_colour_of_its_frames() {
 
 #[test]
 fn another_make_that_frees_a_stream_sooner_is_drawn_as_it_replies() {
-    let mut events = played("port 0\nopen 2142 1\nreserve 5 200\nwithdraw 5\ntick\nreserve 5 200\ntick\n");
+    let mut events = played("port 0\nopen 2620 1\nreserve 5 200\nwithdraw 5\ntick\nreserve 5 200\ntick\n");
     events[4].1 = Reply::granted(400, 0);
     let seen = Seen::of(&drawn(0, &events, 1..=6, "").expect("the events fit"));
     assert_eq!(draining(seen.boxes()), ["3 draining 5: 4 ticks", "4 draining 5: 3 ticks"]);
@@ -140,8 +140,8 @@ fn another_make_that_frees_a_stream_sooner_is_drawn_as_it_replies() {
 
 #[test]
 fn another_make_that_takes_a_frame_or_a_withdrawal_or_opens_is_drawn_as_it_replies() {
-    for call in ["arrive 5 84 1", "withdraw 5", "open 2142 1"] {
-        let mut events = played(&format!("port 0\nopen 2142 1\nreserve 5 200\nwithdraw 5\n{call}\ntick\n"));
+    for call in ["arrive 5 84 1", "withdraw 5", "open 2620 1"] {
+        let mut events = played(&format!("port 0\nopen 2620 1\nreserve 5 200\nwithdraw 5\n{call}\ntick\n"));
         events[3].1 = Reply::granted(0, 0);
         let seen = Seen::of(&drawn(0, &events, 1..=5, "").expect("the events fit"));
         let again: &[&str] = if call == "withdraw 5" { &["4 draining 5: 4 ticks", "5 draining 5: 3 ticks"] } else { &[] };

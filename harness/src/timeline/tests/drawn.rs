@@ -31,7 +31,7 @@ fn the_samples_tick_stands_between_its_epochs() {
 
 #[test]
 fn purged_frames_are_crossed_at_their_tick() {
-    let seen = seen("port 0\nopen 2142 1\nreserve 5 200\narrive 5 84 1\narrive 5 84 2\narrive 5 84 3\ntick\ntick\ntick\n");
+    let seen = seen("port 0\nopen 2620 1\nreserve 5 200\narrive 5 84 1\narrive 5 84 2\narrive 5 84 3\ntick\ntick\ntick\n");
     assert_eq!(seen.purges(), ["5: 1 in prior at 7", "5: 2 in prior at 7", "5: 3 in prior at 8"]);
     assert_eq!(
         seen.bars()[3..],
@@ -43,14 +43,14 @@ fn purged_frames_are_crossed_at_their_tick() {
 
 #[test]
 fn a_tick_that_purges_nothing_has_no_such_mark() {
-    let seen = seen("port 0\nopen 2142 1\nreserve 5 200\narrive 5 84 1\ntick\ntransmit\ntick\n");
+    let seen = seen("port 0\nopen 2620 1\nreserve 5 200\narrive 5 84 1\ntick\ntransmit\ntick\n");
     assert_eq!((seen.ticks(), seen.purges()), (vec!["4", "6"], vec![]));
     assert!(!seen.texts().iter().any(|text| text.contains("purges") || text.contains("purged:")));
 }
 
 #[test]
 fn a_discard_is_crossed_out() {
-    let seen = seen("port 0\nopen 2142 1\nreserve 5 200\narrive 5 201 9\ntick\narrive 5 84 10\n");
+    let seen = seen("port 0\nopen 2620 1\nreserve 5 200\narrive 5 201 9\ntick\narrive 5 84 10\n");
     assert_eq!(seen.crossed(), ["3 refused 5: 9 14"]);
     assert_eq!(seen.boxes(), ["5 last 5: 10"]);
     assert!(seen.texts().contains(&"refused 14"));
@@ -60,25 +60,25 @@ fn a_discard_is_crossed_out() {
 
 #[test]
 fn other_refusals_are_crossed_out_with_their_numbers() {
-    let seen = seen("port 0\ntick\nopen 2142 17\nopen 2142 1\nreserve 5 601\narrive 5 100 1\nbest effort 1543 2\nopen 2142 1\n");
+    let seen = seen("port 0\ntick\nopen 2620 17\nopen 2620 1\nreserve 5 601\narrive 5 100 1\nbest effort 2021 2\nopen 2620 1\n");
     let crossed =
         ["1 refused tick 1", "2 refused open 4", "4 refused reserve 8", "5 refused 5: 1 12", "6 refused 2 13", "7 refused open 2"];
     assert_eq!(seen.crossed(), crossed);
     let words: Vec<&str> = seen.texts().into_iter().filter(|text| text.starts_with("refused: ")).collect();
     assert_eq!(words.len(), 6);
-    assert!(words.contains(&"refused: sum of P above the share, which is L less 1,542"));
+    assert!(words.contains(&"refused: sum of P above the share, which is L less 2,020"));
 }
 
 #[test]
 fn a_refused_tick_ends_no_epoch() {
-    let seen = seen("port 0\ntick\nopen 2142 1\ntransmit\ntick\ntransmit\ntick\n");
+    let seen = seen("port 0\ntick\nopen 2620 1\ntransmit\ntick\ntransmit\ntick\n");
     assert_eq!(seen.ticks(), ["4", "6"]);
     assert_eq!(seen.epochs(), ["closed from 1", "epoch 0 from 2", "epoch 1 from 4", "epoch 2 from 6"]);
 }
 
 #[test]
 fn best_effort_waits_across_ticks_and_is_sent_after_the_reserved_frames() {
-    let seen = seen("port 0\nopen 2142 1\nreserve 5 200\nbest effort 400 1\narrive 5 100 2\ntick\ntransmit\ntransmit\n");
+    let seen = seen("port 0\nopen 2620 1\nreserve 5 200\nbest effort 400 1\narrive 5 100 2\ntick\ntransmit\ntransmit\n");
     assert_eq!(seen.boxes(), ["6 link stream 5 tag 2", "7 link best effort tag 1", "3 best effort 1", "4 current 5: 2", "5 prior 5: 2"]);
     assert_eq!(seen.bars(), ["best effort 1 from 3 to 7", "current 5: 2 from 4 to 4", "prior 5: 2 from 5 to 6"]);
     assert_eq!(seen.ways(), ["1 from best effort to link at 7", "5: 2 from current to prior at 5", "5: 2 from prior to link at 6"]);
@@ -87,7 +87,7 @@ fn best_effort_waits_across_ticks_and_is_sent_after_the_reserved_frames() {
 #[test]
 fn frames_of_equal_stream_and_tag_are_followed_oldest_first() {
     let seen =
-        seen("port 0\nopen 2142 1\nreserve 5 200\narrive 5 100 1\narrive 5 100 1\narrive 5 100 1\ntick\ntransmit\ntransmit\ntransmit\n");
+        seen("port 0\nopen 2620 1\nreserve 5 200\narrive 5 100 1\narrive 5 100 1\narrive 5 100 1\ntick\ntransmit\ntransmit\ntransmit\n");
     let bars = ["prior 5: 1 from 6 to 7", "prior 5: 1 from 6 to 8", "current 5: 1 from 6 to 9"];
     assert_eq!(seen.bars()[3..], bars);
 }
@@ -96,7 +96,7 @@ fn frames_of_equal_stream_and_tag_are_followed_oldest_first() {
 fn notes_say_what_was_asked_and_what_is_left() {
     let texts = [
         "open",
-        "L 2142",
+        "L 2620",
         "K 1",
         "reserve",
         "5: P 200",
@@ -109,7 +109,7 @@ fn notes_say_what_was_asked_and_what_is_left() {
         "tick",
         "transmit",
     ];
-    let seen = seen("port 0\nopen 2142 1\nreserve 5 200\narrive 5 120 7\nbest effort 84 8\ntick\ntransmit\n");
+    let seen = seen("port 0\nopen 2620 1\nreserve 5 200\narrive 5 120 7\nbest effort 84 8\ntick\ntransmit\n");
     for text in texts {
         assert!(seen.texts().contains(&text), "{text}");
     }
@@ -137,7 +137,7 @@ fn a_band_that_begins_with_a_tick_shows_what_waits_before_it() {
 #[test]
 fn a_stream_has_a_colour_of_its_own_and_best_effort_a_broken_edge() {
     let seen = seen(
-        "port 0\nopen 2142 1\nreserve 5 200\nreserve 6 200\narrive 5 84 1\narrive 6 84 2\nbest effort 84 3\ntick\n\
+        "port 0\nopen 2620 1\nreserve 5 200\nreserve 6 200\narrive 5 84 1\narrive 6 84 2\nbest effort 84 3\ntick\n\
         transmit\ntransmit\ntransmit\n",
     );
     let looks = seen.looks();
@@ -153,7 +153,7 @@ fn a_stream_has_a_colour_of_its_own_and_best_effort_a_broken_edge() {
 
 #[test]
 fn a_pointer_that_rests_on_something_is_told_what_it_is() {
-    let seen = seen("port 0\nopen 2142 1\nreserve 5 200\narrive 5 84 1\ntick\ntick\narrive 5 84 2\nbest effort 84 3\ntransmit\n");
+    let seen = seen("port 0\nopen 2620 1\nreserve 5 200\narrive 5 84 1\ntick\ntick\narrive 5 84 2\nbest effort 84 3\ntransmit\n");
     let titles = seen.titles();
     let told = [
         "current",
@@ -177,24 +177,24 @@ fn the_legend_tells_what_occurs_and_no_more() {
     let tick = "tick: an epoch ends, prior is purged, current becomes prior, next becomes current, last becomes next";
     let notes = "L: link octets in an epoch; K: best-effort delay bound in epochs";
     let reserved = format!("{notes}; P: permitted octets of the stream per epoch");
-    assert_eq!(told("port 0\nopen 2142 1\ntransmit\n"), notes);
-    assert_eq!(told("port 0\nopen 2142 1\ntick\n"), format!("{tick} {notes}"));
+    assert_eq!(told("port 0\nopen 2620 1\ntransmit\n"), notes);
+    assert_eq!(told("port 0\nopen 2620 1\ntick\n"), format!("{tick} {notes}"));
     let left = "left: octets still free at the stream's place after the arrival";
-    assert_eq!(told("port 0\nopen 2142 1\nreserve 5 200\narrive 5 84 1\ntransmit\n"), format!("{frame} {reserved}; {left}"));
+    assert_eq!(told("port 0\nopen 2620 1\nreserve 5 200\narrive 5 84 1\ntransmit\n"), format!("{frame} {reserved}; {left}"));
     let best_effort = "2 best-effort frame with tag 2, which no tick moves a bar that reaches the right edge: the frame still waits";
     assert_eq!(
-        told("port 0\nopen 2142 1\nbest effort 84 2\n"),
+        told("port 0\nopen 2620 1\nbest effort 84 2\n"),
         format!("{best_effort}; {notes}; W: sum of charges waiting in best effort")
     );
     let first = "1 best-effort frame with tag 1, which no tick moves";
     let exceeded = "16 refused: W + charge above K × (L − R)";
     let sums = "R: sum of the reserved streams' P; W: sum of charges waiting in best effort";
     assert_eq!(
-        told("port 0\nopen 1626 1\nreserve 5 84\nbest effort 1542 1\nbest effort 84 2\ntransmit\n"),
+        told("port 0\nopen 2104 1\nreserve 5 84\nbest effort 2020 1\nbest effort 84 2\ntransmit\n"),
         format!("{first} {exceeded} {reserved}; {sums}")
     );
     let discard = "14 refused, discard: the frame joins no queue; its stream is at last with left 0";
-    assert_eq!(told("port 0\nopen 2142 1\nreserve 5 200\narrive 5 201 1\n"), format!("{discard} {reserved}"));
+    assert_eq!(told("port 0\nopen 2620 1\nreserve 5 200\narrive 5 201 1\n"), format!("{discard} {reserved}"));
 }
 
 #[test]

@@ -15,12 +15,12 @@ use crate::timeline::{drawn, replied, MOST};
 const WIDE: [(&str, &str); 4] = [
     (
         "largest",
-        "port 0\nopen 23046 16\nreserve 63 21504\nreserve 255 4294967295\narrive 63 1542 4294967295\narrive 255 4294967295 4294967295\n\
-        best effort 1542 4294967295\nbest effort 4294967295 4294967295\ntick\ntick\ntransmit\nwithdraw 63\nwithdraw 255\ntick\n",
+        "port 0\nopen 23524 16\nreserve 63 21504\nreserve 255 4294967295\narrive 63 2020 4294967295\narrive 255 4294967295 4294967295\n\
+        best effort 2020 4294967295\nbest effort 4294967295 4294967295\ntick\ntick\ntransmit\nwithdraw 63\nwithdraw 255\ntick\n",
     ),
-    ("draining", "port 0\nopen 2142 1\nreserve 63 84\nreserve 62 84\nwithdraw 63\ntick\nwithdraw 62\ntick\ntick\ntick\ntick\n"),
-    ("labels", "port 0\nopen 2142 1\nreserve 63 200\narrive 63 84 4294967295\ntick\n"),
-    ("epochs", "port 0\ntick\nopen 2142 1\ntick\ntick\ntick\ntick\ntick\ntick\ntick\ntick\ntick\ntick\ntick\n"),
+    ("draining", "port 0\nopen 2620 1\nreserve 63 84\nreserve 62 84\nwithdraw 63\ntick\nwithdraw 62\ntick\ntick\ntick\ntick\n"),
+    ("labels", "port 0\nopen 2620 1\nreserve 63 200\narrive 63 84 4294967295\ntick\n"),
+    ("epochs", "port 0\ntick\nopen 2620 1\ntick\ntick\ntick\ntick\ntick\ntick\ntick\ntick\ntick\ntick\ntick\n"),
 ];
 
 /// An upright box: left, top, right and bottom.

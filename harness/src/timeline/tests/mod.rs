@@ -15,6 +15,7 @@ use crate::call::{Call, Reply};
 use crate::capture::writing;
 use crate::comparing::random::Random;
 use crate::model::capture::events;
+use crate::model::port::LARGEST_CHARGE;
 use crate::timeline::{replied, MOST};
 
 /// The events of port 0 of a text form that must be good, with their replies.
@@ -25,7 +26,7 @@ fn played(text: &str) -> Vec<(Call, Reply)> {
 }
 
 /// Document 01's sample.
-const SAMPLE: &str = "port 0\nopen 2142 1\nreserve 5 200\narrive 5 120 7\narrive 5 100 8\ntransmit\ntransmit\ntick\ntransmit\n";
+const SAMPLE: &str = "port 0\nopen 2620 1\nreserve 5 200\narrive 5 120 7\narrive 5 100 8\ntransmit\ntransmit\ntick\ntransmit\n";
 
 /// A list of as many events as a picture shows, on a port with two streams, with their replies.
 fn any_events(random: &mut Random) -> Vec<(Call, Reply)> {
@@ -42,7 +43,7 @@ fn any_event(random: &mut Random, weights: &[usize], number: u32) -> Call {
     let tag = if random.chance(10) { 3 } else { number };
     match random.weighted(weights) {
         0 => Call::Arrive { stream: random.pick(&[5, 63]), charge: random.pick(&[84, 100, 150, 300]), tag },
-        1 => Call::BestEffort { charge: random.pick(&[84, 400, 1_542]), tag },
+        1 => Call::BestEffort { charge: random.pick(&[84, 400, LARGEST_CHARGE]), tag },
         2 => Call::Tick,
         3 => Call::Transmit,
         4 => Call::Withdraw { stream: random.pick(&[5, 63]) },

@@ -45,7 +45,7 @@ fn failed(words: &[&str], capture: &[u8]) -> String {
 /// A capture of so many events on port 0: an open, a reservation, and arrivals that are discarded sooner or later.
 fn long(events: usize) -> Vec<u8> {
     let arrivals: String = (2..events).map(|before| format!("arrive 5 84 {before}\n")).collect();
-    capture(&format!("port 0\nopen 2142 1\nreserve 5 200\n{arrivals}"))
+    capture(&format!("port 0\nopen 2620 1\nreserve 5 200\n{arrivals}"))
 }
 
 #[test]
@@ -95,7 +95,7 @@ fn a_long_picture_has_bands() {
 /// The first event of the second band, of twenty events of which one is a tick, after so many.
 fn second_band(before: usize) -> String {
     let transmits = |count: usize| "transmit\n".repeat(count);
-    let text = format!("port 0\nopen 2142 1\n{}tick\n{}", transmits(before - 1), transmits(19 - before));
+    let text = format!("port 0\nopen 2620 1\n{}tick\n{}", transmits(before - 1), transmits(19 - before));
     String::from(seen(&[], &capture(&text)).bands()[1][0])
 }
 
@@ -107,7 +107,7 @@ fn a_band_begins_with_a_tick_that_is_near() {
 
 #[test]
 fn events_are_said_in_words() {
-    let said = "port 0\n1 open with L 2142 and K 1: opens, with a share of 600\n\
+    let said = "port 0\n1 open with L 2620 and K 1: opens, with a share of 600\n\
         2 reserve for stream 5, P 200: reserves, 400 of the share still free\n\
         3 arrive on stream 5, charge 120, tag 7: joins current, 80 left\n4 arrive on stream 5, charge 100, tag 8: joins next, 100 left\n\
         5 transmit: sends stream 5, tag 7\n6 transmit: sends nothing\n7 tick: purges nothing\n8 transmit: sends stream 5, tag 8\n";
@@ -133,7 +133,7 @@ fn too_many_events_are_told() {
 #[test]
 fn too_many_frames_that_wait_are_told() {
     let best_effort: String = (0..65).map(|tag| format!("best effort 84 {tag}\n")).collect();
-    let capture = capture(&format!("port 0\nopen 23046 1\n{best_effort}transmit\ntransmit\n"));
+    let capture = capture(&format!("port 0\nopen 23524 1\n{best_effort}transmit\ntransmit\n"));
     let told = "at event 67 of port 0 more than 64 frames wait in best effort, and a picture shows at most 64; \
         ask for other events with --from and --to, or for the words of all with --words\n";
     assert_eq!(failed(&["--from", "67"], &capture), told);
