@@ -286,6 +286,12 @@ another-no-offer = refl
 too-small-no-offer : isOfferOf 5 (toArrive 5 83 7) ≡ false
 too-small-no-offer = refl
 
+largest-is-offer : isOfferOf 5 (toArrive 5 2020 7) ≡ true
+largest-is-offer = refl
+
+too-large-no-offer : isOfferOf 5 (toArrive 5 2021 7) ≡ false
+too-large-no-offer = refl
+
 reserve-no-offer : isOfferOf 5 (toReserve 5 200) ≡ false
 reserve-no-offer = refl
 

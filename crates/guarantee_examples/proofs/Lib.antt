@@ -9,7 +9,9 @@ pub mod AddUp
 pub mod Applied
 pub mod Derived
 pub mod TheoremsSay
+pub mod Quickly
 pub mod WithdrawnHappen
 pub mod WithdrawnShow
 pub mod WithdrawnSays
 pub mod DrainingSays
+pub mod LongFrames

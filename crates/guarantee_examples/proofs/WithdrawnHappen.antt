@@ -1,7 +1,6 @@
 -- The lists with a withdrawal happen as they are written, on a port never opened: by the quick calls, which are the calls in every list. Assumes nothing.
-use Prim.Native.Nat.{ℕ}
-use mathlib.Core.Path.{_≡_, refl, sym, ap, _∙_}
-use mathlib.Core.List.{List, _∷_}
+use mathlib.Core.Path.{_≡_, refl}
+use mathlib.Core.List.{_∷_}
 use Rattle.lists.specs.Turns.{allTo, sumTo, listTo, iterate}
 use Rattle.lists.specs.Equal.{octetsEqual}
 use Rattle.octets.specs.Numbers.{twoOf, fourOf}
@@ -23,35 +22,15 @@ use Rattle.best_effort.specs.BestEffort.{bestEffortStep}
 use Rattle.binding.specs.Finding.{lookupFrom, lookup, frameLookup}
 use Rattle.gates.specs.Refusals.{openRefusal, reserveRefusal, withdrawRefusal, arriveRefusal, closedRefusal, bestEffortRefusal}
 use Rattle.gates.specs.FrameRefusals.{bindRefusal, frameRefusal}
-use Rattle.steps.specs.Outcome.{Outcome}
-use Rattle.steps.specs.Call.{terms, Call, opening}
+use Rattle.steps.specs.Call.{terms, opening}
 use Rattle.port.specs.Quick.{lengthRefusal, quicklyCalled}
 use Rattle.port_laws.specs.Lists.{freshRecord, freshMemory}
-use Rattle.port_laws.proofs.FreshFit.{fresh-fits}
-use Rattle.port_laws.proofs.QuickLaws.{quick-call}
-use Rattle.guarantee.specs.Events.{Event, events}
-use Rattle.guarantee.specs.Demand3.{CallList}
-use Rattle.guarantee.proofs.Theorem.{quick-events}
-use Rattle.guarantee_examples.specs.Examples.{Happens, callsOf}
+use Rattle.guarantee.specs.Events.{events}
+use Rattle.guarantee_examples.specs.Examples.{callsOf}
 use Rattle.guarantee_examples.specs.LeftOpen.{laterCalls}
 use Rattle.guarantee_examples.specs.Withdrawn.{handed, withdrawn, leaving, leftAlone, triedCalls, tried, hurriedly, hurry}
 use Rattle.guarantee_examples.specs.WithdrawnShown.{WithdrawnHappen}
-
-module _ (link delay : ℕ) (is : quicklyCalled (opening (terms link delay)) freshRecord freshMemory .reply .refusal ≡ 0) (later : List Call) where
-  -- the list of calls whose Open the quick one grants
-  abbrev quickList : CallList
-  quickList =
-      record {
-        port = freshRecord;
-        memory = freshMemory;
-        terms = terms link delay;
-        later = later;
-        opened = sym (ap (λ (o : Outcome). o .reply .refusal) (quick-call (opening (terms link delay)) freshRecord freshMemory fresh-fits)) ∙ is;
-      }
-
-  -- what happens by the quick calls happens
-  happens-quickly : (es : List Event) → events quicklyCalled (opening (terms link delay) ∷ later) freshRecord freshMemory ≡ es → Happens es
-  happens-quickly es so = record { list = quickList; so = sym (quick-events quickList) ∙ so }
+use Rattle.guarantee_examples.proofs.Quickly.{happens-quickly}
 
 -- the three Opens
 opened-84 : quicklyCalled (opening (terms (linkOf 84) 1)) freshRecord freshMemory .reply .refusal ≡ 0

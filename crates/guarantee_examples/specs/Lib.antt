@@ -7,3 +7,4 @@ pub mod AddUp
 pub mod Derived
 pub mod WithdrawnShown
 pub mod DrainingSays
+pub mod LongFrames

@@ -1,2 +1,3 @@
 -- The laws of a frame's header, cited by the crates above.
 pub mod HeaderLaws
+pub mod HeaderCases

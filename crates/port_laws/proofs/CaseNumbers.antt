@@ -4,7 +4,7 @@ use Prim.Native.Nat.{ℕ, _+_, _-_, _*_}
 use mathlib.Core.Bool.{cond}
 use mathlib.Core.Path.{_≡_, refl}
 use mathlib.Core.List.{List, [], _∷_}
-use lib.ListN.{getD, replicate}
+use lib.ListN.{getD}
 use lib.Dec.{ltb}
 use Rattle.stream.specs.declared.Reply.{Reply}
 use Rattle.stream.specs.State.{leastQueues, reserveOf}
@@ -12,9 +12,9 @@ use Rattle.stream.specs.Steps.{attempt, arriveOf, tickOf}
 use Rattle.stream.specs.Replies.{refusedBy}
 use Rattle.stream.specs.Alone.{StreamEvent, arrival, tick, replies}
 use Rattle.ranges.specs.Ranges.{leastCharge, greatestCharge, shareOf, greatestShare, linkOf}
-use Rattle.header.specs.Header.{chargeOf}
+use Rattle.header.specs.Header.{chargeOf, lengthFits}
 use Rattle.steps.specs.Call.{Call, opening, reserving, withdrawing, arriving, ticking, transmitting, joiningBestEffort, binding, framing}
-use Rattle.port_laws.specs.Cases.{Case, caseLink, c1, c2, c4, c5, sample, c7, c8, c9, c10, c11, c12, caseTagged, framesCase, withdrawCase}
+use Rattle.port_laws.specs.Cases.{Case, caseLink, c1, c2, c4, c5, sample, c7, c8, c9, c10, c11, c12, caseTagged, caseUntagged, framesCase, longFramesCase, withdrawCase}
 
 -- the reply that is expected to call number n of a case, and the rule's reply to arrival number n of a stream with P = 200
 abbrev expectedOf : Case → ℕ → Reply
@@ -122,10 +122,29 @@ free-then : expectedOf withdrawCase (3 + 2 * leastQueues) .first ≡ shareOf cas
 free-then = refl
 
 -- a Frame's charge, to its stream and to best effort
-frame-left : expectedOf framesCase 3 .second ≡ byRule (arrival (chargeOf caseTagged) ∷ []) 0 .second
+frame-left : expectedOf framesCase 3 .second ≡ byRule (arrival (chargeOf (caseTagged 60)) ∷ []) 0 .second
 unfolding attempt arriveOf chargeOf
 frame-left = refl
 
-frame-waits : expectedOf framesCase 4 .first ≡ chargeOf (replicate {A = ℕ} 60 0)
+frame-waits : expectedOf framesCase 4 .first ≡ chargeOf (caseUntagged 60)
 unfolding chargeOf
 frame-waits = refl
+
+-- the long ones: the longest is as much as the stream may have in an epoch, and as much as the limit leaves best effort; one octet more is no frame
+long-share : expectedOf longFramesCase 0 .first ≡ shareOf (numberIn (callOf longFramesCase 0))
+long-share = refl
+
+long-left : expectedOf longFramesCase 3 .second ≡ chargeOf (caseTagged 1996)
+unfolding chargeOf
+long-left = refl
+
+long-refusal : expectedOf longFramesCase 4 .refusal ≡ cond (lengthFits (caseTagged 1997)) 0 17
+unfolding lengthFits
+long-refusal = refl
+
+long-waits : expectedOf longFramesCase 5 .first ≡ 1 * (numberIn (callOf longFramesCase 0) - numberIn (callOf longFramesCase 1))
+long-waits = refl
+
+long-next : expectedOf longFramesCase 6 .second ≡ numberIn (callOf longFramesCase 1) - chargeOf (caseTagged 1519)
+unfolding chargeOf
+long-next = refl

@@ -78,7 +78,7 @@ arrive-action = refl
 best-effort-action : octetsOf (actionOf (joiningBestEffort 300 7)) ≡ 300
 best-effort-action = refl
 
-frame-action : octetsOf (actionOf (framing caseTagged 7)) ≡ 60
+frame-action : octetsOf (actionOf (framing (caseTagged 60) 7)) ≡ 60
 frame-action = refl
 
 -- `countsAs`, on the front of a record in which stream 1 is bound to the case's pair: a Frame of that pair is an Arrive on the stream, one without a
@@ -86,7 +86,7 @@ frame-action = refl
 abbrev bound1 : List ℕ
 bound1 = withBinding (replicate 96 0) 1 caseAddress 100
 
-frame-arrives : streamOf (actionOf (countsAs bound1 (framing caseTagged 7))) ≡ 1
+frame-arrives : streamOf (actionOf (countsAs bound1 (framing (caseTagged 60) 7))) ≡ 1
 unfolding allTo octetsEqual twoOf boundAt vidAt addressAt withBinding chargeOf lengthFits taggedFrame vidOf lookupFrom lookup frameLookup
 frame-arrives = refl
 

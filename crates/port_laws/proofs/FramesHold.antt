@@ -1,6 +1,6 @@
--- The case of Bind and Frame holds of the calls' definitions. Assumes nothing.
+-- The cases of Bind and Frame hold of the calls' definitions. Assumes nothing.
 use mathlib.Core.Path.{_≡_, refl}
-use Rattle.port_laws.specs.Cases.{framesCase, repliesTo}
+use Rattle.port_laws.specs.Cases.{framesCase, longFramesCase, repliesTo}
 use Rattle.lists.specs.Turns.{allTo, sumTo, listTo, iterate}
 use Rattle.lists.specs.Equal.{octetsEqual}
 use Rattle.octets.specs.Numbers.{twoOf, fourOf}
@@ -26,3 +26,7 @@ use Rattle.gates.specs.FrameRefusals.{bindRefusal, frameRefusal}
 pub frames-hold : repliesTo framesCase ≡ framesCase .expected
 unfolding allTo sumTo listTo iterate twoOf fourOf attempt arriveOf tickOf frameAt withFrame joinedMemory frontOf waiting openAt withOpen priorAt withPrior delayAt withDelay linkAt withLink waitsAt withWaits queueAt queuesAt withQueue streamAt withStream withPlace drainAt withDrain drainsAt boundAt vidAt dropped recordFits lentRefusal roleAt openedRecord arriveStep drainedAt tickedRecord tickStep transmitStep bestEffortStep openRefusal reserveRefusal arriveRefusal closedRefusal bestEffortRefusal addressAt withBinding octetsEqual chargeOf lengthFits taggedFrame vidOf lookupFrom lookup frameLookup bindRefusal frameRefusal
 frames-hold = refl
+
+pub long-frames-hold : repliesTo longFramesCase ≡ longFramesCase .expected
+unfolding allTo sumTo listTo iterate twoOf fourOf attempt arriveOf tickOf frameAt withFrame joinedMemory frontOf waiting openAt withOpen priorAt withPrior delayAt withDelay linkAt withLink waitsAt withWaits queueAt queuesAt withQueue streamAt withStream withPlace drainAt withDrain drainsAt boundAt vidAt dropped recordFits lentRefusal roleAt openedRecord arriveStep drainedAt tickedRecord tickStep transmitStep bestEffortStep openRefusal reserveRefusal arriveRefusal closedRefusal bestEffortRefusal addressAt withBinding octetsEqual chargeOf lengthFits taggedFrame vidOf lookupFrom lookup frameLookup bindRefusal frameRefusal
+long-frames-hold = refl

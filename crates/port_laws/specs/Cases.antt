@@ -1,6 +1,6 @@
 -- Document 01's cases C1 to C12 with document 02's numbers, each as calls on a port never opened, and what they reply. Stream 5 with P = 200,
 -- L = 2,620, K = 1, unless said otherwise.
-use Prim.Native.Nat.{ℕ}
+use Prim.Native.Nat.{ℕ, _-_}
 use mathlib.Core.List.{List, [], _∷_, _++_}
 use lib.ListN.{replicate}
 use Rattle.stream.specs.declared.Reply.{Reply}
@@ -92,18 +92,37 @@ c12 =
 abbrev pub cases : List Case
 cases = c1 ∷ c2 ∷ c3 ∷ c4 ∷ c5 ∷ c6 ∷ sample ∷ c7 ∷ c8 ∷ c9 ∷ c10 ∷ c11 ∷ c12 ∷ []
 
--- beside them, the calls that no case makes: a Bind, the Frame that becomes an Arrive by it, and one without a VLAN tag
+-- beside them, the calls that no case makes: a Bind, the Frame that becomes an Arrive by it, and one without a VLAN tag, each of so many octets
 abbrev pub caseAddress : List ℕ
 caseAddress = 1 ∷ 0 ∷ 94 ∷ 0 ∷ 0 ∷ 5 ∷ []
 
-abbrev pub caseTagged : List ℕ
-caseTagged = caseAddress ++ (replicate {A = ℕ} 6 0 ++ (129 ∷ 0 ∷ 0 ∷ 100 ∷ replicate {A = ℕ} 44 0))
+abbrev pub caseTagged : ℕ → List ℕ
+caseTagged octets = caseAddress ++ (replicate {A = ℕ} 6 0 ++ (129 ∷ 0 ∷ 0 ∷ 100 ∷ replicate {A = ℕ} (octets - 16) 0))
+
+abbrev pub caseUntagged : ℕ → List ℕ
+caseUntagged octets = replicate {A = ℕ} octets 0
 
 abbrev pub framesCase : Case
 framesCase =
     continued reservedCase
-    (binding 5 caseAddress 100 ∷ framing caseTagged 7 ∷ framing (replicate {A = ℕ} 60 0) 8 ∷ [])
+    (binding 5 caseAddress 100 ∷ framing (caseTagged 60) 7 ∷ framing (caseUntagged 60) 8 ∷ [])
     (granted 0 0 ∷ granted 1 116 ∷ granted 84 0 ∷ [])
+
+-- "frames of up to 2,000 octets with check sequence", on a stream that has the largest charge in each epoch: the longest, one octet more, the longest in
+-- best effort, and the shortest of those beyond 1,518 octets
+abbrev pub longFramesCase : Case
+longFramesCase =
+    record {
+      calls = opening (terms 4040 1)
+          ∷ reserving 5 2020
+          ∷ binding 5 caseAddress 100
+          ∷ framing (caseTagged 1996) 7
+          ∷ framing (caseTagged 1997) 8
+          ∷ framing (caseUntagged 1996) 9
+          ∷ framing (caseTagged 1519) 10
+          ∷ [];
+      expected = granted 2020 0 ∷ granted 0 0 ∷ granted 0 0 ∷ granted 1 2020 ∷ refusedBy 17 ∷ granted 2020 0 ∷ granted 2 477 ∷ [];
+    }
 
 -- a stream that is withdrawn and asked for again, at once and after each tick: "It drains until the fourth tick after the withdrawal"
 abbrev pub withdrawCase : Case

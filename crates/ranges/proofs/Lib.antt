@@ -1,2 +1,3 @@
 -- The laws of the ranges, cited by the crates above.
 pub mod RangeLaws
+pub mod RangeCases

@@ -70,6 +70,20 @@ fn best_effort_takes_the_longest_frames() {
     }
 }
 
+/// Of every length up to 3,000, a frame from 60 to 1,996 octets arrives with its length plus 24 as its charge, and every other is refused.
+#[test]
+fn every_length_has_its_charge() {
+    let mut octets = frame(1).to_vec();
+    octets.resize(3_000, 0);
+    for length in 0..=octets.len() {
+        let replied = wide().frame(&octets[..length], 1);
+        match length {
+            60..=1_996 => assert_eq!(replied, joined(Queue::Current, 3_563 - 24 - length as u32).map(Framed::Arrived)),
+            _ => refused(replied, Refusal::FrameLength, 17),
+        }
+    }
+}
+
 /// The constants are what the library takes: a frame of either length, and none that is an octet shorter or longer.
 #[test]
 fn the_constants_are_the_lengths_that_are_taken() {

@@ -32,6 +32,20 @@ fn as_in_rust(name: &str) -> String {
     name.split('_').map(|word| word[..1].to_string() + &word[1..].to_lowercase()).collect()
 }
 
+/// What the header says of the refusal of a number, in the comment beside its name.
+fn said_by_header(number: u8) -> Option<&'static str> {
+    let line = HEADER.lines().find(|line| line.starts_with("    BUNNYSOLDER_") && line.contains(&format!(" = {number}, ")))?;
+    line.split_once("/* ")?.1.strip_suffix(" */")
+}
+
+/// The header says of L, K, a VID and a charge the same ranges as these words.
+#[test]
+fn ranges_are_those_of_the_header() {
+    for refusal in [Refusal::LinkRange, Refusal::DelayRange, Refusal::VidRange, Refusal::ChargeRange] {
+        assert_eq!(said_by_header(refusal.number()), Some(refusal.words()));
+    }
+}
+
 /// What the header defines a name to be, each time that it does.
 fn defined(name: &str) -> Vec<&'static str> {
     let front = format!("#define BUNNYSOLDER_{name} ");
