@@ -57,10 +57,19 @@ fn every_name_is_one_capture_or_one_group() {
     assert_eq!(stored_ones, stored::names().expect("the folder can be read").len());
 }
 
+/// The README of the set.
+fn readme() -> String {
+    fs::read_to_string(Path::new(env!("CARGO_MANIFEST_DIR")).join("../conformance/README.md")).expect("the README can be read")
+}
+
+#[test]
+fn the_readme_says_the_edition_of_the_set() {
+    assert!(readme().starts_with(&format!("# Conformance set\n\nEdition {}: ", set::EDITION)));
+}
+
 #[test]
 fn the_readme_says_how_many_captures_each_group_has() {
-    let path = Path::new(env!("CARGO_MANIFEST_DIR")).join("../conformance/README.md");
-    let text = fs::read_to_string(path).expect("the README can be read");
+    let text = readme();
     let table = text.split("\n\n").find(|part| part.starts_with("| group |")).expect("it has a table of the groups");
     let listed: Vec<String> = table.lines().skip(2).map(|row| row.split(" | ").take(2).collect::<Vec<_>>().join(" ")).collect();
     let entries = set::all().expect("the set can be read");
