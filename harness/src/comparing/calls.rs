@@ -162,7 +162,7 @@ impl Profile {
     /// A Reserve, most often of a stream that is not reserved.
     fn reserve(&self, random: &mut Random, record: &[u8], edge: bool) -> Call {
         let reserved = edge && random.chance(30);
-        let stream = if edge && random.chance(30) { edge_stream(random) } else { self.stream(random, record, reserved) };
+        let stream = if edge && random.chance(30) { edge_stream(random, record) } else { self.stream(random, record, reserved) };
         let permitted = if edge && random.chance(60) { edge_permitted(random, record) } else { self.any_permitted(random, record) };
         Call::Reserve { stream, permitted }
     }
@@ -173,7 +173,7 @@ impl Profile {
         let taking = |stream: &usize| is_reserved(record, *stream) && !is_draining(record, *stream);
         let stream = (any..self.streams).chain(0..any).find(taking).unwrap_or(any) as u8;
         if edge && random.chance(50) {
-            return Call::Withdraw { stream: edge_stream(random) };
+            return Call::Withdraw { stream: edge_stream(random, record) };
         }
         Call::Withdraw { stream: if edge || random.chance(15) { any as u8 } else { stream } }
     }
@@ -201,7 +201,7 @@ impl Profile {
 
     /// An Arrive, most often on a stream that is reserved.
     fn arrive(&self, random: &mut Random, record: &[u8], edge: bool) -> Call {
-        let stream = if edge && random.chance(30) { edge_stream(random) } else { self.stream(random, record, true) };
+        let stream = if edge && random.chance(30) { edge_stream(random, record) } else { self.stream(random, record, true) };
         let charge = if edge && random.chance(60) { random.pick(&EDGE_CHARGES) } else { self.any_charge(random, record, stream) };
         Call::Arrive { stream, charge, tag: any_tag(random) }
     }
@@ -255,11 +255,14 @@ pub fn any_tag(random: &mut Random) -> u32 {
     random.pick(&[0, u32::MAX, tag, tag, tag])
 }
 
-/// The last stream, or one that there is not.
-pub fn edge_stream(random: &mut Random) -> u8 {
+/// The last stream, or one that there is not: any, or one whose low six bits are those of a draining stream.
+pub fn edge_stream(random: &mut Random, record: &[u8]) -> u8 {
     let any = random.between(STREAMS as u32..=u32::from(u8::MAX)) as u8;
     let end = random.pick(&EDGE_STREAMS);
-    random.pick(&[any, end])
+    let from = random.below(STREAMS);
+    let draining = (from..STREAMS).chain(0..from).find(|&stream| is_draining(record, stream));
+    let beside = draining.map_or(any, |stream| (stream + STREAMS * random.between(1..=3) as usize) as u8);
+    random.pick(&[any, end, beside])
 }
 
 /// A P at the end of its range, below it or above every share, also one that makes the sum of P start over at 16 or 32 bits.

@@ -125,7 +125,7 @@ impl Profile {
     /// A Bind, most often of a stream that is reserved and not bound, to a pair that is not; one at an edge has its stream or VID there, or
     /// repeats a pair.
     pub fn bind(&self, random: &mut Random, record: &[u8], edge: bool) -> Call {
-        let stream = if edge && random.chance(30) { edge_stream(random) } else { self.stream_to_bind(random, record) };
+        let stream = if edge && random.chance(30) { edge_stream(random, record) } else { self.stream_to_bind(random, record) };
         let bindings = bindings(record);
         let repeated = !bindings.is_empty() && random.chance(if edge { 40 } else { 5 });
         let binding = if repeated { random.pick(&bindings) } else { any_binding(random, &bindings) };

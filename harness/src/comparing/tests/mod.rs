@@ -1,8 +1,8 @@
 //! The tests of each kind: `streams` holds the rule of one stream by itself against the model; `lists` and `sample` hold the calls against the model
 //! on lists of calls, `records` on records of any content, and `quick` and `fences` are about the quick calls and about octets outside the lent ones;
-//! `bindings` and `frames` are about Bind and Frame, `withdrawals` about Withdraw and draining streams, `envelopes` about charges, lengths and L at the ends
-//! of their ranges; `guarantee` holds lists of calls against demand 3; `captures` and `damaged` hold the program `replay` against the outside program's, and
-//! `failing` is about its input and output themselves.
+//! `bindings` and `frames` are about Bind and Frame, `withdrawals` about Withdraw and draining streams, `envelopes` about charges, lengths and L at the
+//! ends of their ranges; `guarantee` holds lists of calls against demand 3; `captures` and `damaged` hold the program `replay` against the outside
+//! program's, and `failing` is about its input and output themselves.
 
 pub mod bindings;
 pub mod captures;
