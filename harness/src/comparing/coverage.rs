@@ -185,7 +185,7 @@ impl fmt::Display for Asked {
 }
 
 /// The charge of a tagged frame of 1,522 octets with check sequence; IEEE 802.3 calls larger ones envelope frames.
-const LARGEST_TAGGED: u32 = 1_542;
+pub const LARGEST_TAGGED: u32 = 1_542;
 
 /// Whether a frame of a charge is an envelope frame.
 pub fn is_envelope(charge: u32) -> bool {

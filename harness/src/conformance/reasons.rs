@@ -1,13 +1,18 @@
 //! Why the rule replies what it does to an event: the steps of documents 01 and 02 with the numbers of the port before the event.
 
+use std::ops::RangeInclusive;
+
 use crate::call::{Call, Reply};
-use crate::model::port::{permitted_sum, share, Port, BEST_EFFORT, CURRENT, DRAINING_TICKS, LAST};
-use crate::model::refusal::{BEST_EFFORT_EXCEEDED, DISCARD, DRAINING, SHARE_EXCEEDED};
+use crate::model::port::{permitted_sum, share, Port, BEST_EFFORT, CHARGES, CURRENT, DRAINING_TICKS, LARGEST_CHARGE, LAST, LINKS};
+use crate::model::refusal::{BEST_EFFORT_EXCEEDED, CHARGE_OUTSIDE, DISCARD, DRAINING, LINK_OUTSIDE, SHARE_EXCEEDED};
 use crate::timeline::words::ROLES;
 
 /// The steps that lead to a reply to a call on a port as it was before; of a refusal also the order of the call's checks.
 pub fn steps(call: &Call, reply: &Reply, before: &Port) -> Vec<String> {
     let mut steps = match (call, reply.refusal) {
+        (Call::Open { link, .. }, 0) => vec![opening(*link)],
+        (Call::Open { link, .. }, LINK_OUTSIDE) => vec![outside("L", *link, &LINKS)],
+        (Call::Arrive { charge, .. } | Call::BestEffort { charge, .. }, CHARGE_OUTSIDE) => vec![outside("the charge", *charge, &CHARGES)],
         (Call::Reserve { permitted, .. }, 0 | SHARE_EXCEEDED) => vec![reservation(before, *permitted)],
         (Call::Arrive { stream, charge, .. }, 0 | DISCARD) => arrival(before, usize::from(*stream), *charge),
         (Call::BestEffort { charge, .. }, 0 | BEST_EFFORT_EXCEEDED) => vec![best_effort(before, *charge)],
@@ -39,6 +44,16 @@ fn checks(call: &Call) -> &'static str {
         Call::Withdraw { .. } => "1 5 25 12",
         Call::Bind { .. } | Call::Frame { .. } => unreachable!("no event of a capture is a Bind or a Frame"),
     }
+}
+
+/// What the share is of an L.
+fn opening(link: u32) -> String {
+    format!("the share is L less the largest charge, {link} − {LARGEST_CHARGE} = {}", share(link))
+}
+
+/// A number beside the range that it is outside of.
+fn outside(what: &str, number: u32, range: &RangeInclusive<u32>) -> String {
+    format!("{what} is {number}, outside {} to {}", range.start(), range.end())
 }
 
 /// What R becomes, beside the share.

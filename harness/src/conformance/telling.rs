@@ -11,6 +11,7 @@ use crate::conformance::playing::{Due, Event, Playing};
 use crate::conformance::reasons::steps;
 use crate::conformance::said::{said, written_out};
 use crate::model::port::{Frame, Port, BEST_EFFORT, NOTHING};
+use crate::model::refusal::{DISCARD, DRAINING};
 use crate::running::{End, Left};
 use crate::timeline::words::{self, ROLES};
 
@@ -105,7 +106,7 @@ fn program_line(difference: &Difference) -> Option<Line> {
 /// The steps to the rule's reply, where the reply's own words do not say all; of an arrival also the event that brought its stream to where it is.
 fn why(playing: &Playing, event: &Event) -> Vec<String> {
     let mut steps = steps(event.call, &event.reply, &playing.port_before(event.port, event.number));
-    if let (Call::Arrive { stream, .. }, 2..) = (event.call, steps.len()) {
+    if let (Call::Arrive { stream, .. }, 0 | DISCARD | DRAINING) = (event.call, event.reply.refusal) {
         let since = playing.last_change(event.port, event.number, usize::from(*stream));
         steps[0] += &since.map(|number| format!(", since event {number}")).unwrap_or_default();
     }

@@ -2,8 +2,9 @@
 //! charges, as best effort at its limit, and among small frames, over ticks and transmits.
 
 use crate::call::Call;
+use crate::comparing::coverage::LARGEST_TAGGED;
 use crate::comparing::random::Random;
-use crate::conformance::groups::numbers::{self, LARGEST_TAGGED};
+use crate::conformance::groups::numbers;
 use crate::conformance::groups::played::Played;
 use crate::model::port::{LARGEST_CHARGE, LEAST_CHARGE};
 

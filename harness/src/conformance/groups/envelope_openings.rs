@@ -2,9 +2,10 @@
 //! the share to its last octet, reservations that would fit a share of L less 1,542 and exceed the one that there is, and best effort up to L less R.
 
 use crate::call::Call;
+use crate::comparing::coverage::LARGEST_TAGGED;
 use crate::comparing::random::Random;
 use crate::conformance::groups::chains::{among_each_other, Chains};
-use crate::conformance::groups::numbers::{self, LARGEST_TAGGED};
+use crate::conformance::groups::numbers;
 use crate::conformance::groups::played::Played;
 use crate::model::capture::PORTS;
 use crate::model::port::{share, LEAST_CHARGE, LEAST_PERMITTED};

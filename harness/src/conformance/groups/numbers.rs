@@ -6,9 +6,6 @@ use crate::comparing::random::Random;
 use crate::conformance::groups::played::Played;
 use crate::model::port::{CHARGES, LARGEST_CHARGE, LEAST_CHARGE, LINKS, STREAMS};
 
-/// The charge of a tagged frame of 1,522 octets with check sequence; IEEE 802.3 calls larger ones envelope frames.
-pub const LARGEST_TAGGED: u32 = 1_542;
-
 /// P of every sort: the least, a few frames of the least charge and one octet beside them, around the largest charge, and several such frames.
 pub const PERMITTED: [u32; 14] = [
     84,

@@ -3,7 +3,7 @@
 use std::collections::BTreeMap;
 
 use crate::call::{Call, Reply};
-use crate::conformance::groups::numbers::LARGEST_TAGGED;
+use crate::comparing::coverage::is_envelope;
 use crate::conformance::groups::GROUPS;
 use crate::model::capture::{events, Refused};
 use crate::model::port::{Port, BEST_EFFORT_STREAM, LAST, NOTHING};
@@ -162,9 +162,9 @@ fn done(event: &Call, reply: &Reply, before: &Port, after: &Port) -> Vec<String>
 /// Where an envelope frame joined, or that it was discarded.
 fn envelope(event: &Call, reply: &Reply) -> Option<String> {
     let joins = match (event, reply.refusal) {
-        (Call::Arrive { charge, .. }, 0) if *charge > LARGEST_TAGGED => format!("joins {}", ROLES[reply.first as usize]),
-        (Call::Arrive { charge, .. }, DISCARD) if *charge > LARGEST_TAGGED => String::from("discarded"),
-        (Call::BestEffort { charge, .. }, 0) if *charge > LARGEST_TAGGED => String::from("joins best effort"),
+        (Call::Arrive { charge, .. }, 0) if is_envelope(*charge) => format!("joins {}", ROLES[reply.first as usize]),
+        (Call::Arrive { charge, .. }, DISCARD) if is_envelope(*charge) => String::from("discarded"),
+        (Call::BestEffort { charge, .. }, 0) if is_envelope(*charge) => String::from("joins best effort"),
         _ => return None,
     };
     Some(format!("envelope frame {joins}"))

@@ -64,6 +64,23 @@ fn a_discard() {
 }
 
 #[test]
+fn an_opening() {
+    let open = |link| Call::Open { link, delay: 1 };
+    are_told(Port::closed(), open(2_620), &["the share is L less the largest charge, 2620 − 2020 = 600"]);
+    let checks = "3 is the first that holds of the call's checks, in their order 2 3 4";
+    are_told(Port::closed(), open(2_103), &["L is 2103, outside 2104 to 23524", checks]);
+    are_told(Port::closed(), open(23_525), &["L is 23525, outside 2104 to 23524", checks]);
+}
+
+#[test]
+fn charges_outside_their_range() {
+    let checks = "13 is the first that holds of the call's checks, in their order ";
+    are_told(after(&[]), arrive(83), &["the charge is 83, outside 84 to 2020", &format!("{checks}1 5 25 12 13 14")]);
+    let frame = Call::BestEffort { charge: 2_021, tag: 8 };
+    are_told(after(&[]), frame, &["the charge is 2021, outside 84 to 2020", &format!("{checks}1 13 15 16")]);
+}
+
+#[test]
 fn a_reservation() {
     let reserve = |permitted| Call::Reserve { stream: 6, permitted };
     are_told(after(&[]), reserve(400), &["R 200 and P 400 make 600, within the share 600"]);
@@ -123,7 +140,6 @@ fn what_waits() {
 #[test]
 fn refusals_of_arguments() {
     are_told(after(&[]), Call::Open { link: 0, delay: 0 }, &["2 is the first that holds of the call's checks, in their order 2 3 4"]);
-    are_told(after(&[]), arrive(83), &["13 is the first that holds of the call's checks, in their order 1 5 25 12 13 14"]);
     are_told(Port::closed(), Call::Tick, &["1 is the first that holds of the call's checks, in their order 1"]);
 }
 
