@@ -21,7 +21,7 @@ chargeFits = within leastCharge greatestCharge
 abbrev pub shareOf : ℕ → ℕ
 shareOf link = link - greatestCharge
 
--- the greatest share, 256 times the least charge: so many frames as a queue holds
+-- the greatest share: 256 frames of the least charge, as many as a queue holds
 abbrev pub greatestShare : ℕ
 greatestShare = 21504
 

@@ -248,6 +248,8 @@ fn what_a_program_says_of_itself_is_told() {
         "the program told on standard error: 3",
         "the program told on standard error: 4",
         "the program told on standard error: 5",
+        "why the rule says so:",
+        "  the share is L less the largest charge, 2620 − 2020 = 600",
         "it is the first event of port 0",
     ];
     assert_eq!(told(&octets, &program)[3..], expected);
