@@ -79,7 +79,7 @@ fn best_effort_filled() -> Result<(), String> {
 /// Streams that are withdrawn again and again, drain and are reserved again, also right after the tick that frees them.
 #[test]
 fn withdrawn_streams() -> Result<(), String> {
-    let run = play("withdrawn_streams", 8, 800, |_| WITHDRAWING)?;
+    let run = play("withdrawn_streams", 16, 800, |_| WITHDRAWING)?;
     run.demand(&[(Seen::Withdrawn, 200), (Seen::Freed, 200), (Seen::FreedBound, 50), (Seen::FrameRefused(25), 50)])?;
     run.demand(&[(Seen::GrantedAgain, 100), (Seen::GrantedAgainAtOnce, 25)])?;
     let asked = [Asked::Reservation, Asked::Arrival, Asked::Binding, Asked::Withdrawal];
@@ -89,8 +89,8 @@ fn withdrawn_streams() -> Result<(), String> {
 /// Every argument outside its range, at its ends and where fewer bits would hide it.
 #[test]
 fn arguments_out_of_range() -> Result<(), String> {
-    let run = play("arguments_out_of_range", 12, 400, |_| WRONG_ARGUMENTS)?;
-    run.demand(&[5, 6, 7, 8, 9, 10, 11, 12, 13, 16, 17, 25].map(|refusal| (Seen::Refused(refusal), 3)))
+    let run = play("arguments_out_of_range", 36, 400, |_| WRONG_ARGUMENTS)?;
+    run.demand(&[5, 6, 7, 8, 9, 10, 11, 12, 13, 16, 17, 25].map(|refusal| (Seen::Refused(refusal), 5)))
 }
 
 /// Everything, with other weights in each list.
