@@ -47,14 +47,20 @@ static void replies(const char *call, uint8_t refusal, uint8_t number, uint32_t 
     first = second = UNWRITTEN;
 }
 
+/* Makes the port one that was never opened, and the two numbers ready to show whether the first call writes them. */
+static void never_opened(void)
+{
+    memset(port, 0, sizeof port);
+    memset(memory, 0, sizeof memory);
+    first = second = UNWRITTEN;
+}
+
 /* Document 01's sample with a refusal of each call in between, then its case C12, on a port never opened. */
 static void sample(const struct sort *s)
 {
     const size_t p = sizeof port, m = sizeof memory;
 
-    memset(port, 0, p);
-    memset(memory, 0, m);
-    first = second = UNWRITTEN;
+    never_opened();
     replies("transmit", s->transmit(port, p, memory, m, &first, &second), BUNNYSOLDER_CLOSED, 0, 0);
     replies("open", s->open(port, p, memory, m, 23525, 1, &first, &second), BUNNYSOLDER_LINK_RANGE, 0, 0);
     replies("open", s->open(port, p, memory, m, 2620, 1, &first, &second), BUNNYSOLDER_GRANTED, 600, 0);
@@ -92,10 +98,8 @@ static void sample_by_frames(const struct sort *s)
 {
     const size_t p = sizeof port, m = sizeof memory;
 
-    memset(port, 0, p);
-    memset(memory, 0, m);
+    never_opened();
     tag_frame(100);
-    first = second = UNWRITTEN;
     replies("open", s->open(port, p, memory, m, 2620, 1, &first, &second), BUNNYSOLDER_GRANTED, 600, 0);
     replies("reserve", s->reserve(port, p, memory, m, 5, 200, &first, &second), BUNNYSOLDER_GRANTED, 400, 0);
     replies("reserve", s->reserve(port, p, memory, m, 6, 200, &first, &second), BUNNYSOLDER_GRANTED, 200, 0);
@@ -122,9 +126,7 @@ static void withdrawal(const struct sort *s)
     const size_t p = sizeof port, m = sizeof memory;
     int tick;
 
-    memset(port, 0, p);
-    memset(memory, 0, m);
-    first = second = UNWRITTEN;
+    never_opened();
     replies("withdraw", s->withdraw(port, p, memory, m, 5, &first, &second), BUNNYSOLDER_CLOSED, 0, 0);
     replies("open", s->open(port, p, memory, m, 2620, 1, &first, &second), BUNNYSOLDER_GRANTED, 600, 0);
     replies("withdraw", s->withdraw(port, p, memory, m, 5, &first, &second), BUNNYSOLDER_NOT_RESERVED, 0, 0);
@@ -152,9 +154,7 @@ static void longest_frames(const struct sort *s)
 {
     const size_t p = sizeof port, m = sizeof memory, longest = BUNNYSOLDER_LONGEST_FRAME, shortest = BUNNYSOLDER_SHORTEST_FRAME;
 
-    memset(port, 0, p);
-    memset(memory, 0, m);
-    first = second = UNWRITTEN;
+    never_opened();
     replies("open", s->open(port, p, memory, m, 9145, 1, &first, &second), BUNNYSOLDER_GRANTED, 7125, 0);
     replies("reserve", s->reserve(port, p, memory, m, 5, 3563, &first, &second), BUNNYSOLDER_GRANTED, 3562, 0);
     replies("reserve", s->reserve(port, p, memory, m, 6, 2019, &first, &second), BUNNYSOLDER_GRANTED, 1543, 0);

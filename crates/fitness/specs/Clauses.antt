@@ -48,7 +48,7 @@ unlikeEarlier p s = allTo (λ t. cond (boundAt p t) (not (samePair (vidAt p t) (
 abbrev pub bindingsFit : List ℕ → Bool
 bindingsFit p = allTo (λ s. bindingFits p s (unlikeEarlier p s)) streamCount
 
--- "a waiting frame's stream above 63 (best effort: not 255) or charge outside" its range, where `best` is the number of best effort
+-- "a waiting frame's stream above 63 (best effort: not 255) or charge outside 84 to" 2,020, where `best` is the number of best effort
 abbrev pub frameStreamFits : ℕ → ℕ → ℕ → Bool
 frameStreamFits best number stream = cond (eqb number best) (eqb stream bestEffortStream) (ltb stream streamCount)
 

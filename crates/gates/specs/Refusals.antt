@@ -38,7 +38,7 @@ withdrawRefusal p s =
     (cond (drainsAt p s) 25
     (cond (not (streamAt p s .reserved)) 12 0)))
 
--- Arrive: "12 stream not reserved [..]; 13 charge outside" its range
+-- Arrive: "12 stream not reserved [..]; 13 charge outside 84 to" 2,020
 unfoldable pub arriveRefusal : List ℕ → ℕ → ℕ → ℕ
 arriveRefusal p s charge =
     cond (not (openAt p)) 1
@@ -55,7 +55,7 @@ closedRefusal p = cond (not (openAt p)) 1 0
 abbrev pub bestEffortLimit : List ℕ → ℕ
 bestEffortLimit p = delayAt p * (linkAt p - permittedSum p)
 
--- Best effort: "13 charge outside" its range; "15 256 best-effort frames waiting; 16 W + a above K × (L − R)"
+-- Best effort: "13 charge outside 84 to" 2,020; "15 256 best-effort frames waiting; 16 W + a above K × (L − R)"
 unfoldable pub bestEffortRefusal : List ℕ → ℕ → ℕ
 bestEffortRefusal p charge =
     cond (not (openAt p)) 1

@@ -103,7 +103,7 @@ AllSentBefore number es =
     → e .call ≡ arriving s charge tag → e .reply .refusal ≡ 0
     → SentBefore number (record { stream = s; charge = charge; tag = tag; number = length before }) after
 
--- whether an action is an offer of the stream: "each frame" means each arrival of a charge in its range, and "its offers are the same arrivals"
+-- whether an action is an offer of the stream: "each frame" is "each arrival of a charge from 84 to" 2,020, and "its offers are the same arrivals"
 abbrev pub isOfferOf : ℕ → Action → Bool
 isOfferOf s toTick = false
 isOfferOf s toTransmit = false

@@ -96,7 +96,7 @@ long-frames-say =
     record {
       long-happens = happens-quickly (linkOf longestCharge) 1 long-opened longCalls long long-made;
       long-links = link-holds longestCharge long refl;
-      long-joins = λ reply sent said shown happens link. let p = long-prompt reply sent said shown happens link in (p .0, omega (arith, p .1 .0));
+      long-joins = λ reply sent said shown happens link. let p = long-prompt reply sent said shown happens link in (p .0, p .1 .0);
       long-sends = λ reply sent said shown happens link.
           only longFrame longBetween [] (transmitted sent said shown) refl refl
           (long-prompt reply sent said shown happens link .1 .1 (longBetween ++ (transmitted sent said shown ∷ [])) [] quietTick refl refl refl);

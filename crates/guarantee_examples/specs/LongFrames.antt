@@ -1,13 +1,15 @@
 -- Frames of the most octets that there are, and what the theorems say of them: "each frame" reaches to the largest charge, and Frame to the length of
 -- that. Each line follows from the theorem that its comment names, and would be lost with it.
-use Prim.Native.Nat.{ℕ, _+_}
+use Prim.Native.Nat.{ℕ, _+_, _-_}
 use mathlib.Core.Bool.{true}
 use mathlib.Core.Path.{_≡_}
 use mathlib.Core.List.{List, [], _∷_, _++_}
 use Rattle.stream.specs.declared.Reply.{Reply}
+use Rattle.stream.specs.State.{currentPlace}
 use Rattle.stream.specs.Replies.{granted}
 use Rattle.record.specs.Head.{openAt}
-use Rattle.ranges.specs.Ranges.{linkOf}
+use Rattle.ranges.specs.Ranges.{greatestCharge, linkOf}
+use Rattle.header.specs.Header.{onWire}
 use Rattle.gates.specs.FrameRefusals.{frameRefusal}
 use Rattle.steps.specs.Call.{terms, Call, opening, reserving, arriving, ticking, transmitting, joiningBestEffort, binding, framing}
 use Rattle.port.specs.Calls.{called}
@@ -19,10 +21,10 @@ use Rattle.guarantee_examples.specs.LeftOpen.{transmitted}
 
 -- the most octets that a frame may have, and its charge
 abbrev pub longestFrame : ℕ
-longestFrame = 1996
+longestFrame = greatestCharge - onWire
 
 abbrev pub longestCharge : ℕ
-longestCharge = 2020
+longestCharge = greatestCharge
 
 -- a share of just that charge, all of it stream 5's, which offers one longest frame between ticks: the list's calls, the first frame by its octets
 abbrev pub longCalls : List Call
@@ -67,7 +69,7 @@ pub record LongFramesSay : Type 0 where
   pub long-links : LinkCondition longestCharge long
   -- `prompt`: the stream conforms, so its longest frame joins current, and the transmit before the second tick sends it
   pub long-joins : (reply : Reply) (sent : Sent) (said shown : Reply) → let es = longWith reply (transmitted sent said shown) in
-      Happens es → LinkCondition longestCharge es → (reply .refusal ≡ 0) × (reply .first ≡ 1)
+      Happens es → LinkCondition longestCharge es → (reply .refusal ≡ 0) × (reply .first ≡ currentPlace)
   pub long-sends : (reply : Reply) (sent : Sent) (said shown : Reply) → let es = longWith reply (transmitted sent said shown) in
       Happens es → LinkCondition longestCharge es → sent ≡ reservedSent longFrame
   -- `frame-becomes`, `frame-not-17`: a longest frame without a VLAN tag is a Best effort on every record and memory, nowhere refused with 17 ..

@@ -23,31 +23,26 @@ expectedOf c n = getD (c .expected) n (refusedBy 98)
 abbrev byRule : List StreamEvent → ℕ → Reply
 byRule es n = getD (replies (leastQueues - 1) (reserveOf 200) es) n (refusedBy 99)
 
--- a call of a case by its number; the number that it comes with, L, P or a charge; and its tag
+-- a call of a case by its number; what it comes with: a number, L, P or a charge, and a tag
 abbrev callOf : Case → ℕ → Call
 callOf c n = getD (c .calls) n ticking
 
+abbrev givenIn : Call → ℕ × ℕ
+givenIn (opening t) = (t .link, 0)
+givenIn (reserving s permitted) = (permitted, 0)
+givenIn (withdrawing s) = (0, 0)
+givenIn (arriving s charge tag) = (charge, tag)
+givenIn ticking = (0, 0)
+givenIn transmitting = (0, 0)
+givenIn (joiningBestEffort charge tag) = (charge, tag)
+givenIn (binding s address vid) = (0, 0)
+givenIn (framing octets tag) = (0, tag)
+
 abbrev numberIn : Call → ℕ
-numberIn (opening t) = t .link
-numberIn (reserving s permitted) = permitted
-numberIn (withdrawing s) = 0
-numberIn (arriving s charge tag) = charge
-numberIn ticking = 0
-numberIn transmitting = 0
-numberIn (joiningBestEffort charge tag) = charge
-numberIn (binding s address vid) = 0
-numberIn (framing octets tag) = 0
+numberIn c = givenIn c .0
 
 abbrev tagOf : Call → ℕ
-tagOf (opening t) = 0
-tagOf (reserving s permitted) = 0
-tagOf (withdrawing s) = 0
-tagOf (arriving s charge tag) = tag
-tagOf ticking = 0
-tagOf transmitting = 0
-tagOf (joiningBestEffort charge tag) = tag
-tagOf (binding s address vid) = 0
-tagOf (framing octets tag) = tag
+tagOf c = givenIn c .1
 
 -- C1 and C2 are at the ends of L, each with the number beside it
 c1-least : numberIn (callOf c1 1) ≡ linkOf leastCharge

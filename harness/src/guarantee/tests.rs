@@ -450,19 +450,6 @@ fn offers_of_envelope_frames() {
     }
 }
 
-/// The share that the link condition asks for is L less the largest charge.
-#[test]
-fn link_condition_by_the_share() {
-    for (permitted, link) in [(SHARE, Link::ByOctets), (SHARE - 1, Link::Failed)] {
-        let mut hand = Hand::reserved(permitted);
-        let frame = hand.current(permitted);
-        hand.tick();
-        hand.send(frame);
-        hand.tick();
-        assert_eq!(hand.link(), link);
-    }
-}
-
 /// Two lists that are alike give a stream's arrivals the same replies; what is not its own does not count.
 #[test]
 fn pairs_of_lists() {
