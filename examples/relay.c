@@ -3,8 +3,10 @@
  * which the second has to wait for the next epoch, and sends them. Of the first it knows the stream and the charge; the second it gives with its
  * octets, and the port finds both. Meanwhile it sends a gateway's frame of the longest length as best effort. Then the machine that sends the stream
  * is taken off the line, and another one gets its share: the host withdraws the stream, sends the frame that still waits, and asks for the other
- * stream after each tick until it is granted. The set-up goes through the calls that test the whole record. After the granted Open nothing but these
- * calls writes the record and the memory, so the traffic goes through the calls that scan nothing, whose replies are then the same.
+ * stream after each tick until it is granted. At last it serves the node's controller, which sees the port as registers: a discarded frame and a
+ * purged one raise the interrupt line, the host reads which it was and the counters, and clears the flags that it has read; and it ends epochs and
+ * sends by single writes to control. The set-up goes through the calls that test the whole record. After the granted Open nothing but these calls
+ * writes the port and the memory, so the traffic goes through the calls that scan nothing, whose replies are then the same.
  */
 #include <stdio.h>
 #include <stdlib.h>
@@ -15,7 +17,7 @@
 /* The epochs for which stream 6 waits for its octets at most. */
 #define MOST_EPOCHS 8
 
-static uint8_t port[BUNNYSOLDER_RECORD_LENGTH];
+static uint8_t port[BUNNYSOLDER_PORT_LENGTH];
 static uint8_t memory[BUNNYSOLDER_MEMORY_LENGTH];
 static uint32_t first, second;
 
@@ -51,13 +53,17 @@ static void bind(uint8_t stream)
     printf("bind: stream %u has an address and VID 100\n", stream);
 }
 
-/* What became of a frame of stream 5: where it has joined, or that the stream drains. */
+/* What became of a frame of stream 5: where it has joined, or that it was discarded or the stream drains. */
 static void came(const char *call, uint32_t tag, uint8_t refusal)
 {
     static const char *const places[] = { "", "current", "next", "last" };
 
     if (refusal == BUNNYSOLDER_DRAINING) {
         printf("%s: frame %u is refused with %u, its stream drains\n", call, tag, refusal);
+        return;
+    }
+    if (refusal == BUNNYSOLDER_DISCARD) {
+        printf("%s: frame %u is refused with %u, it is discarded\n", call, tag, refusal);
         return;
     }
     granted(call, refusal);
@@ -89,16 +95,22 @@ static void gateway_frame(uint32_t tag)
     printf("frame: frame %u is best effort, where %u octets wait\n", tag, first);
 }
 
+/* What a call that transmits has replied. */
+static void sent(const char *call)
+{
+    if (first == BUNNYSOLDER_NOTHING)
+        printf("%s: nothing\n", call);
+    else if (first == BUNNYSOLDER_BEST_EFFORT)
+        printf("%s: frame %u of best effort\n", call, second);
+    else
+        printf("%s: frame %u of stream %u\n", call, second, first);
+}
+
 /* The link can send. */
 static void transmit(void)
 {
     granted("transmit", bunnysolder_transmit_unscanned(port, sizeof port, memory, sizeof memory, &first, &second));
-    if (first == BUNNYSOLDER_NOTHING)
-        printf("transmit: nothing\n");
-    else if (first == BUNNYSOLDER_BEST_EFFORT)
-        printf("transmit: frame %u of best effort\n", second);
-    else
-        printf("transmit: frame %u of stream %u\n", second, first);
+    sent("transmit");
 }
 
 /* The epoch ends. */
@@ -140,6 +152,75 @@ static void take_off_the_line(void)
     reserve(5, 100);
 }
 
+/* The controller reads a register. */
+static uint32_t read_register(uint32_t offset)
+{
+    granted("register read", bunnysolder_register_read_unscanned(port, sizeof port, memory, sizeof memory, offset, &first, &second));
+    return first;
+}
+
+/* The controller writes a register. */
+static void write_register(uint32_t offset, uint32_t value)
+{
+    granted("register write", bunnysolder_register_write_unscanned(port, sizeof port, memory, sizeof memory, offset, value, &first, &second));
+}
+
+/* The epoch ends and the link can send, by one write. */
+static void tick_and_transmit(void)
+{
+    write_register(BUNNYSOLDER_REGISTER_CONTROL, BUNNYSOLDER_CONTROL_TICK | BUNNYSOLDER_CONTROL_TRANSMIT);
+    sent("control");
+}
+
+/* Whether the interrupt line is up. */
+static int interrupted(void)
+{
+    int up = (read_register(BUNNYSOLDER_REGISTER_STATUS) & BUNNYSOLDER_STATUS_INTERRUPT) != 0;
+
+    printf("status: the interrupt line is %s\n", up ? "up" : "down");
+    return up;
+}
+
+/* The flags in words. */
+static void tell(uint32_t flags)
+{
+    if (flags & BUNNYSOLDER_FLAG_DISCARD)
+        printf("flag: a frame was discarded\n");
+    if (flags & BUNNYSOLDER_FLAG_PURGE)
+        printf("flag: a tick purged frames\n");
+    if (flags & BUNNYSOLDER_FLAG_NOTHING)
+        printf("flag: a transmit had nothing to send\n");
+}
+
+/* Serves the interrupts until the line is down: tells flags and counters, and clears the flags that it has read by writing them back. */
+static void serve_interrupts(void)
+{
+    while (interrupted()) {
+        uint32_t flags = read_register(BUNNYSOLDER_REGISTER_FLAGS);
+
+        tell(flags);
+        printf("counters: %u frames accepted, %u discarded, %u sent\n", read_register(BUNNYSOLDER_REGISTER_ACCEPTED),
+               read_register(BUNNYSOLDER_REGISTER_DISCARDED), read_register(BUNNYSOLDER_REGISTER_SENT));
+        write_register(BUNNYSOLDER_REGISTER_FLAGS, flags);
+    }
+}
+
+/* Stream 5 has 100 octets per epoch now. The charge of frame 22 is over that, so it is discarded. No transmit follows the tick between the two
+ * writes to control, so the tick of the second one purges frame 21. Each raises the interrupt line. */
+static void serve_the_controller(void)
+{
+    write_register(BUNNYSOLDER_REGISTER_MASK, BUNNYSOLDER_FLAG_DISCARD | BUNNYSOLDER_FLAG_PURGE);
+    printf("mask: a discard and a purge raise the interrupt line\n");
+    arrive(84, 20);
+    arrive(84, 21);
+    arrive(101, 22);
+    serve_interrupts();
+    tick_and_transmit();
+    tick();
+    tick_and_transmit();
+    serve_interrupts();
+}
+
 int main(void)
 {
     granted("open", bunnysolder_open(port, sizeof port, memory, sizeof memory, 2620, 1, &first, &second));
@@ -148,5 +229,6 @@ int main(void)
     bind(5);
     relay();
     take_off_the_line();
+    serve_the_controller();
     return EXIT_SUCCESS;
 }

@@ -1,6 +1,6 @@
 /*
  * Every function that bunnysolder.h declares, called through it: both sorts of call play document 01's sample, by charges and by frames, and a
- * withdrawal and the longest frames of document 02, and must reply what the documents say. The last line is the total.
+ * withdrawal, the longest frames and the registers of document 02, and must reply what the documents say. The last line is the total.
  */
 #include <stdio.h>
 #include <string.h>
@@ -19,20 +19,22 @@ struct sort {
     uint8_t (*bind)(uint8_t *, size_t, const uint8_t *, size_t, uint8_t, const uint8_t *, uint32_t, uint32_t *, uint32_t *);
     uint8_t (*frame)(uint8_t *, size_t, uint8_t *, size_t, const uint8_t *, size_t, uint32_t, uint32_t *, uint32_t *);
     uint8_t (*withdraw)(uint8_t *, size_t, const uint8_t *, size_t, uint8_t, uint32_t *, uint32_t *);
+    uint8_t (*register_read)(const uint8_t *, size_t, const uint8_t *, size_t, uint32_t, uint32_t *, uint32_t *);
+    uint8_t (*register_write)(uint8_t *, size_t, const uint8_t *, size_t, uint32_t, uint32_t, uint32_t *, uint32_t *);
 };
 
 static const struct sort sorts[] = {
     { "the calls", bunnysolder_open, bunnysolder_reserve, bunnysolder_arrive, bunnysolder_tick, bunnysolder_transmit,
-      bunnysolder_best_effort, bunnysolder_bind, bunnysolder_frame, bunnysolder_withdraw },
+      bunnysolder_best_effort, bunnysolder_bind, bunnysolder_frame, bunnysolder_withdraw, bunnysolder_register_read, bunnysolder_register_write },
     { "the unscanned calls", bunnysolder_open_unscanned, bunnysolder_reserve_unscanned, bunnysolder_arrive_unscanned,
       bunnysolder_tick_unscanned, bunnysolder_transmit_unscanned, bunnysolder_best_effort_unscanned, bunnysolder_bind_unscanned,
-      bunnysolder_frame_unscanned, bunnysolder_withdraw_unscanned },
+      bunnysolder_frame_unscanned, bunnysolder_withdraw_unscanned, bunnysolder_register_read_unscanned, bunnysolder_register_write_unscanned },
 };
 
 /* What the two reply numbers hold before a call. */
 #define UNWRITTEN 0xA5A55A5Au
 
-static uint8_t port[BUNNYSOLDER_RECORD_LENGTH];
+static uint8_t port[BUNNYSOLDER_PORT_LENGTH];
 static uint8_t memory[BUNNYSOLDER_MEMORY_LENGTH];
 static uint32_t first, second;
 static int wrong;
@@ -78,6 +80,7 @@ static void sample(const struct sort *s)
     replies("best effort", s->best_effort(port, p, memory, m, 84, 12, &first, &second), BUNNYSOLDER_LIMIT_EXCEEDED, 0, 0);
     replies("transmit", s->transmit(port, p, memory, m, &first, &second), BUNNYSOLDER_GRANTED, BUNNYSOLDER_BEST_EFFORT, 10);
     replies("tick", s->tick(port, p, memory, m - 1, &first, &second), BUNNYSOLDER_SHORT_MEMORY, 0, 0);
+    replies("tick", s->tick(port, p - 1, memory, m, &first, &second), BUNNYSOLDER_UNFIT_RECORD, 0, 0);
 }
 
 /* An address to bind to, and room for frames to it, one octet more than the longest has. */
@@ -177,6 +180,169 @@ static void longest_frames(const struct sort *s)
     replies("frame", s->frame(port, p, memory, m, frame, shortest, 18, &first, &second), BUNNYSOLDER_LIMIT_EXCEEDED, 0, 0);
 }
 
+/* A value with each of its bits one, a mask with some above the flags' bits, and the last offset that a register can have. */
+#define ALL_ONES 0xFFFFFFFFu
+#define WIDE_MASK 0xABCDEF12u
+#define LAST_OFFSET 60
+
+/* A register must read a value. */
+static void reads(const struct sort *s, uint32_t offset, uint32_t value)
+{
+    replies("register read", s->register_read(port, sizeof port, memory, sizeof memory, offset, &first, &second), BUNNYSOLDER_GRANTED, value, 0);
+}
+
+/* A write to a register must be refused with a number, or with 0 reply two numbers. */
+static void writes(const struct sort *s, uint32_t offset, uint32_t value, uint8_t number, uint32_t one, uint32_t two)
+{
+    replies("register write", s->register_write(port, sizeof port, memory, sizeof memory, offset, value, &first, &second), number, one, two);
+}
+
+/* Offsets that are no multiple of 4 or above 60 are refused, before the memory's length (18), and that before the port's (19). */
+static void register_refusals(const struct sort *s)
+{
+    static const uint32_t outside[] = { 1, 2, 3, 5, 59, 61, 62, 63, 64, 68, 256, 65536, ALL_ONES - 3, ALL_ONES };
+    const size_t p = sizeof port, m = sizeof memory;
+    const uint32_t control = BUNNYSOLDER_REGISTER_CONTROL, mask = BUNNYSOLDER_REGISTER_MASK;
+    size_t i;
+
+    never_opened();
+    for (i = 0; i < sizeof outside / sizeof *outside; i++) {
+        replies("register read", s->register_read(port, p - 1, memory, m - 1, outside[i], &first, &second), BUNNYSOLDER_OFFSET_RANGE, 0, 0);
+        replies("register write", s->register_write(port, p - 1, memory, m - 1, outside[i], 3, &first, &second), BUNNYSOLDER_OFFSET_RANGE, 0, 0);
+    }
+    replies("register read", s->register_read(port, p - 1, memory, m - 1, LAST_OFFSET, &first, &second), BUNNYSOLDER_SHORT_MEMORY, 0, 0);
+    replies("register read", s->register_read(port, p, memory, m - 1, control, &first, &second), BUNNYSOLDER_SHORT_MEMORY, 0, 0);
+    replies("register read", s->register_read(port, p - 1, memory, m, control, &first, &second), BUNNYSOLDER_UNFIT_RECORD, 0, 0);
+    replies("register write", s->register_write(port, p - 1, memory, m - 1, control, 1, &first, &second), BUNNYSOLDER_SHORT_MEMORY, 0, 0);
+    replies("register write", s->register_write(port, p, memory, m - 1, mask, 1, &first, &second), BUNNYSOLDER_SHORT_MEMORY, 0, 0);
+    replies("register write", s->register_write(port, p - 1, memory, m, control, 1, &first, &second), BUNNYSOLDER_UNFIT_RECORD, 0, 0);
+    replies("register write", s->register_write(port, p - 1, memory, m, mask, 1, &first, &second), BUNNYSOLDER_UNFIT_RECORD, 0, 0);
+    reads(s, mask, 0);
+}
+
+/* A closed port refuses ticks and transmits (1), and keeps a mask; a refused Open leaves the mask and a granted one makes it zero. */
+static void registers_of_a_closed_port(const struct sort *s)
+{
+    const size_t p = sizeof port, m = sizeof memory;
+    uint32_t offset;
+
+    never_opened();
+    for (offset = 0; offset <= LAST_OFFSET; offset += 4)
+        reads(s, offset, 0);
+    writes(s, BUNNYSOLDER_REGISTER_CONTROL, BUNNYSOLDER_CONTROL_TICK, BUNNYSOLDER_CLOSED, 0, 0);
+    writes(s, BUNNYSOLDER_REGISTER_CONTROL, BUNNYSOLDER_CONTROL_TRANSMIT, BUNNYSOLDER_CLOSED, 0, 0);
+    writes(s, BUNNYSOLDER_REGISTER_CONTROL, ALL_ONES, BUNNYSOLDER_CLOSED, 0, 0);
+    writes(s, BUNNYSOLDER_REGISTER_CONTROL, ALL_ONES - BUNNYSOLDER_CONTROL_TICK - BUNNYSOLDER_CONTROL_TRANSMIT, BUNNYSOLDER_GRANTED, 0, 0);
+    writes(s, BUNNYSOLDER_REGISTER_FLAGS, ALL_ONES, BUNNYSOLDER_GRANTED, 0, 0);
+    writes(s, BUNNYSOLDER_REGISTER_MASK, WIDE_MASK, BUNNYSOLDER_GRANTED, 0, 0);
+    reads(s, BUNNYSOLDER_REGISTER_MASK, WIDE_MASK);
+    reads(s, BUNNYSOLDER_REGISTER_FLAGS, 0);
+    reads(s, BUNNYSOLDER_REGISTER_STATUS, 0);
+    replies("open", s->open(port, p, memory, m, 2103, 1, &first, &second), BUNNYSOLDER_LINK_RANGE, 0, 0);
+    reads(s, BUNNYSOLDER_REGISTER_MASK, WIDE_MASK);
+    replies("open", s->open(port, p, memory, m, 2620, 1, &first, &second), BUNNYSOLDER_GRANTED, 600, 0);
+    reads(s, BUNNYSOLDER_REGISTER_MASK, 0);
+    reads(s, BUNNYSOLDER_REGISTER_STATUS, BUNNYSOLDER_STATUS_OPEN);
+}
+
+/* Opens the port with stream 5 on it, P 200, and has a discard or a purge raise the interrupt line. */
+static void open_with_mask(const struct sort *s)
+{
+    const size_t p = sizeof port, m = sizeof memory;
+
+    never_opened();
+    replies("open", s->open(port, p, memory, m, 2620, 1, &first, &second), BUNNYSOLDER_GRANTED, 600, 0);
+    replies("reserve", s->reserve(port, p, memory, m, 5, 200, &first, &second), BUNNYSOLDER_GRANTED, 400, 0);
+    writes(s, BUNNYSOLDER_REGISTER_MASK, BUNNYSOLDER_FLAG_DISCARD | BUNNYSOLDER_FLAG_PURGE, BUNNYSOLDER_GRANTED, 0, 0);
+}
+
+/*
+ * A charge of 201 is over P, so it is discarded: its flag raises the line, and the line falls where the flag is cleared. A charge of 83 is no discard
+ * (13). An Open that is refused (2) leaves flags, mask and counters.
+ */
+static void discard_raises_the_line(const struct sort *s)
+{
+    const size_t p = sizeof port, m = sizeof memory;
+
+    open_with_mask(s);
+    replies("arrive", s->arrive(port, p, memory, m, 5, 120, 7, &first, &second), BUNNYSOLDER_GRANTED, BUNNYSOLDER_CURRENT, 80);
+    replies("arrive", s->arrive(port, p, memory, m, 5, 83, 8, &first, &second), BUNNYSOLDER_CHARGE_RANGE, 0, 0);
+    reads(s, BUNNYSOLDER_REGISTER_STATUS, BUNNYSOLDER_STATUS_OPEN);
+    replies("arrive", s->arrive(port, p, memory, m, 5, 201, 9, &first, &second), BUNNYSOLDER_DISCARD, 0, 0);
+    reads(s, BUNNYSOLDER_REGISTER_STATUS, BUNNYSOLDER_STATUS_OPEN | BUNNYSOLDER_STATUS_INTERRUPT);
+    replies("open", s->open(port, p, memory, m, 2620, 1, &first, &second), BUNNYSOLDER_OPEN_ALREADY, 0, 0);
+    reads(s, BUNNYSOLDER_REGISTER_FLAGS, BUNNYSOLDER_FLAG_DISCARD);
+    writes(s, BUNNYSOLDER_REGISTER_FLAGS, BUNNYSOLDER_FLAG_PURGE | BUNNYSOLDER_FLAG_NOTHING, BUNNYSOLDER_GRANTED, 0, 0);
+    reads(s, BUNNYSOLDER_REGISTER_FLAGS, BUNNYSOLDER_FLAG_DISCARD);
+    writes(s, BUNNYSOLDER_REGISTER_FLAGS, BUNNYSOLDER_FLAG_DISCARD, BUNNYSOLDER_GRANTED, 0, 0);
+    reads(s, BUNNYSOLDER_REGISTER_FLAGS, 0);
+    reads(s, BUNNYSOLDER_REGISTER_STATUS, BUNNYSOLDER_STATUS_OPEN);
+    reads(s, BUNNYSOLDER_REGISTER_MASK, BUNNYSOLDER_FLAG_DISCARD | BUNNYSOLDER_FLAG_PURGE);
+    reads(s, BUNNYSOLDER_REGISTER_ACCEPTED, 1);
+    reads(s, BUNNYSOLDER_REGISTER_DISCARDED, 1);
+    reads(s, BUNNYSOLDER_REGISTER_SENT, 0);
+}
+
+/*
+ * Writes to control tick and transmit. Charges 120 and 100 join current and next, and 84 best effort. The first tick makes 120 prior; the second
+ * purges it and makes 100 prior, which the transmit of the same write sends; then best effort is sent, and then nothing, whose flag is not in the
+ * mask.
+ */
+static void control_ticks_and_transmits(const struct sort *s)
+{
+    const size_t p = sizeof port, m = sizeof memory;
+
+    open_with_mask(s);
+    replies("arrive", s->arrive(port, p, memory, m, 5, 120, 7, &first, &second), BUNNYSOLDER_GRANTED, BUNNYSOLDER_CURRENT, 80);
+    replies("arrive", s->arrive(port, p, memory, m, 5, 100, 8, &first, &second), BUNNYSOLDER_GRANTED, BUNNYSOLDER_NEXT, 100);
+    replies("best effort", s->best_effort(port, p, memory, m, 84, 9, &first, &second), BUNNYSOLDER_GRANTED, 84, 0);
+    writes(s, BUNNYSOLDER_REGISTER_CONTROL, BUNNYSOLDER_CONTROL_TICK, BUNNYSOLDER_GRANTED, 0, 0);
+    reads(s, BUNNYSOLDER_REGISTER_FLAGS, 0);
+    writes(s, BUNNYSOLDER_REGISTER_CONTROL, BUNNYSOLDER_CONTROL_TICK | BUNNYSOLDER_CONTROL_TRANSMIT, BUNNYSOLDER_GRANTED, 5, 8);
+    reads(s, BUNNYSOLDER_REGISTER_FLAGS, BUNNYSOLDER_FLAG_PURGE);
+    reads(s, BUNNYSOLDER_REGISTER_STATUS, BUNNYSOLDER_STATUS_OPEN | BUNNYSOLDER_STATUS_INTERRUPT);
+    writes(s, BUNNYSOLDER_REGISTER_FLAGS, ALL_ONES, BUNNYSOLDER_GRANTED, 0, 0);
+    writes(s, BUNNYSOLDER_REGISTER_CONTROL, BUNNYSOLDER_CONTROL_TRANSMIT, BUNNYSOLDER_GRANTED, BUNNYSOLDER_BEST_EFFORT, 9);
+    writes(s, BUNNYSOLDER_REGISTER_CONTROL, BUNNYSOLDER_CONTROL_TRANSMIT, BUNNYSOLDER_GRANTED, BUNNYSOLDER_NOTHING, 0);
+    reads(s, BUNNYSOLDER_REGISTER_FLAGS, BUNNYSOLDER_FLAG_NOTHING);
+    reads(s, BUNNYSOLDER_REGISTER_STATUS, BUNNYSOLDER_STATUS_OPEN);
+    reads(s, BUNNYSOLDER_REGISTER_CONTROL, 0);
+    reads(s, BUNNYSOLDER_REGISTER_ACCEPTED, 3);
+    reads(s, BUNNYSOLDER_REGISTER_DISCARDED, 0);
+    reads(s, BUNNYSOLDER_REGISTER_SENT, 2);
+}
+
+/* After two accepted frames, of which one was sent, no write to an offset but those of control, flags and mask changes what is read. */
+static void writes_that_do_nothing(const struct sort *s)
+{
+    const size_t p = sizeof port, m = sizeof memory;
+    uint32_t offset;
+
+    open_with_mask(s);
+    replies("arrive", s->arrive(port, p, memory, m, 5, 120, 7, &first, &second), BUNNYSOLDER_GRANTED, BUNNYSOLDER_CURRENT, 80);
+    replies("best effort", s->best_effort(port, p, memory, m, 84, 8, &first, &second), BUNNYSOLDER_GRANTED, 84, 0);
+    replies("transmit", s->transmit(port, p, memory, m, &first, &second), BUNNYSOLDER_GRANTED, 5, 7);
+    writes(s, BUNNYSOLDER_REGISTER_STATUS, ALL_ONES, BUNNYSOLDER_GRANTED, 0, 0);
+    for (offset = BUNNYSOLDER_REGISTER_ACCEPTED; offset <= LAST_OFFSET; offset += 4) {
+        writes(s, offset, ALL_ONES, BUNNYSOLDER_GRANTED, 0, 0);
+        reads(s, offset, offset == BUNNYSOLDER_REGISTER_ACCEPTED ? 2 : offset == BUNNYSOLDER_REGISTER_SENT ? 1 : 0);
+    }
+    writes(s, BUNNYSOLDER_REGISTER_CONTROL, 0, BUNNYSOLDER_GRANTED, 0, 0);
+    reads(s, BUNNYSOLDER_REGISTER_STATUS, BUNNYSOLDER_STATUS_OPEN);
+    reads(s, BUNNYSOLDER_REGISTER_FLAGS, 0);
+    reads(s, BUNNYSOLDER_REGISTER_MASK, BUNNYSOLDER_FLAG_DISCARD | BUNNYSOLDER_FLAG_PURGE);
+}
+
+/* The registers, each function of them with good and bad arguments. */
+static void registers(const struct sort *s)
+{
+    register_refusals(s);
+    registers_of_a_closed_port(s);
+    discard_raises_the_line(s);
+    control_ticks_and_transmits(s);
+    writes_that_do_nothing(s);
+}
+
 int main(void)
 {
     int passed = 0, failed = 0;
@@ -188,6 +354,7 @@ int main(void)
         sample_by_frames(&sorts[i]);
         withdrawal(&sorts[i]);
         longest_frames(&sorts[i]);
+        registers(&sorts[i]);
         printf("test %s through the header: %s\n", sorts[i].name, wrong ? "FAILED" : "ok");
         if (wrong)
             failed++;

@@ -1,29 +1,30 @@
 /*
- * The calls of a paternoster port, for a host that lends it a record and a memory for frames. The rule of the port and the numbers of its
- * refusals are those of the project's document 01 and of the requests of document 02 up to BUNNYSOLDER_EDITION; each function is proved to meet the
- * definition that was drawn from them.
+ * The calls of a paternoster port, for a host that lends it its octets and a memory for frames, and the registers that a node's controller sees of
+ * it. The rule of the port and the numbers of its refusals are those of the project's document 01 and of the requests of document 02 up to
+ * BUNNYSOLDER_EDITION; each function is proved to meet the definition that was drawn from them.
  *
- * What is lent. `port` is the port record: BUNNYSOLDER_RECORD_LENGTH octets or more. `memory` holds the waiting frames:
- * BUNNYSOLDER_MEMORY_LENGTH octets or more. Octets past these lengths are neither read nor written. Both may hold anything: a call tests what
- * it is given (18 and 19 below) and never reads or writes outside the two, but for the `address` of Bind and the `octets` of Frame, which it
- * reads. A record of zeros is a port that is closed, and may be opened.
+ * What is lent. `port` is the port: BUNNYSOLDER_PORT_LENGTH octets or more. First comes the record, with queues, streams and bindings, and after
+ * it the register block, with the flags, the interrupt mask and the counters that enum bunnysolder_register names. `memory` holds the waiting
+ * frames: BUNNYSOLDER_MEMORY_LENGTH octets or more. Octets past these lengths are neither read nor written. Both may hold anything: a call tests
+ * what it is given (18 and 19 below) and never reads or writes outside the two, but for the `address` of Bind and the `octets` of Frame, which it
+ * reads. A port of zeros is closed, and may be opened; a granted Open makes the whole block zeros, whatever it held.
  *
  * What C has to keep. Each pointer is not null and points to as many octets as its length says; `address` points to
  * BUNNYSOLDER_ADDRESS_LENGTH octets. `port`, `memory`, `address`, `octets`, `*first` and `*second` do not overlap. While a call runs nobody else
- * reads or writes `port`, `memory`, `*first` and `*second`, and nobody writes `address` and `octets`, which the call only reads. C cannot be asked
- * for these, and no call can test them.
+ * reads or writes `port`, `memory`, `*first` and `*second`, and nobody writes `address` and `octets`, which the call only reads. A register read
+ * only reads `port` and `memory` too, so others may read them meanwhile. C cannot be asked for these, and no call can test them.
  *
  * What comes back. A call returns 0, or the number of its refusal, and leaves its two reply numbers in `*first` and `*second`. Both are always
- * written; a refusal leaves two zeros there, and record and memory as they were. BUNNYSOLDER_DISCARD alone also moves its stream: to place
- * last, with nothing left. Of the refusals that apply the first in the order given at each function is returned.
+ * written; a refusal leaves two zeros there, and port and memory as they were. BUNNYSOLDER_DISCARD alone also moves its stream, to place last with
+ * nothing left, and raises its flag and its count in the block. Of the refusals that apply the first in the order given at each function is returned.
  *
- * Two sorts. Each call is there twice. bunnysolder_NAME tests the whole record and its waiting frames (19) before its own refusals, which takes the
- * longer the more frames wait and the more streams are bound. bunnysolder_NAME_unscanned scans nothing: of 18 and 19 it asks only the two lengths,
- * and then does the same. On every record that is fit (one that 19 does not refuse) the two are equal in reply, record and memory, and leave it fit;
- * and a granted Open of either sort leaves a fit record. So a host that opens its port by a granted Open, lets nothing but these calls write record
- * and memory from then on, and always lends the two together, gets the same from both sorts. On a record that is not fit an unscanned call
- * still ends, and reads and writes nothing but record, memory, the two numbers and what it is given to read, but its reply and what it leaves need
- * not be the rule's.
+ * Two sorts. Each call is there twice. bunnysolder_NAME tests the whole record and its waiting frames (19) before its own refusals, of which 26 alone
+ * comes earlier; that takes the longer the more frames wait and the more streams are bound. bunnysolder_NAME_unscanned scans nothing: of 18 and 19
+ * it asks only the two lengths, and then does the same. On every record that is fit (one that 19 does not refuse) the two are equal in reply, port
+ * and memory, and leave it fit; and a granted Open of either sort leaves a fit record. The block makes no record unfit, whatever it holds. So a host
+ * that opens its port by a granted Open, lets nothing but these calls write port and memory from then on, and always lends the two together, gets
+ * the same from both sorts. On a record that is not fit an unscanned call still ends, and reads and writes nothing but port, memory, the two numbers
+ * and what it is given to read, but its reply and what it leaves need not be the rule's.
  */
 #ifndef BUNNYSOLDER_H
 #define BUNNYSOLDER_H
@@ -36,10 +37,10 @@ extern "C" {
 #endif
 
 /* The edition of the rule: the number of the last request of document 02 that the rule has; 0 is document 01 alone. */
-#define BUNNYSOLDER_EDITION 2
+#define BUNNYSOLDER_EDITION 3
 
-/* The octets of a port record, and of the memory for 1,280 frames. */
-#define BUNNYSOLDER_RECORD_LENGTH 1088
+/* The octets of a port, which are its record and its register block, and of the memory for 1,280 frames. */
+#define BUNNYSOLDER_PORT_LENGTH 1616
 #define BUNNYSOLDER_MEMORY_LENGTH 10240
 
 /* The octets of a destination address. */
@@ -70,9 +71,10 @@ enum bunnysolder_refusal {
     BUNNYSOLDER_LIMIT_EXCEEDED = 16,     /* W, with the charge in it, would be above K x (L - R) */
     BUNNYSOLDER_FRAME_LENGTH = 17,       /* the frame is shorter than BUNNYSOLDER_SHORTEST_FRAME or longer than BUNNYSOLDER_LONGEST_FRAME */
     BUNNYSOLDER_SHORT_MEMORY = 18,       /* the memory is shorter than BUNNYSOLDER_MEMORY_LENGTH */
-    BUNNYSOLDER_UNFIT_RECORD = 19,       /* the record is unfit, or shorter than BUNNYSOLDER_RECORD_LENGTH */
+    BUNNYSOLDER_UNFIT_RECORD = 19,       /* the record is unfit, or the port shorter than BUNNYSOLDER_PORT_LENGTH */
     BUNNYSOLDER_QUEUE_FULL = 20,         /* the chosen queue holds 256 frames; never met from a granted Open on, while nobody else writes */
-    BUNNYSOLDER_DRAINING = 25            /* the stream was withdrawn, and drains */
+    BUNNYSOLDER_DRAINING = 25,           /* the stream was withdrawn, and drains */
+    BUNNYSOLDER_OFFSET_RANGE = 26        /* the offset is no multiple of 4, or above 60 */
 };
 
 /* The first reply number of Arrive, also where a Frame becomes one: the queue that the frame has joined. */
@@ -82,8 +84,32 @@ enum bunnysolder_place { BUNNYSOLDER_CURRENT = 1, BUNNYSOLDER_NEXT = 2, BUNNYSOL
 enum bunnysolder_sent { BUNNYSOLDER_NOTHING = 254, BUNNYSOLDER_BEST_EFFORT = 255 };
 
 /*
- * Open(L, K): empties the queues, drops all reservations and bindings, and ends all draining. `link` is L, the link octets in an epoch; `delay` is
- * K, the best-effort delay bound in epochs. Replies the share, L - 2,020, and 0. Refusals: 18 19 2 3 4.
+ * The registers of a port by their offsets in 64 octets: each is a number of 32 bits, whose high octet is the one at its offset. All others of the 64
+ * octets read zero. Flags, mask and counters are 0 after a granted Open. Flags and counters follow every call on the port, whichever function makes
+ * it; of the refusals BUNNYSOLDER_DISCARD alone sets a flag or a counter. A counter goes on to 0 after 4,294,967,295.
+ */
+enum bunnysolder_register {
+    BUNNYSOLDER_REGISTER_CONTROL = 0,    /* a write ticks and transmits (enum bunnysolder_control); reads zero */
+    BUNNYSOLDER_REGISTER_STATUS = 4,     /* whether the port is open and the interrupt line is up (enum bunnysolder_status) */
+    BUNNYSOLDER_REGISTER_FLAGS = 8,      /* what has happened (enum bunnysolder_flag); writing a one to a flag clears it */
+    BUNNYSOLDER_REGISTER_MASK = 12,      /* the interrupt mask, kept as written; the interrupt line is up exactly when flags and mask share a one */
+    BUNNYSOLDER_REGISTER_ACCEPTED = 16,  /* how many frames were accepted: those of Arrive, Best effort and Frame */
+    BUNNYSOLDER_REGISTER_DISCARDED = 20, /* how many frames were discarded (14) */
+    BUNNYSOLDER_REGISTER_SENT = 24       /* how many frames Transmit has replied: those of streams and of best effort */
+};
+
+/* The bits of the control register; the tick comes first. A one in another bit does nothing. */
+enum bunnysolder_control { BUNNYSOLDER_CONTROL_TICK = 1, BUNNYSOLDER_CONTROL_TRANSMIT = 2 };
+
+/* The bits of the status register. */
+enum bunnysolder_status { BUNNYSOLDER_STATUS_OPEN = 1, BUNNYSOLDER_STATUS_INTERRUPT = 2 };
+
+/* The bits of the flags: a frame was discarded (14), a tick purged at least one frame, a Transmit had nothing to send. */
+enum bunnysolder_flag { BUNNYSOLDER_FLAG_DISCARD = 1, BUNNYSOLDER_FLAG_PURGE = 2, BUNNYSOLDER_FLAG_NOTHING = 4 };
+
+/*
+ * Open(L, K): empties the queues, drops all reservations and bindings, ends all draining, and makes the register block zeros. `link` is L, the link
+ * octets in an epoch; `delay` is K, the best-effort delay bound in epochs. Replies the share, L - 2,020, and 0. Refusals: 18 19 2 3 4.
  */
 uint8_t bunnysolder_open(uint8_t *port, size_t port_length, const uint8_t *memory, size_t memory_length,
                          uint32_t link, uint32_t delay, uint32_t *first, uint32_t *second);
@@ -170,6 +196,27 @@ uint8_t bunnysolder_withdraw(uint8_t *port, size_t port_length, const uint8_t *m
                              uint8_t stream, uint32_t *first, uint32_t *second);
 uint8_t bunnysolder_withdraw_unscanned(uint8_t *port, size_t port_length, const uint8_t *memory, size_t memory_length,
                                        uint8_t stream, uint32_t *first, uint32_t *second);
+
+/*
+ * Register read(offset): replies the register at the offset (enum bunnysolder_register) and 0, on a closed port as on an open one. It writes
+ * neither port nor memory. Refusals: 26 18 19.
+ */
+uint8_t bunnysolder_register_read(const uint8_t *port, size_t port_length, const uint8_t *memory, size_t memory_length,
+                                  uint32_t offset, uint32_t *first, uint32_t *second);
+uint8_t bunnysolder_register_read_unscanned(const uint8_t *port, size_t port_length, const uint8_t *memory, size_t memory_length,
+                                            uint32_t offset, uint32_t *first, uint32_t *second);
+
+/*
+ * Register write(offset, value): a write to control is a Tick where the value has BUNNYSOLDER_CONTROL_TICK, then a Transmit where it has
+ * BUNNYSOLDER_CONTROL_TRANSMIT, and replies as the last of these calls; with both bits that is the Transmit, and the flags show whether the Tick
+ * purged. A write to the flags clears those that are one in the value and leaves the others; one to the mask is kept. A write to any other offset
+ * does nothing. All these writes, and one to control with neither bit, reply two zeros. Refusals: 26 18 19, and then 1 only for a write to control
+ * with one of the two bits: the flags and the mask of a closed port may be written.
+ */
+uint8_t bunnysolder_register_write(uint8_t *port, size_t port_length, const uint8_t *memory, size_t memory_length,
+                                   uint32_t offset, uint32_t value, uint32_t *first, uint32_t *second);
+uint8_t bunnysolder_register_write_unscanned(uint8_t *port, size_t port_length, const uint8_t *memory, size_t memory_length,
+                                             uint32_t offset, uint32_t value, uint32_t *first, uint32_t *second);
 
 #ifdef __cplusplus
 }

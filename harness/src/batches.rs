@@ -22,6 +22,13 @@ const BATCH: usize = 64;
 /// The streams of a port with few.
 const FEW: u8 = 4;
 
+/// The offsets of control, status and the interrupt mask, and the bits of control.
+const CONTROL: u32 = 0;
+const STATUS: u32 = 4;
+const MASK: u32 = 12;
+const TICKS: u32 = 1;
+const TRANSMITS: u32 = 2;
+
 /// The VID to which every stream is bound.
 const VID: u16 = 1;
 
@@ -72,7 +79,7 @@ impl Batch {
         assert!(by_call == self.run(model::call), "{}: the outside program parts from the calls", self.what);
     }
 
-    /// The replies of the batch on one side, and the record and memory after it.
+    /// The replies of the batch on one side, and the port and memory after it.
     fn run(&self, side: Play) -> (Vec<Reply>, Vec<u8>, Vec<u8>) {
         let Octets { mut record, mut memory } = self.port.clone();
         let replies = self.calls.iter().map(|call| side(&call.given(), &mut record, &mut memory)).collect();
@@ -84,12 +91,25 @@ impl Batch {
 fn few() -> Vec<Batch> {
     let arrivals = arrivals(FEW.into());
     let arrived = after(opened(FEW), &arrivals);
-    vec![
+    let mut batches = vec![
         Batch::granted("arrive", opened(FEW), arrivals.clone()),
-        Batch::granted("transmit", arrived, vec![Call::Transmit; BATCH]),
+        Batch::granted("transmit", arrived.clone(), vec![Call::Transmit; BATCH]),
         Batch { refusal: DISCARD, ..Batch::granted("arrive, discarded", spent(), arrivals) },
         Batch::granted("tick, nothing to purge", opened(FEW), vec![Call::Tick; BATCH]),
         Batch::granted("best effort", opened(FEW), best_effort()),
+    ];
+    batches.extend(registers(opened(FEW), arrived));
+    batches
+}
+
+/// The batches of accesses to registers, of which the last starts from a port with a batch of frames to send.
+fn registers(port: Octets, with_frames: Octets) -> [Batch; 4] {
+    let write = |offset: u32, value: u32| vec![Call::WriteRegister { offset, value }; BATCH];
+    [
+        Batch::granted("register read, status", port.clone(), vec![Call::ReadRegister { offset: STATUS }; BATCH]),
+        Batch::granted("register write, mask", port.clone(), write(MASK, u32::MAX)),
+        Batch::granted("control write, tick", port, write(CONTROL, TICKS)),
+        Batch::granted("control write, transmit", with_frames, write(CONTROL, TRANSMITS)),
     ]
 }
 
@@ -116,7 +136,8 @@ fn full() -> Vec<Batch> {
     let purged = after(all_full.clone(), &ticks);
     let tagged = Header::tagged(address(STREAMS - 1), VID);
     let untagged = Header { protocol: [0x08, 0x00], ..tagged };
-    vec![
+    let of_registers = registers(purged.clone(), all_full.clone());
+    let mut batches = vec![
         Batch::granted("arrive, 1,216 to 1,280 frames", last_fills, arrivals(STREAMS)),
         Batch::granted("transmit, 1,280 to 1,216 frames", all_full.clone(), vec![Call::Transmit; BATCH]),
         Batch::granted("tick, 256 frames purged", all_full, ticks),
@@ -124,7 +145,9 @@ fn full() -> Vec<Batch> {
         Batch::granted("best effort, 1,216 to 1,280", best_effort_fills.clone(), best_effort()),
         Batch::granted("frame of stream 63, 1,216 to 1,280", last_stream_fills, frames(&tagged)),
         Batch::granted("frame, untagged, 1,216 to 1,280", best_effort_fills, frames(&untagged)),
-    ]
+    ];
+    batches.extend(of_registers);
+    batches
 }
 
 /// A batch of transmits that find nothing to send: what they take as calls and not as quick calls is the scan of 19.

@@ -19,6 +19,8 @@ pub enum Call<Address = [u8; ADDRESS_OCTETS], Octets = Arc<[u8]>> {
     Bind { stream: u8, address: Address, vid: u32 },
     Frame { octets: Octets, tag: u32 },
     Withdraw { stream: u8 },
+    ReadRegister { offset: u32 },
+    WriteRegister { offset: u32, value: u32 },
 }
 
 /// A call as it is given to a port: address and octets lie where the caller lends them.
@@ -68,6 +70,8 @@ impl Call {
             Call::Bind { stream, ref address, vid } => Call::Bind { stream, address, vid },
             Call::Frame { ref octets, tag } => Call::Frame { octets, tag },
             Call::Withdraw { stream } => Call::Withdraw { stream },
+            Call::ReadRegister { offset } => Call::ReadRegister { offset },
+            Call::WriteRegister { offset, value } => Call::WriteRegister { offset, value },
         }
     }
 }
@@ -90,6 +94,8 @@ impl fmt::Display for Call {
                 write!(f, "frame of {} octets [{header}] {tag}", octets.len())
             }
             Call::Withdraw { stream } => write!(f, "withdraw {stream}"),
+            Call::ReadRegister { offset } => write!(f, "read register {offset}"),
+            Call::WriteRegister { offset, value } => write!(f, "write register {offset} {value}"),
         }
     }
 }

@@ -2,30 +2,32 @@
 
 use crate::call::{Call, Given, Reply, Stream};
 
-/// Declares each call in both sorts, with its memory and its own arguments between those that all calls have.
+/// Declares each call in both sorts, with its port, its memory and its own arguments between those that all calls have.
 macro_rules! declare {
-    ($($call:ident, $unscanned:ident: $memory:ty, ($($argument:ident: $number:ty),*);)*) => {
+    ($($call:ident, $unscanned:ident: $port:ty, $memory:ty, ($($argument:ident: $number:ty),*);)*) => {
         extern "C" {$(
             fn $call(
-                port: *mut u8, port_length: usize, memory: $memory, memory_length: usize, $($argument: $number,)* first: &mut u32, second: &mut u32,
+                port: $port, port_length: usize, memory: $memory, memory_length: usize, $($argument: $number,)* first: &mut u32, second: &mut u32,
             ) -> u8;
             fn $unscanned(
-                port: *mut u8, port_length: usize, memory: $memory, memory_length: usize, $($argument: $number,)* first: &mut u32, second: &mut u32,
+                port: $port, port_length: usize, memory: $memory, memory_length: usize, $($argument: $number,)* first: &mut u32, second: &mut u32,
             ) -> u8;
         )*}
     };
 }
 
 declare! {
-    bunnysolder_open, bunnysolder_open_unscanned: *const u8, (link: u32, delay: u32);
-    bunnysolder_reserve, bunnysolder_reserve_unscanned: *const u8, (stream: u8, permitted: u32);
-    bunnysolder_arrive, bunnysolder_arrive_unscanned: *mut u8, (stream: u8, charge: u32, tag: u32);
-    bunnysolder_tick, bunnysolder_tick_unscanned: *const u8, ();
-    bunnysolder_transmit, bunnysolder_transmit_unscanned: *const u8, ();
-    bunnysolder_best_effort, bunnysolder_best_effort_unscanned: *mut u8, (charge: u32, tag: u32);
-    bunnysolder_bind, bunnysolder_bind_unscanned: *const u8, (stream: u8, address: *const u8, vid: u32);
-    bunnysolder_frame, bunnysolder_frame_unscanned: *mut u8, (octets: *const u8, octets_length: usize, tag: u32);
-    bunnysolder_withdraw, bunnysolder_withdraw_unscanned: *const u8, (stream: u8);
+    bunnysolder_open, bunnysolder_open_unscanned: *mut u8, *const u8, (link: u32, delay: u32);
+    bunnysolder_reserve, bunnysolder_reserve_unscanned: *mut u8, *const u8, (stream: u8, permitted: u32);
+    bunnysolder_arrive, bunnysolder_arrive_unscanned: *mut u8, *mut u8, (stream: u8, charge: u32, tag: u32);
+    bunnysolder_tick, bunnysolder_tick_unscanned: *mut u8, *const u8, ();
+    bunnysolder_transmit, bunnysolder_transmit_unscanned: *mut u8, *const u8, ();
+    bunnysolder_best_effort, bunnysolder_best_effort_unscanned: *mut u8, *mut u8, (charge: u32, tag: u32);
+    bunnysolder_bind, bunnysolder_bind_unscanned: *mut u8, *const u8, (stream: u8, address: *const u8, vid: u32);
+    bunnysolder_frame, bunnysolder_frame_unscanned: *mut u8, *mut u8, (octets: *const u8, octets_length: usize, tag: u32);
+    bunnysolder_withdraw, bunnysolder_withdraw_unscanned: *mut u8, *const u8, (stream: u8);
+    bunnysolder_register_read, bunnysolder_register_read_unscanned: *const u8, *const u8, (offset: u32);
+    bunnysolder_register_write, bunnysolder_register_write_unscanned: *mut u8, *const u8, (offset: u32, value: u32);
 }
 
 /// The calls as functions of C; Tick and Transmit have no arguments of their own.
@@ -36,6 +38,8 @@ type BestEffort = unsafe extern "C" fn(*mut u8, usize, *mut u8, usize, u32, u32,
 type Bind = unsafe extern "C" fn(*mut u8, usize, *const u8, usize, u8, *const u8, u32, &mut u32, &mut u32) -> u8;
 type Frame = unsafe extern "C" fn(*mut u8, usize, *mut u8, usize, *const u8, usize, u32, &mut u32, &mut u32) -> u8;
 type Withdraw = unsafe extern "C" fn(*mut u8, usize, *const u8, usize, u8, &mut u32, &mut u32) -> u8;
+type ReadRegister = unsafe extern "C" fn(*const u8, usize, *const u8, usize, u32, &mut u32, &mut u32) -> u8;
+type WriteRegister = unsafe extern "C" fn(*mut u8, usize, *const u8, usize, u32, u32, &mut u32, &mut u32) -> u8;
 type Plain = unsafe extern "C" fn(*mut u8, usize, *const u8, usize, &mut u32, &mut u32) -> u8;
 
 /// One sort of call.
@@ -49,6 +53,8 @@ struct Sort {
     bind: Bind,
     frame: Frame,
     withdraw: Withdraw,
+    register_read: ReadRegister,
+    register_write: WriteRegister,
 }
 
 /// The calls with all of the rule's checks.
@@ -62,6 +68,8 @@ const CALLS: Sort = Sort {
     bind: bunnysolder_bind,
     frame: bunnysolder_frame,
     withdraw: bunnysolder_withdraw,
+    register_read: bunnysolder_register_read,
+    register_write: bunnysolder_register_write,
 };
 
 /// The quick calls: nothing is scanned.
@@ -75,6 +83,8 @@ const UNSCANNED: Sort = Sort {
     bind: bunnysolder_bind_unscanned,
     frame: bunnysolder_frame_unscanned,
     withdraw: bunnysolder_withdraw_unscanned,
+    register_read: bunnysolder_register_read_unscanned,
+    register_write: bunnysolder_register_write_unscanned,
 };
 
 /// What the two reply numbers hold before each call, so that a number which a call leaves unwritten shows.
@@ -100,6 +110,8 @@ impl Sort {
                 Call::Bind { stream, address, vid } => (self.bind)(p, n, m, k, stream, address.as_ptr(), vid, &mut first, &mut second),
                 Call::Frame { octets, tag } => (self.frame)(p, n, m, k, octets.as_ptr(), octets.len(), tag, &mut first, &mut second),
                 Call::Withdraw { stream } => (self.withdraw)(p, n, m, k, stream, &mut first, &mut second),
+                Call::ReadRegister { offset } => (self.register_read)(p, n, m, k, offset, &mut first, &mut second),
+                Call::WriteRegister { offset, value } => (self.register_write)(p, n, m, k, offset, value, &mut first, &mut second),
             }
         };
         Reply { refusal, first, second }

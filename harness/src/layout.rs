@@ -1,7 +1,8 @@
-//! Where each field of a port stands in the octets of record and memory, how it is read and written, and what it is called in a report.
+//! Where each field of a port stands in the octets of record, register block and memory, how it is read and written, and what it is called in a
+//! report.
 //! Numbers stand high octet first.
 
-use crate::model::octets::{MEMORY_OCTETS, RECORD_OCTETS};
+use crate::model::octets::{MEMORY_OCTETS, PORT_OCTETS, RECORD_OCTETS};
 use crate::model::port::{BEST_EFFORT, MARK_YES, NOT_DRAINING, QUEUES, QUEUE_PLACES, STREAMS};
 
 /// The open mark in the record, one octet.
@@ -44,6 +45,21 @@ pub const ADDRESS: usize = 10;
 /// Where a binding, VID and address, ends in a stream's entry.
 pub const BINDING_END: usize = 16;
 
+/// The mark of the flag discard in the register block, one octet.
+pub const FLAG_DISCARD: usize = 0;
+/// The mark of the flag purge in the register block, one octet.
+pub const FLAG_PURGE: usize = 1;
+/// The mark of the flag nothing to send in the register block, one octet.
+pub const FLAG_NOTHING: usize = 2;
+/// The interrupt mask in the register block, four octets.
+pub const BLOCK_MASK: usize = 4;
+/// The count of frames sent in the register block, four octets.
+pub const SENT: usize = 8;
+/// The count of frames accepted in the register block, four octets.
+pub const ACCEPTED: usize = 16;
+/// The count of discards in the register block, four octets.
+pub const DISCARDED: usize = 20;
+
 /// The octets of a frame's place in memory.
 const FRAME: usize = 8;
 /// The stream at a frame's place, two octets.
@@ -69,6 +85,12 @@ pub fn count(queue: usize) -> usize {
 #[inline(always)]
 pub fn entry(stream: usize) -> usize {
     STREAM_ENTRIES + STREAM_ENTRY * stream
+}
+
+/// Where an octet of the register block stands in a lent port: the block follows the record.
+#[inline(always)]
+pub fn in_block(at: usize) -> usize {
+    RECORD_OCTETS + at
 }
 
 /// Where the frame stands in memory that is so many places ahead of a queue's start.
@@ -125,7 +147,7 @@ pub fn waits_with(record: &[u8], charge: u32) -> u64 {
     u64::from(four(record, WAITS)) + u64::from(charge)
 }
 
-/// What an octet of the record belongs to, for a report.
+/// What an octet of a lent port, record and register block, belongs to, for a report.
 pub fn record_field(at: usize) -> String {
     match at {
         OPEN => "open mark".into(),
@@ -135,7 +157,8 @@ pub fn record_field(at: usize) -> String {
         WAITS..=11 => "W".into(),
         QUEUE_ENTRIES..QUEUE_ENTRIES_END => queue_field(at - QUEUE_ENTRIES),
         STREAM_ENTRIES..RECORD_OCTETS => stream_field(at - STREAM_ENTRIES),
-        RECORD_OCTETS.. => "past the record".into(),
+        RECORD_OCTETS..PORT_OCTETS => block_field(at - RECORD_OCTETS).into(),
+        PORT_OCTETS.. => "past the register block".into(),
         _ => "spare".into(),
     }
 }
@@ -159,6 +182,20 @@ fn stream_field(at: usize) -> String {
         _ => "address",
     };
     format!("{field} of stream {}", at / STREAM_ENTRY)
+}
+
+/// What an octet of the register block belongs to.
+fn block_field(at: usize) -> &'static str {
+    match at {
+        FLAG_DISCARD => "flag discard",
+        FLAG_PURGE => "flag purge",
+        FLAG_NOTHING => "flag nothing to send",
+        BLOCK_MASK..=7 => "interrupt mask",
+        SENT..=11 => "count of frames sent",
+        ACCEPTED..=19 => "count of frames accepted",
+        DISCARDED..=23 => "count of discards",
+        _ => "unused in the register block",
+    }
 }
 
 /// What an octet of the memory belongs to, for a report.

@@ -1,17 +1,20 @@
-//! A port that owns its record and its memory.
+//! A port that owns its record, its register block and its memory.
 
 use std::fmt;
 
-use crate::exports::{self, Address, Memory, Record, CLOSED_RECORD, EMPTY_MEMORY};
+use crate::exports::{self, Address, Memory, PortOctets, CLOSED_PORT, EMPTY_MEMORY};
 use crate::refusal::Refusal;
-use crate::reply::{self, Framed, Joined, Purged, Reserved, Sent, Waiting};
+use crate::register::{self, Control, Controlled, Counts, Flags, Mask, Register, Status};
+use crate::reply::{self, never_refused, Framed, Joined, Numbers, Purged, Reserved, Sent, Waiting};
 
 #[cfg(test)]
 mod comparing;
+#[cfg(test)]
+mod wrapping;
 
-/// An open port, with its record and the memory for its frames.
+/// An open port, with its record, its register block and the memory for its frames.
 ///
-/// A port comes to be by a granted Open alone, and is open from then on; another L or K is another port. Its record and memory, about eleven
+/// A port comes to be by a granted Open alone, and is open from then on; another L or K is another port. Its octets and its memory, about twelve
 /// thousand octets, lie where the host puts it: in a variable, a field or a `Box`.
 ///
 /// # Whose replies these are
@@ -23,10 +26,13 @@ mod comparing;
 /// - a record of zeros, on which [`open`](Port::open) calls Open, is fit (`fresh-fits`, `crates/port_laws/proofs/FreshFit.antt`);
 /// - every call leaves a fit record fit, the granted Open among them (`stays-fit`, `crates/port_laws/proofs/StayLaws.antt`);
 /// - on a fit record the quick call equals the call in reply, record and memory (`quick-call`, `crates/port_laws/proofs/QuickLaws.antt`), so over
-///   every list of calls the quick calls reply as the calls do (`quick-replies`, `crates/port_laws/proofs/StayLaws.antt`).
+///   every list of calls the quick calls reply as the calls do (`quick-replies`, `crates/port_laws/proofs/StayLaws.antt`);
+/// - on a fit record the quick register accesses equal the accesses (`quick-read`, `quick-write`,
+///   `crates/register_laws/proofs/QuickRegisters.antt`);
+/// - any list of control writes does to the port what the calls do that they name (`crates/register_laws`).
 ///
-/// What these ask of the host is that nobody else writes record or memory, and that the two are always lent together. Here they are private
-/// fields of one value, so no safe program can do otherwise.
+/// What these ask of the host is that nobody else writes the port's octets or the memory, and that the two are always lent together. Here they are
+/// private fields of one value, so no safe program can do otherwise.
 ///
 /// No method meets 18, 19 or 20 (`demand-3`, its `not-by-host`, and `quick-events`, `crates/guarantee/proofs/Theorem.antt`), nor 1, since no call
 /// closes a port (`holds-next`, `crates/guarantee/proofs/Play.antt`), nor 2, since Open is called once, on a closed port. Each method says which it
@@ -35,7 +41,41 @@ mod comparing;
 /// # Threads
 ///
 /// A port is a plain value, and the library has no state of its own, so a port may be sent to another thread. A method that changes the port asks
-/// for `&mut`, so no two run on it at a time.
+/// for `&mut`, so no two run on it at a time, and none beside one that reads a register; these ask for `&`, and may run beside each other.
+///
+/// # Registers
+///
+/// A node's controller sees a port as [`Register`]s. Flags and counters follow every call on the port, by whichever method it comes, from 0 at the
+/// opening on; of the refusals [`Discard`](Refusal::Discard) alone sets a flag or a counter. The interrupt line is up exactly when flags and mask
+/// share a one. A host that has the port to itself uses the methods with types; one that hands a controller's offsets and values through uses
+/// [`read_register`](Port::read_register) and [`write_register`](Port::write_register).
+///
+/// ```
+/// use bunnysolder::{Control, Controlled, Counts, Flags, Port, Refusal, Sent};
+///
+/// let mut port = Port::open(2_620, 1)?;
+/// port.reserve(5, 200)?;
+/// port.set_mask(Flags { discard: true, purge: true, nothing: false });
+///
+/// // A frame joins current; the next one has a charge over P, is discarded, and the line goes up.
+/// port.arrive(5, 120, 7)?;
+/// assert!(!port.status().interrupt);
+/// assert_eq!(port.arrive(5, 201, 8), Err(Refusal::Discard));
+/// assert!(port.status().interrupt);
+///
+/// // The host sees what it was, counts, and clears what it has seen: the line is down.
+/// let flags = port.flags();
+/// assert_eq!(flags, Flags { discard: true, purge: false, nothing: false });
+/// assert_eq!(port.counts(), Counts { accepted: 1, discarded: 1, sent: 0 });
+/// port.clear(flags);
+/// assert!(!port.status().interrupt);
+///
+/// // One write ends the epoch and sends: frame 7 is in prior then.
+/// let sent = Sent::Reserved { stream: 5, tag: 7 };
+/// assert_eq!(port.control(Control { tick: true, transmit: true })?, Controlled::Transmitted(sent));
+/// assert_eq!(port.counts().sent, 1);
+/// # Ok::<(), Refusal>(())
+/// ```
 ///
 /// # Panics
 ///
@@ -60,8 +100,8 @@ mod comparing;
 /// # Ok::<(), Refusal>(())
 /// ```
 pub struct Port {
-    /// The port record, fit and open.
-    record: Record,
+    /// The port record, fit and open, and after it the register block.
+    octets: PortOctets,
     /// The memory for the waiting frames.
     memory: Memory,
     /// What Open replied.
@@ -69,13 +109,13 @@ pub struct Port {
 }
 
 impl Port {
-    /// Open(L, K): a port without reservations, bindings and frames. `link` is L, the link octets in an epoch; `delay` is K, the best-effort delay
-    /// bound in epochs.
+    /// Open(L, K): a port without reservations, bindings and frames, with flags, mask and counters 0. `link` is L, the link octets in an epoch;
+    /// `delay` is K, the best-effort delay bound in epochs.
     ///
     /// Refusals, in this order: [`LinkRange`](Refusal::LinkRange) (3), [`DelayRange`](Refusal::DelayRange) (4).
     pub fn open(link: u32, delay: u32) -> Result<Port, Refusal> {
-        let mut port = Port { record: CLOSED_RECORD, memory: EMPTY_MEMORY, share: 0 };
-        port.share = exports::open(&mut port.record, &port.memory, link, delay).map(reply::share)?;
+        let mut port = Port { octets: CLOSED_PORT, memory: EMPTY_MEMORY, share: 0 };
+        port.share = exports::open(&mut port.octets, &port.memory, link, delay).map(reply::share)?;
         Ok(port)
     }
 
@@ -90,7 +130,7 @@ impl Port {
     /// [`ReservedAlready`](Refusal::ReservedAlready) (6), [`PermittedRange`](Refusal::PermittedRange) (7),
     /// [`ShareExceeded`](Refusal::ShareExceeded) (8).
     pub fn reserve(&mut self, stream: u8, permitted: u32) -> Result<Reserved, Refusal> {
-        exports::reserve(&mut self.record, &self.memory, stream, permitted).map(Reserved::of)
+        exports::reserve(&mut self.octets, &self.memory, stream, permitted).map(Reserved::of)
     }
 
     /// Arrive(s, a, tag): a frame arrives on a reserved stream. `charge` is a, the octets that it costs on the wire: its length without check
@@ -100,7 +140,7 @@ impl Port {
     /// [`NotReserved`](Refusal::NotReserved) (12), [`ChargeRange`](Refusal::ChargeRange) (13), [`Discard`](Refusal::Discard) (14), which leaves the
     /// stream at last with nothing left.
     pub fn arrive(&mut self, stream: u8, charge: u32, tag: u32) -> Result<Joined, Refusal> {
-        exports::arrive(&mut self.record, &mut self.memory, stream, charge, tag).map(Joined::of)
+        exports::arrive(&mut self.octets, &mut self.memory, stream, charge, tag).map(Joined::of)
     }
 
     /// Tick: an epoch of this port ends. Replies what was purged: the frames that still waited in prior. It frees each stream whose draining ends
@@ -108,7 +148,7 @@ impl Port {
     ///
     /// Refusals: none. The rule has 18, 19 and 1 here, in this order, and a port of this type never meets them.
     pub fn tick(&mut self) -> Result<Purged, Refusal> {
-        exports::tick(&mut self.record, &self.memory).map(Purged::of)
+        exports::tick(&mut self.octets, &self.memory).map(Purged::of)
     }
 
     /// Transmit: the link can send a frame. Replies which one it is to send, and the port has it no longer: the oldest of prior; if none, of current;
@@ -116,7 +156,7 @@ impl Port {
     ///
     /// Refusals: none. The rule has 18, 19 and 1 here, in this order, and a port of this type never meets them.
     pub fn transmit(&mut self) -> Result<Sent, Refusal> {
-        exports::transmit(&mut self.record, &self.memory).map(Sent::of)
+        exports::transmit(&mut self.octets, &self.memory).map(Sent::of)
     }
 
     /// Best effort(a, tag): a frame of no stream arrives; `charge` and `tag` are as in [`arrive`](Port::arrive). It waits until neither prior nor
@@ -125,7 +165,7 @@ impl Port {
     /// Refusals, in this order: [`ChargeRange`](Refusal::ChargeRange) (13), [`BestEffortFull`](Refusal::BestEffortFull) (15),
     /// [`LimitExceeded`](Refusal::LimitExceeded) (16).
     pub fn best_effort(&mut self, charge: u32, tag: u32) -> Result<Waiting, Refusal> {
-        exports::best_effort(&mut self.record, &mut self.memory, charge, tag).map(Waiting::of)
+        exports::best_effort(&mut self.octets, &mut self.memory, charge, tag).map(Waiting::of)
     }
 
     /// Bind(s, address, VID): from now on a [`frame`](Port::frame) with this destination and this VLAN id arrives on this reserved stream. A stream
@@ -149,7 +189,7 @@ impl Port {
     /// # Ok::<(), Refusal>(())
     /// ```
     pub fn bind(&mut self, stream: u8, address: &Address, vid: u32) -> Result<(), Refusal> {
-        exports::bind(&mut self.record, &self.memory, stream, address, vid).map(reply::bound)
+        exports::bind(&mut self.octets, &self.memory, stream, address, vid).map(reply::bound)
     }
 
     /// Frame(octets, tag): a frame arrives, given by its octets from the destination on, without check sequence. Octets 0 to 5 are its destination;
@@ -184,7 +224,7 @@ impl Port {
     /// # Ok::<(), Refusal>(())
     /// ```
     pub fn frame(&mut self, octets: &[u8], tag: u32) -> Result<Framed, Refusal> {
-        exports::frame(&mut self.record, &mut self.memory, octets, tag).map(Framed::of)
+        exports::frame(&mut self.octets, &mut self.memory, octets, tag).map(Framed::of)
     }
 
     /// Withdraw(s): takes a reserved stream off the line. Its frames that wait stay in their queues and are sent as before; it takes no more. It
@@ -220,7 +260,121 @@ impl Port {
     /// # Ok::<(), Refusal>(())
     /// ```
     pub fn withdraw(&mut self, stream: u8) -> Result<(), Refusal> {
-        exports::withdraw(&mut self.record, &self.memory, stream).map(reply::withdrawn)
+        exports::withdraw(&mut self.octets, &self.memory, stream).map(reply::withdrawn)
+    }
+
+    /// Writes control: [`tick`](Port::tick) where that is asked for, then [`transmit`](Port::transmit) where that is. Replies as the last of these
+    /// calls.
+    ///
+    /// Refusals: none. The rule has 18, 19 and 1 here, in this order, and a port of this type never meets them.
+    ///
+    /// ```
+    /// use bunnysolder::{Control, Controlled, Port, Purged, Refusal, Sent};
+    ///
+    /// let mut port = Port::open(2_620, 1)?;
+    /// let (tick, transmit) = (true, true);
+    /// assert_eq!(port.control(Control { tick, transmit: false })?, Controlled::Ticked(Purged { frames: 0, octets: 0 }));
+    /// assert_eq!(port.control(Control { tick, transmit })?, Controlled::Transmitted(Sent::Nothing));
+    /// assert_eq!(port.control(Control::default())?, Controlled::Neither);
+    /// # Ok::<(), Refusal>(())
+    /// ```
+    pub fn control(&mut self, control: Control) -> Result<Controlled, Refusal> {
+        self.write_register(Register::Control.offset(), control.bits()).map(|numbers| Controlled::of(control, numbers))
+    }
+
+    /// Reads status: whether the port is open, and whether the interrupt line is up.
+    pub fn status(&self) -> Status {
+        Status::of(self.read(Register::Status))
+    }
+
+    /// Reads the flags: what has happened since the opening, or since a flag was last cleared.
+    pub fn flags(&self) -> Flags {
+        Flags::of(self.read(Register::Flags))
+    }
+
+    /// Writes the flags: clears those that are given, and leaves the others. A host that gives those that it has read clears no other.
+    pub fn clear(&mut self, flags: Flags) {
+        register::written(self.write(Register::Flags, flags.bits()));
+    }
+
+    /// Reads the interrupt mask, as it was written.
+    pub fn mask(&self) -> Mask {
+        Mask(register::read(self.read(Register::Mask)))
+    }
+
+    /// Writes the interrupt mask, given by the flags that are to raise the interrupt line, or by all its bits as a [`Mask`].
+    ///
+    /// ```
+    /// use bunnysolder::{Flags, Mask, Port, Refusal};
+    ///
+    /// let mut port = Port::open(2_620, 1)?;
+    /// port.set_mask(Flags { nothing: true, ..Flags::default() });
+    /// assert_eq!(port.mask(), Mask(0b100));
+    /// port.set_mask(Mask(0xABCD_EF12));
+    /// assert_eq!(port.mask(), Mask(0xABCD_EF12));
+    /// # Ok::<(), Refusal>(())
+    /// ```
+    pub fn set_mask(&mut self, mask: impl Into<Mask>) {
+        register::written(self.write(Register::Mask, mask.into().0));
+    }
+
+    /// Reads the three counters.
+    pub fn counts(&self) -> Counts {
+        let count = |counter: Register| register::read(self.read(counter));
+        Counts { accepted: count(Register::Accepted), discarded: count(Register::Discarded), sent: count(Register::Sent) }
+    }
+
+    /// Register read(offset): the register at an offset that a controller gives; zero where there is none ([`Register`]).
+    ///
+    /// Refusals: [`OffsetRange`](Refusal::OffsetRange) (26).
+    ///
+    /// ```
+    /// use bunnysolder::{Port, Refusal, Register, Status};
+    ///
+    /// let port = Port::open(2_620, 1)?;
+    /// let status = port.read_register(Register::Status.offset())?;
+    /// assert_eq!(Status::from_bits(status), Status { open: true, interrupt: false });
+    /// assert_eq!(status.to_be_bytes(), [0, 0, 0, 1]); // as octets, the high one first
+    /// assert_eq!(port.read_register(60)?, 0);
+    /// assert_eq!(port.read_register(61), Err(Refusal::OffsetRange));
+    /// assert_eq!(port.read_register(64), Err(Refusal::OffsetRange));
+    /// # Ok::<(), Refusal>(())
+    /// ```
+    pub fn read_register(&self, offset: u32) -> Result<u32, Refusal> {
+        exports::register_read(&self.octets, &self.memory, offset).map(register::read)
+    }
+
+    /// Register write(offset, value): a controller's write to the register at an offset. Control, flags and mask take it as
+    /// [`control`](Port::control), [`clear`](Port::clear) and [`set_mask`](Port::set_mask) do; everywhere else it does nothing. A one in a bit that
+    /// control or the flags do not have is ignored. Replies the two numbers of the last call that a write to control asks for, otherwise two zeros.
+    ///
+    /// Refusals: [`OffsetRange`](Refusal::OffsetRange) (26).
+    ///
+    /// ```
+    /// use bunnysolder::{Control, Flags, Port, Refusal, Register};
+    ///
+    /// let mut port = Port::open(2_620, 1)?;
+    /// let (control, flags) = (Register::Control.offset(), Register::Flags.offset());
+    /// let transmit = Control { tick: false, transmit: true };
+    /// assert_eq!(port.write_register(control, transmit.bits())?, (254, 0)); // nothing to send
+    /// assert_eq!(port.read_register(flags)?, Flags { nothing: true, ..Flags::default() }.bits());
+    /// assert_eq!(port.write_register(flags, u32::MAX)?, (0, 0));
+    /// assert_eq!(port.read_register(flags)?, 0);
+    /// assert_eq!(port.write_register(2, 0), Err(Refusal::OffsetRange));
+    /// # Ok::<(), Refusal>(())
+    /// ```
+    pub fn write_register(&mut self, offset: u32, value: u32) -> Result<(u32, u32), Refusal> {
+        exports::register_write(&mut self.octets, &self.memory, offset, value)
+    }
+
+    /// What a read of a register replies.
+    fn read(&self, register: Register) -> Numbers {
+        never_refused(exports::register_read(&self.octets, &self.memory, register.offset()))
+    }
+
+    /// What a write to a register other than control replies.
+    fn write(&mut self, register: Register, value: u32) -> Numbers {
+        never_refused(exports::register_write(&mut self.octets, &self.memory, register.offset(), value))
     }
 }
 

@@ -14,7 +14,7 @@ macro_rules! refusals {
         }
 
         impl Refusal {
-            /// The refusal of a number; none of a call has 0, which is a grant, 21 to 24, which are those of captures, or one above 25.
+            /// The refusal of a number; none of a call has 0, which is a grant, 21 to 24, which are those of captures, or one above 26.
             pub const fn from_number(number: u8) -> Option<Refusal> {
                 match number {
                     $($number => Some(Refusal::$name),)*
@@ -33,9 +33,10 @@ macro_rules! refusals {
 }
 
 refusals! {
-    /// Why a call was refused: the rule's numbers 1 to 20 and 25, in its words.
+    /// Why a call was refused: the rule's numbers 1 to 20, 25 and 26, in its words.
     ///
-    /// A refusal leaves the port as it was. [`Discard`](Refusal::Discard) alone also moves its stream: to place last, with nothing left.
+    /// A refusal leaves the port as it was. [`Discard`](Refusal::Discard) alone also moves its stream, to place last with nothing left, and raises
+    /// its flag and its count among the registers.
     ///
     /// A [`Port`](crate::Port) never meets 1, 2, 18, 19 and 20; its documentation says why. They are here because the rule has them.
     ///
@@ -70,6 +71,7 @@ refusals! {
     UnfitRecord = 19, "the port record is unfit";
     QueueFull = 20, "the chosen queue holds 256 frames";
     Draining = 25, "the stream was withdrawn, and drains";
+    OffsetRange = 26, "the offset is no multiple of 4, or above 60";
 }
 
 impl Refusal {

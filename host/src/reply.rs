@@ -1,5 +1,7 @@
 //! What the calls reply where they are granted: types for what the two reply numbers mean, and how they are read.
 
+use crate::refusal::Refusal;
+
 /// The two reply numbers of a granted call.
 pub type Numbers = (u32, u32);
 
@@ -95,8 +97,13 @@ pub(crate) fn outside(reply: &str) -> ! {
 
 /// Stops at two numbers that a call does not reply.
 #[cold]
-fn no_reply((first, second): Numbers, call: &str) -> ! {
+pub(crate) fn no_reply((first, second): Numbers, call: &str) -> ! {
     outside(&format!("the reply {first} {second} to {call}"))
+}
+
+/// The reply of an access to a register that there is, on a port that is fit and open: no refusal is left for it.
+pub(crate) fn never_refused(replied: Result<Numbers, Refusal>) -> Numbers {
+    replied.unwrap_or_else(|refusal| outside(&format!("the refusal {} to a register access", refusal.number())))
 }
 
 /// Open's reply, "share, 0": the share.
@@ -186,15 +193,26 @@ impl Framed {
     }
 }
 
+/// Whether the numbers are read as no reply at all.
+#[cfg(test)]
+pub(crate) fn stops<T>(of: fn(Numbers) -> T, numbers: Numbers) -> bool {
+    std::panic::catch_unwind(|| of(numbers)).is_err()
+}
+
 #[cfg(test)]
 mod tests {
-    use std::panic::catch_unwind;
-
     use super::*;
 
-    /// Whether the numbers are read as no reply at all.
-    fn stops<T>(of: fn(Numbers) -> T, numbers: Numbers) -> bool {
-        catch_unwind(|| of(numbers)).is_err()
+    #[test]
+    fn register_accesses_that_are_granted_are_read() {
+        assert_eq!(never_refused(Ok((7, 0))), (7, 0));
+    }
+
+    /// A refusal of a register that there is is handed on as no value.
+    #[test]
+    #[should_panic(expected = "the refusal 19 to a register access is none of the rule's")]
+    fn a_refused_register_access_stops() {
+        never_refused(Err(Refusal::UnfitRecord));
     }
 
     #[test]

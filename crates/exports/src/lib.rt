@@ -1,22 +1,13 @@
-// The calls of a port for a host in C or Rust, over the record and the memory that the host lends. The refusal, or 0, is returned, and the
-// two reply numbers are left in `first` and `second`. None asks anything of its caller; a contract is that of the call in `port`.
+// The calls of a port and its register accesses for a host in C or Rust, over the slice and the memory that the host lends. The refusal, or 0, is
+// returned, and the two reply numbers are left in `first` and `second`. None asks anything of its caller; a contract is that of the call in `registers`.
 pub mod alone;
 pub mod unscanned;
 
 ghost use mathlib.Core.Path.{_≡_};
-ghost use Rattle.steps.specs.Call.{terms};
+ghost use Rattle.steps.specs.Call.{terms, opening, reserving, withdrawing, arriving, ticking, transmitting, joiningBestEffort, binding, framing};
 ghost use Rattle.steps.specs.Outcome.{outcome};
-ghost use Rattle.opening.specs.Opening.{openStep, reserveStep};
-ghost use Rattle.opening.specs.Withdrawing.{withdrawStep};
-ghost use Rattle.arriving.specs.Arriving.{arriveStep};
-ghost use Rattle.ticking.specs.Ticking.{tickStep};
-ghost use Rattle.sending.specs.Sending.{transmitStep};
-ghost use Rattle.best_effort.specs.BestEffort.{bestEffortStep};
-ghost use Rattle.binding.specs.Binding.{bindStep};
-ghost use Rattle.gates.specs.Refusals.{openRefusal, reserveRefusal, withdrawRefusal, arriveRefusal, closedRefusal, bestEffortRefusal};
-ghost use Rattle.gates.specs.FrameRefusals.{bindRefusal, frameRefusal};
-ghost use Rattle.gates.specs.Becoming.{frameStep};
-ghost use Rattle.port.specs.Calls.{checked};
+ghost use Rattle.registers.specs.Calls.{portCall};
+ghost use Rattle.registers.specs.Accesses.{registerRead, registerWrite};
 ghost use Rattle.exports.specs.Handed.{handed};
 
 // Open(L, K).
@@ -29,9 +20,9 @@ pub extern "C" fn bunnysolder_open(
     first: &mut u32,
     second: &mut u32,
 ) -> u8
-    ensures { λ r. ⌜ outcome (handed r (now (first .exit)) (now (second .exit))) (now (port .exit)) (now (memory .entry)) ≡ checked (λ p. openRefusal p (terms link delay)) (λ p m. openStep p m (terms link delay)) (now (port .entry)) (now (memory .entry)) ⌝ }
+    ensures { λ r. ⌜ outcome (handed r (now (first .exit)) (now (second .exit))) (now (port .exit)) (now (memory .entry)) ≡ portCall (opening (terms link delay)) (now (port .entry)) (now (memory .entry)) ⌝ }
 {
-    let reply = port::open_port(port, memory, link, delay);
+    let reply = registers::open_port(port, memory, link, delay);
     *first = reply.first;
     *second = reply.second;
     reply.refusal
@@ -47,9 +38,9 @@ pub extern "C" fn bunnysolder_reserve(
     first: &mut u32,
     second: &mut u32,
 ) -> u8
-    ensures { λ r. ⌜ outcome (handed r (now (first .exit)) (now (second .exit))) (now (port .exit)) (now (memory .entry)) ≡ checked (λ p. reserveRefusal p stream permitted) (λ p m. reserveStep p m stream permitted) (now (port .entry)) (now (memory .entry)) ⌝ }
+    ensures { λ r. ⌜ outcome (handed r (now (first .exit)) (now (second .exit))) (now (port .exit)) (now (memory .entry)) ≡ portCall (reserving stream permitted) (now (port .entry)) (now (memory .entry)) ⌝ }
 {
-    let reply = port::reserve(port, memory, stream, permitted);
+    let reply = registers::reserve(port, memory, stream, permitted);
     *first = reply.first;
     *second = reply.second;
     reply.refusal
@@ -64,9 +55,9 @@ pub extern "C" fn bunnysolder_withdraw(
     first: &mut u32,
     second: &mut u32,
 ) -> u8
-    ensures { λ r. ⌜ outcome (handed r (now (first .exit)) (now (second .exit))) (now (port .exit)) (now (memory .entry)) ≡ checked (λ p. withdrawRefusal p stream) (λ p m. withdrawStep p m stream) (now (port .entry)) (now (memory .entry)) ⌝ }
+    ensures { λ r. ⌜ outcome (handed r (now (first .exit)) (now (second .exit))) (now (port .exit)) (now (memory .entry)) ≡ portCall (withdrawing stream) (now (port .entry)) (now (memory .entry)) ⌝ }
 {
-    let reply = port::withdraw(port, memory, stream);
+    let reply = registers::withdraw(port, memory, stream);
     *first = reply.first;
     *second = reply.second;
     reply.refusal
@@ -83,9 +74,9 @@ pub extern "C" fn bunnysolder_arrive(
     first: &mut u32,
     second: &mut u32,
 ) -> u8
-    ensures { λ r. ⌜ outcome (handed r (now (first .exit)) (now (second .exit))) (now (port .exit)) (now (memory .exit)) ≡ checked (λ p. arriveRefusal p stream charge) (λ p m. arriveStep p m stream charge tag) (now (port .entry)) (now (memory .entry)) ⌝ }
+    ensures { λ r. ⌜ outcome (handed r (now (first .exit)) (now (second .exit))) (now (port .exit)) (now (memory .exit)) ≡ portCall (arriving stream charge tag) (now (port .entry)) (now (memory .entry)) ⌝ }
 {
-    let reply = port::arrive(port, memory, stream, charge, tag);
+    let reply = registers::arrive(port, memory, stream, charge, tag);
     *first = reply.first;
     *second = reply.second;
     reply.refusal
@@ -99,9 +90,9 @@ pub extern "C" fn bunnysolder_tick(
     first: &mut u32,
     second: &mut u32,
 ) -> u8
-    ensures { λ r. ⌜ outcome (handed r (now (first .exit)) (now (second .exit))) (now (port .exit)) (now (memory .entry)) ≡ checked closedRefusal tickStep (now (port .entry)) (now (memory .entry)) ⌝ }
+    ensures { λ r. ⌜ outcome (handed r (now (first .exit)) (now (second .exit))) (now (port .exit)) (now (memory .entry)) ≡ portCall ticking (now (port .entry)) (now (memory .entry)) ⌝ }
 {
-    let reply = port::tick(port, memory);
+    let reply = registers::tick(port, memory);
     *first = reply.first;
     *second = reply.second;
     reply.refusal
@@ -115,9 +106,9 @@ pub extern "C" fn bunnysolder_transmit(
     first: &mut u32,
     second: &mut u32,
 ) -> u8
-    ensures { λ r. ⌜ outcome (handed r (now (first .exit)) (now (second .exit))) (now (port .exit)) (now (memory .entry)) ≡ checked closedRefusal transmitStep (now (port .entry)) (now (memory .entry)) ⌝ }
+    ensures { λ r. ⌜ outcome (handed r (now (first .exit)) (now (second .exit))) (now (port .exit)) (now (memory .entry)) ≡ portCall transmitting (now (port .entry)) (now (memory .entry)) ⌝ }
 {
-    let reply = port::transmit(port, memory);
+    let reply = registers::transmit(port, memory);
     *first = reply.first;
     *second = reply.second;
     reply.refusal
@@ -133,9 +124,9 @@ pub extern "C" fn bunnysolder_best_effort(
     first: &mut u32,
     second: &mut u32,
 ) -> u8
-    ensures { λ r. ⌜ outcome (handed r (now (first .exit)) (now (second .exit))) (now (port .exit)) (now (memory .exit)) ≡ checked (λ p. bestEffortRefusal p charge) (λ p m. bestEffortStep p m charge tag) (now (port .entry)) (now (memory .entry)) ⌝ }
+    ensures { λ r. ⌜ outcome (handed r (now (first .exit)) (now (second .exit))) (now (port .exit)) (now (memory .exit)) ≡ portCall (joiningBestEffort charge tag) (now (port .entry)) (now (memory .entry)) ⌝ }
 {
-    let reply = port::best_effort(port, memory, charge, tag);
+    let reply = registers::best_effort(port, memory, charge, tag);
     *first = reply.first;
     *second = reply.second;
     reply.refusal
@@ -152,9 +143,9 @@ pub extern "C" fn bunnysolder_bind(
     first: &mut u32,
     second: &mut u32,
 ) -> u8
-    ensures { λ r. ⌜ outcome (handed r (now (first .exit)) (now (second .exit))) (now (port .exit)) (now (memory .entry)) ≡ checked (λ p. bindRefusal p stream (now (address .entry)) vid) (λ p m. bindStep p m stream (now (address .entry)) vid) (now (port .entry)) (now (memory .entry)) ⌝ }
+    ensures { λ r. ⌜ outcome (handed r (now (first .exit)) (now (second .exit))) (now (port .exit)) (now (memory .entry)) ≡ portCall (binding stream (now (address .entry)) vid) (now (port .entry)) (now (memory .entry)) ⌝ }
 {
-    let reply = port::bind(port, memory, stream, address, vid);
+    let reply = registers::bind(port, memory, stream, address, vid);
     *first = reply.first;
     *second = reply.second;
     reply.refusal
@@ -170,9 +161,44 @@ pub extern "C" fn bunnysolder_frame(
     first: &mut u32,
     second: &mut u32,
 ) -> u8
-    ensures { λ r. ⌜ outcome (handed r (now (first .exit)) (now (second .exit))) (now (port .exit)) (now (memory .exit)) ≡ checked (λ p. frameRefusal p (now (octets .entry))) (λ p m. frameStep p m (now (octets .entry)) tag) (now (port .entry)) (now (memory .entry)) ⌝ }
+    ensures { λ r. ⌜ outcome (handed r (now (first .exit)) (now (second .exit))) (now (port .exit)) (now (memory .exit)) ≡ portCall (framing (now (octets .entry)) tag) (now (port .entry)) (now (memory .entry)) ⌝ }
 {
-    let reply = port::frame(port, memory, octets, tag);
+    let reply = registers::frame(port, memory, octets, tag);
+    *first = reply.first;
+    *second = reply.second;
+    reply.refusal
+}
+
+// A read of the register at an offset.
+#[no_mangle]
+pub extern "C" fn bunnysolder_register_read(
+    port: &[u8],
+    memory: &[u8],
+    offset: u32,
+    first: &mut u32,
+    second: &mut u32,
+) -> u8
+    ensures { λ r. ⌜ outcome (handed r (now (first .exit)) (now (second .exit))) (now (port .entry)) (now (memory .entry)) ≡ registerRead offset (now (port .entry)) (now (memory .entry)) ⌝ }
+{
+    let reply = registers::accesses::read(port, memory, offset);
+    *first = reply.first;
+    *second = reply.second;
+    reply.refusal
+}
+
+// A write to the register at an offset.
+#[no_mangle]
+pub extern "C" fn bunnysolder_register_write(
+    port: &mut [u8],
+    memory: &[u8],
+    offset: u32,
+    value: u32,
+    first: &mut u32,
+    second: &mut u32,
+) -> u8
+    ensures { λ r. ⌜ outcome (handed r (now (first .exit)) (now (second .exit))) (now (port .exit)) (now (memory .entry)) ≡ registerWrite offset value (now (port .entry)) (now (memory .entry)) ⌝ }
+{
+    let reply = registers::accesses::write(port, memory, offset, value);
     *first = reply.first;
     *second = reply.second;
     reply.refusal

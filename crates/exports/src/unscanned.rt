@@ -1,19 +1,10 @@
-// The quick calls for a host in C or Rust that alone writes the record: nothing is scanned. On a fit record each equals the call of the same
-// name.
+// The quick calls and register accesses for a host in C or Rust that alone writes the slice: nothing is scanned. On a fit record each equals the call of
+// the same name.
 ghost use mathlib.Core.Path.{_≡_};
-ghost use Rattle.steps.specs.Call.{terms};
+ghost use Rattle.steps.specs.Call.{terms, opening, reserving, withdrawing, arriving, ticking, transmitting, joiningBestEffort, binding, framing};
 ghost use Rattle.steps.specs.Outcome.{outcome};
-ghost use Rattle.opening.specs.Opening.{openStep, reserveStep};
-ghost use Rattle.opening.specs.Withdrawing.{withdrawStep};
-ghost use Rattle.arriving.specs.Arriving.{arriveStep};
-ghost use Rattle.ticking.specs.Ticking.{tickStep};
-ghost use Rattle.sending.specs.Sending.{transmitStep};
-ghost use Rattle.best_effort.specs.BestEffort.{bestEffortStep};
-ghost use Rattle.binding.specs.Binding.{bindStep};
-ghost use Rattle.gates.specs.Refusals.{openRefusal, reserveRefusal, withdrawRefusal, arriveRefusal, closedRefusal, bestEffortRefusal};
-ghost use Rattle.gates.specs.FrameRefusals.{bindRefusal, frameRefusal};
-ghost use Rattle.gates.specs.Becoming.{frameStep};
-ghost use Rattle.port.specs.Quick.{unscanned};
+ghost use Rattle.registers.specs.Calls.{quickPortCall};
+ghost use Rattle.registers.specs.Accesses.{quickRegisterRead, quickRegisterWrite};
 ghost use Rattle.exports.specs.Handed.{handed};
 
 // Open(L, K); nothing is scanned.
@@ -26,9 +17,9 @@ pub extern "C" fn bunnysolder_open_unscanned(
     first: &mut u32,
     second: &mut u32,
 ) -> u8
-    ensures { λ r. ⌜ outcome (handed r (now (first .exit)) (now (second .exit))) (now (port .exit)) (now (memory .entry)) ≡ unscanned (λ p. openRefusal p (terms link delay)) (λ p m. openStep p m (terms link delay)) (now (port .entry)) (now (memory .entry)) ⌝ }
+    ensures { λ r. ⌜ outcome (handed r (now (first .exit)) (now (second .exit))) (now (port .exit)) (now (memory .entry)) ≡ quickPortCall (opening (terms link delay)) (now (port .entry)) (now (memory .entry)) ⌝ }
 {
-    let reply = port::quick::open_port(port, memory, link, delay);
+    let reply = registers::quick::open_port(port, memory, link, delay);
     *first = reply.first;
     *second = reply.second;
     reply.refusal
@@ -44,9 +35,9 @@ pub extern "C" fn bunnysolder_reserve_unscanned(
     first: &mut u32,
     second: &mut u32,
 ) -> u8
-    ensures { λ r. ⌜ outcome (handed r (now (first .exit)) (now (second .exit))) (now (port .exit)) (now (memory .entry)) ≡ unscanned (λ p. reserveRefusal p stream permitted) (λ p m. reserveStep p m stream permitted) (now (port .entry)) (now (memory .entry)) ⌝ }
+    ensures { λ r. ⌜ outcome (handed r (now (first .exit)) (now (second .exit))) (now (port .exit)) (now (memory .entry)) ≡ quickPortCall (reserving stream permitted) (now (port .entry)) (now (memory .entry)) ⌝ }
 {
-    let reply = port::quick::reserve(port, memory, stream, permitted);
+    let reply = registers::quick::reserve(port, memory, stream, permitted);
     *first = reply.first;
     *second = reply.second;
     reply.refusal
@@ -61,9 +52,9 @@ pub extern "C" fn bunnysolder_withdraw_unscanned(
     first: &mut u32,
     second: &mut u32,
 ) -> u8
-    ensures { λ r. ⌜ outcome (handed r (now (first .exit)) (now (second .exit))) (now (port .exit)) (now (memory .entry)) ≡ unscanned (λ p. withdrawRefusal p stream) (λ p m. withdrawStep p m stream) (now (port .entry)) (now (memory .entry)) ⌝ }
+    ensures { λ r. ⌜ outcome (handed r (now (first .exit)) (now (second .exit))) (now (port .exit)) (now (memory .entry)) ≡ quickPortCall (withdrawing stream) (now (port .entry)) (now (memory .entry)) ⌝ }
 {
-    let reply = port::quick::withdraw(port, memory, stream);
+    let reply = registers::quick::withdraw(port, memory, stream);
     *first = reply.first;
     *second = reply.second;
     reply.refusal
@@ -80,9 +71,9 @@ pub extern "C" fn bunnysolder_arrive_unscanned(
     first: &mut u32,
     second: &mut u32,
 ) -> u8
-    ensures { λ r. ⌜ outcome (handed r (now (first .exit)) (now (second .exit))) (now (port .exit)) (now (memory .exit)) ≡ unscanned (λ p. arriveRefusal p stream charge) (λ p m. arriveStep p m stream charge tag) (now (port .entry)) (now (memory .entry)) ⌝ }
+    ensures { λ r. ⌜ outcome (handed r (now (first .exit)) (now (second .exit))) (now (port .exit)) (now (memory .exit)) ≡ quickPortCall (arriving stream charge tag) (now (port .entry)) (now (memory .entry)) ⌝ }
 {
-    let reply = port::quick::arrive(port, memory, stream, charge, tag);
+    let reply = registers::quick::arrive(port, memory, stream, charge, tag);
     *first = reply.first;
     *second = reply.second;
     reply.refusal
@@ -96,9 +87,9 @@ pub extern "C" fn bunnysolder_tick_unscanned(
     first: &mut u32,
     second: &mut u32,
 ) -> u8
-    ensures { λ r. ⌜ outcome (handed r (now (first .exit)) (now (second .exit))) (now (port .exit)) (now (memory .entry)) ≡ unscanned closedRefusal tickStep (now (port .entry)) (now (memory .entry)) ⌝ }
+    ensures { λ r. ⌜ outcome (handed r (now (first .exit)) (now (second .exit))) (now (port .exit)) (now (memory .entry)) ≡ quickPortCall ticking (now (port .entry)) (now (memory .entry)) ⌝ }
 {
-    let reply = port::quick::tick(port, memory);
+    let reply = registers::quick::tick(port, memory);
     *first = reply.first;
     *second = reply.second;
     reply.refusal
@@ -112,9 +103,9 @@ pub extern "C" fn bunnysolder_transmit_unscanned(
     first: &mut u32,
     second: &mut u32,
 ) -> u8
-    ensures { λ r. ⌜ outcome (handed r (now (first .exit)) (now (second .exit))) (now (port .exit)) (now (memory .entry)) ≡ unscanned closedRefusal transmitStep (now (port .entry)) (now (memory .entry)) ⌝ }
+    ensures { λ r. ⌜ outcome (handed r (now (first .exit)) (now (second .exit))) (now (port .exit)) (now (memory .entry)) ≡ quickPortCall transmitting (now (port .entry)) (now (memory .entry)) ⌝ }
 {
-    let reply = port::quick::transmit(port, memory);
+    let reply = registers::quick::transmit(port, memory);
     *first = reply.first;
     *second = reply.second;
     reply.refusal
@@ -130,9 +121,9 @@ pub extern "C" fn bunnysolder_best_effort_unscanned(
     first: &mut u32,
     second: &mut u32,
 ) -> u8
-    ensures { λ r. ⌜ outcome (handed r (now (first .exit)) (now (second .exit))) (now (port .exit)) (now (memory .exit)) ≡ unscanned (λ p. bestEffortRefusal p charge) (λ p m. bestEffortStep p m charge tag) (now (port .entry)) (now (memory .entry)) ⌝ }
+    ensures { λ r. ⌜ outcome (handed r (now (first .exit)) (now (second .exit))) (now (port .exit)) (now (memory .exit)) ≡ quickPortCall (joiningBestEffort charge tag) (now (port .entry)) (now (memory .entry)) ⌝ }
 {
-    let reply = port::quick::best_effort(port, memory, charge, tag);
+    let reply = registers::quick::best_effort(port, memory, charge, tag);
     *first = reply.first;
     *second = reply.second;
     reply.refusal
@@ -149,9 +140,9 @@ pub extern "C" fn bunnysolder_bind_unscanned(
     first: &mut u32,
     second: &mut u32,
 ) -> u8
-    ensures { λ r. ⌜ outcome (handed r (now (first .exit)) (now (second .exit))) (now (port .exit)) (now (memory .entry)) ≡ unscanned (λ p. bindRefusal p stream (now (address .entry)) vid) (λ p m. bindStep p m stream (now (address .entry)) vid) (now (port .entry)) (now (memory .entry)) ⌝ }
+    ensures { λ r. ⌜ outcome (handed r (now (first .exit)) (now (second .exit))) (now (port .exit)) (now (memory .entry)) ≡ quickPortCall (binding stream (now (address .entry)) vid) (now (port .entry)) (now (memory .entry)) ⌝ }
 {
-    let reply = port::quick::bind(port, memory, stream, address, vid);
+    let reply = registers::quick::bind(port, memory, stream, address, vid);
     *first = reply.first;
     *second = reply.second;
     reply.refusal
@@ -167,9 +158,44 @@ pub extern "C" fn bunnysolder_frame_unscanned(
     first: &mut u32,
     second: &mut u32,
 ) -> u8
-    ensures { λ r. ⌜ outcome (handed r (now (first .exit)) (now (second .exit))) (now (port .exit)) (now (memory .exit)) ≡ unscanned (λ p. frameRefusal p (now (octets .entry))) (λ p m. frameStep p m (now (octets .entry)) tag) (now (port .entry)) (now (memory .entry)) ⌝ }
+    ensures { λ r. ⌜ outcome (handed r (now (first .exit)) (now (second .exit))) (now (port .exit)) (now (memory .exit)) ≡ quickPortCall (framing (now (octets .entry)) tag) (now (port .entry)) (now (memory .entry)) ⌝ }
 {
-    let reply = port::quick::frame(port, memory, octets, tag);
+    let reply = registers::quick::frame(port, memory, octets, tag);
+    *first = reply.first;
+    *second = reply.second;
+    reply.refusal
+}
+
+// A read of the register at an offset; nothing is scanned.
+#[no_mangle]
+pub extern "C" fn bunnysolder_register_read_unscanned(
+    port: &[u8],
+    memory: &[u8],
+    offset: u32,
+    first: &mut u32,
+    second: &mut u32,
+) -> u8
+    ensures { λ r. ⌜ outcome (handed r (now (first .exit)) (now (second .exit))) (now (port .entry)) (now (memory .entry)) ≡ quickRegisterRead offset (now (port .entry)) (now (memory .entry)) ⌝ }
+{
+    let reply = registers::accesses::quick_read(port, memory, offset);
+    *first = reply.first;
+    *second = reply.second;
+    reply.refusal
+}
+
+// A write to the register at an offset; nothing is scanned.
+#[no_mangle]
+pub extern "C" fn bunnysolder_register_write_unscanned(
+    port: &mut [u8],
+    memory: &[u8],
+    offset: u32,
+    value: u32,
+    first: &mut u32,
+    second: &mut u32,
+) -> u8
+    ensures { λ r. ⌜ outcome (handed r (now (first .exit)) (now (second .exit))) (now (port .exit)) (now (memory .entry)) ≡ quickRegisterWrite offset value (now (port .entry)) (now (memory .entry)) ⌝ }
+{
+    let reply = registers::accesses::quick_write(port, memory, offset, value);
     *first = reply.first;
     *second = reply.second;
     reply.refusal

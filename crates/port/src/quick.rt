@@ -16,7 +16,7 @@ ghost use Rattle.gates.specs.Becoming.{frameStep};
 ghost use Rattle.port.specs.Quick.{lengthRefusal, unscanned};
 
 // The refusal of a memory or record that is too short, or 0.
-fn lengths(port: &[u8], memory: &[u8]) -> u8
+pub fn lengths(port: &[u8], memory: &[u8]) -> u8
     ensures { λ r. ⌜ r ≡ lengthRefusal (now (port .entry)) (now (memory .entry)) ⌝ }
 {
     if memory.len() < record::head::memory_length(port) {

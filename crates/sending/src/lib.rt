@@ -10,7 +10,7 @@ ghost use Rattle.steps.specs.Outcome.{outcome};
 ghost use Rattle.sending.specs.Sending.{sent, sentBestEffort, transmitStep};
 
 // The stream in the reply where nothing is sent.
-const NOTHING: u32 = 254;
+pub const NOTHING: u32 = 254;
 
 // What is left of a number after a charge, at least 0.
 fn less(octets: u32, charge: u16) -> u32

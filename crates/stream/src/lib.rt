@@ -10,7 +10,7 @@ ghost use Rattle.stream.specs.Replies.{replyOf, streamOf};
 pub const CURRENT: u8 = 1;
 
 // The refusal of a discarded frame.
-const DISCARD: u8 = 14;
+pub const DISCARD: u8 = 14;
 
 // One stream: whether it is reserved, its permitted octets per epoch (P), its place, and the octets still free there (left). The methods
 // below neither read nor change whether it is reserved: that is for the port to ask. Those of an arrival take the port's last place.

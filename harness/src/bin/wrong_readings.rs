@@ -24,7 +24,7 @@ const SOUND: &str = "sound";
 const COPIED: &str = "model";
 
 /// The files of the outside program by which it is `replay`, each before those that use it.
-const FILES: [&str; 7] = ["refusal", "port", "octets", "frame", "rule", "capture", "replay"];
+const FILES: [&str; 8] = ["refusal", "port", "registers", "octets", "frame", "rule", "capture", "replay"];
 /// Those of them in which a reading can be wrong, each with the others that use it.
 const USED_BY: [(&str, &[&str]); 5] =
     [("port", &["rule", "replay"]), ("octets", &["capture", "replay"]), ("rule", &["replay"]), ("capture", &["replay"]), ("replay", &[])];

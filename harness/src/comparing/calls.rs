@@ -7,6 +7,7 @@ use crate::call::Call;
 use crate::comparing::compared::Step;
 use crate::comparing::fit::no_mark;
 use crate::comparing::random::Random;
+use crate::comparing::registers::{any_read, any_write};
 use crate::layout::{self, best_effort_limit, is_draining, is_reserved, permitted_sum, two, waits_with};
 use crate::model::octets::RECORD_OCTETS;
 use crate::model::port::{CHARGES, DELAYS, LARGEST_CHARGE, LEAST_CHARGE, LEAST_PERMITTED, LINKS, MARK_YES, STREAMS};
@@ -39,13 +40,27 @@ pub struct Weights {
     pub bind: usize,
     pub frame: usize,
     pub withdraw: usize,
+    pub read_register: usize,
+    pub write_register: usize,
     /// The host writes the open mark.
     pub close: usize,
 }
 
 /// No step at all, for lists that take only some.
-pub const NEVER: Weights =
-    Weights { open: 0, reserve: 0, arrive: 0, tick: 0, transmit: 0, best_effort: 0, bind: 0, frame: 0, withdraw: 0, close: 0 };
+pub const NEVER: Weights = Weights {
+    open: 0,
+    reserve: 0,
+    arrive: 0,
+    tick: 0,
+    transmit: 0,
+    best_effort: 0,
+    bind: 0,
+    frame: 0,
+    withdraw: 0,
+    read_register: 0,
+    write_register: 0,
+    close: 0,
+};
 
 /// Which P a Reserve asks for.
 #[derive(Clone, Copy)]
@@ -85,7 +100,20 @@ pub struct Profile {
 
 /// An ordinary profile: every stream and L, charges and P's that press what is left and free, and all calls alike.
 pub const ORDINARY: Profile = Profile {
-    weights: Weights { open: 1, reserve: 1, arrive: 1, tick: 1, transmit: 1, best_effort: 1, bind: 1, frame: 1, withdraw: 1, ..NEVER },
+    weights: Weights {
+        open: 1,
+        reserve: 1,
+        arrive: 1,
+        tick: 1,
+        transmit: 1,
+        best_effort: 1,
+        bind: 1,
+        frame: 1,
+        withdraw: 1,
+        read_register: 1,
+        write_register: 1,
+        close: 0,
+    },
     streams: STREAMS,
     links: LINKS,
     permitted: Permitted::NearFree,
@@ -93,8 +121,8 @@ pub const ORDINARY: Profile = Profile {
     edges: 0,
 };
 
-/// Each of the nine calls with good and bad arguments, to be tried on a record of any length and content.
-pub fn each_call(random: &mut Random, record: &[u8]) -> [Call; 22] {
+/// Each of the nine calls, and each access to a register, with good and bad arguments, to be tried on a port of any length and content.
+pub fn each_call(random: &mut Random, record: &[u8]) -> [Call; 28] {
     let zeros = [0; RECORD_OCTETS];
     let record = if record.len() < RECORD_OCTETS { &zeros } else { record };
     let profile = ORDINARY;
@@ -121,6 +149,12 @@ pub fn each_call(random: &mut Random, record: &[u8]) -> [Call; 22] {
         profile.withdraw(random, record, false),
         profile.withdraw(random, record, false),
         profile.withdraw(random, record, true),
+        any_read(random, false),
+        any_read(random, false),
+        any_read(random, true),
+        any_write(random, false),
+        any_write(random, false),
+        any_write(random, true),
     ]
 }
 
@@ -131,8 +165,10 @@ impl Profile {
         if record[layout::OPEN] != MARK_YES && random.chance(60) {
             return Step::Call(self.open(random, edge));
         }
-        let Weights { open, reserve, arrive, tick, transmit, best_effort, bind, frame, withdraw, close } = self.weights;
-        Step::Call(match random.weighted(&[open, reserve, arrive, tick, transmit, best_effort, bind, frame, withdraw, close]) {
+        let Weights { open, reserve, arrive, tick, transmit, best_effort, bind, frame, withdraw, .. } = self.weights;
+        let Weights { read_register, write_register, close, .. } = self.weights;
+        let of_traffic = [open, reserve, arrive, tick, transmit, best_effort, bind, frame, withdraw];
+        Step::Call(match random.weighted(&[&of_traffic[..], &[read_register, write_register, close]].concat()) {
             0 => self.open(random, edge),
             1 => self.reserve(random, record, edge),
             2 => self.arrive(random, record, edge),
@@ -142,6 +178,8 @@ impl Profile {
             6 => self.bind(random, record, edge),
             7 => self.frame(random, record, edge),
             8 => self.withdraw(random, record, edge),
+            9 => any_read(random, edge),
+            10 => any_write(random, edge),
             _ => return Step::HostWrites { at: layout::OPEN, octet: no_mark(random) },
         })
     }

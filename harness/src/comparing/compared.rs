@@ -9,6 +9,7 @@ use crate::comparing::coverage::prior_waits;
 use crate::comparing::draining::{ending, Freed};
 use crate::comparing::fenced::{lend_given, lend_pair, Edge};
 use crate::comparing::lent::{Lend, Lent};
+use crate::comparing::registers::Held;
 use crate::comparing::sides::{Play, Side};
 use crate::comparing::test::Run;
 use crate::layout;
@@ -152,6 +153,7 @@ impl Compared {
     /// Plays a call on both sides; the reply, or a report of how they differ.
     pub fn call(&mut self, run: &mut Run, call: &Call) -> Result<Reply, String> {
         let (prior_waited, ending) = (prior_waits(self.record()), ending(call, self.record()));
+        let held = Held::of(self.record());
         let [one, other] = &mut self.players;
         let replies = [one.play(call), other.play(call)];
         self.calls += 1;
@@ -161,6 +163,9 @@ impl Compared {
         self.remember(Step::Call(call.clone()));
         run.count_call(call, &replies[0], self.record(), prior_waited);
         self.freed.follow(&mut run.coverage, call, &replies[0], &ending);
+        if let (Some(before), Some(after)) = (held, Held::of(self.record())) {
+            before.count_changes(&mut run.coverage, call, &after);
+        }
         Ok(replies[0])
     }
 

@@ -7,6 +7,7 @@ use crate::call::{Call, Reply};
 use crate::comparing::damage::Field;
 use crate::comparing::fit::is_bound;
 use crate::comparing::frames::{stream_of, BESIDE_LENGTH};
+use crate::comparing::registers::{Count, Flag};
 use crate::guarantee::found::Shown;
 use crate::layout;
 use crate::model::port::{BEST_EFFORT, BEST_EFFORT_STREAM, CURRENT, LAST, NOTHING, QUEUE_PLACES, RESERVED_QUEUES, STREAMS};
@@ -92,6 +93,34 @@ pub enum Seen {
     FrameRefused(u8),
     /// A refusal with a number.
     Refused(u8),
+    /// A granted read of status with the interrupt line up, and one with it down.
+    LineUp,
+    LineDown,
+    /// A granted read of another register.
+    RegisterRead,
+    /// A read of a register that was refused with a number.
+    ReadRefused(u8),
+    /// A granted control write that ticked, that transmitted, that did both, and that did neither.
+    ControlTicked,
+    ControlTransmitted,
+    ControlDidBoth,
+    ControlDidNeither,
+    /// A granted write of the flags, of the mask, and of a register that takes none.
+    FlagsWritten,
+    MaskWritten,
+    OtherRegisterWritten,
+    /// A write of a register that was refused with a number.
+    WriteRefused(u8),
+    /// A flag that a call raised from down, and one that a call lowered from up.
+    FlagSet(Flag),
+    FlagCleared(Flag),
+    /// A flag whose mark was neither 0 nor 1 and became 0.
+    OtherMarkCleared,
+    /// A count that a call made one more, and one of these that went from 4,294,967,295 to 0.
+    Counted(Count),
+    CountWrapped(Count),
+    /// Counts, flags and interrupt line of a port that were held against what a test tracked itself.
+    Tracked,
     /// What a list that is held against demand 3 showed.
     Shown(Shown),
     /// The host closed the port by writing its record.
@@ -152,6 +181,24 @@ impl fmt::Display for Seen {
             Seen::FrameBestEffort => write!(f, "frames of best effort"),
             Seen::FrameRefused(number) => write!(f, "frames refused {number}"),
             Seen::Refused(number) => write!(f, "refused {number}"),
+            Seen::LineUp => write!(f, "status read with the line up"),
+            Seen::LineDown => write!(f, "status read with the line down"),
+            Seen::RegisterRead => write!(f, "other registers read"),
+            Seen::ReadRefused(number) => write!(f, "register reads refused {number}"),
+            Seen::ControlTicked => write!(f, "ticked by control"),
+            Seen::ControlTransmitted => write!(f, "transmitted by control"),
+            Seen::ControlDidBoth => write!(f, "both by control"),
+            Seen::ControlDidNeither => write!(f, "neither by control"),
+            Seen::FlagsWritten => write!(f, "flags written"),
+            Seen::MaskWritten => write!(f, "mask written"),
+            Seen::OtherRegisterWritten => write!(f, "other registers written"),
+            Seen::WriteRefused(number) => write!(f, "register writes refused {number}"),
+            Seen::FlagSet(flag) => write!(f, "flag {flag} set"),
+            Seen::FlagCleared(flag) => write!(f, "flag {flag} cleared"),
+            Seen::OtherMarkCleared => write!(f, "other marks of flags cleared"),
+            Seen::Counted(count) => write!(f, "{count} counted"),
+            Seen::CountWrapped(count) => write!(f, "count of {count} wrapped"),
+            Seen::Tracked => write!(f, "registers as tracked"),
             Seen::Shown(shown) => write!(f, "{shown}"),
             Seen::Closed => write!(f, "closed by host"),
             Seen::FitRecord => write!(f, "fit"),
@@ -227,6 +274,7 @@ impl Coverage {
         if let Call::BestEffort { charge, .. } = *call {
             self.count_best_effort(charge, reply, record);
         }
+        self.count_access(call, reply);
         if reply.refusal != 0 {
             self.count_refused_draining(call, reply);
             return self.count(Seen::Refused(reply.refusal));
@@ -253,6 +301,7 @@ impl Coverage {
             }
             Call::Withdraw { .. } => self.count(Seen::Withdrawn),
             Call::Frame { .. } => unreachable!("a Frame is counted as the call that it becomes"),
+            Call::ReadRegister { .. } | Call::WriteRegister { .. } => (),
         }
     }
 

@@ -5,6 +5,7 @@ use std::collections::BTreeMap;
 use crate::call::{Call, Reply};
 use crate::comparing::coverage::{Coverage, Seen};
 use crate::comparing::fit::is_bound;
+use crate::comparing::registers::ticks;
 use crate::layout::{self, is_draining, is_reserved};
 use crate::model::octets::RECORD_OCTETS;
 use crate::model::port::STREAMS;
@@ -18,7 +19,7 @@ pub struct Ending {
 /// The streams whose draining a call ends if it is granted, by the record before it: at a tick those in their last, at an opening all that drain.
 pub fn ending(call: &Call, record: &[u8]) -> Vec<Ending> {
     let ends = |stream: &usize| match call {
-        Call::Tick => is_reserved(record, *stream) && record[layout::entry(*stream) + layout::DRAINING] == 1,
+        call if ticks(call) => is_reserved(record, *stream) && record[layout::entry(*stream) + layout::DRAINING] == 1,
         Call::Open { .. } => is_draining(record, *stream),
         _ => false,
     };
@@ -43,7 +44,7 @@ impl Freed {
                 coverage.add(Seen::DrainingEndedByOpen, ending.len() as u64);
                 self.streams.clear();
             }
-            Call::Tick => self.tick(coverage, ending),
+            _ if ticks(call) => self.tick(coverage, ending),
             Call::Reserve { stream, .. } => {
                 let Some(freed) = self.streams.remove(&usize::from(stream)) else { return };
                 coverage.count(Seen::GrantedAgain);

@@ -2,7 +2,7 @@
 
 use crate::comparing::random::Random;
 use crate::layout::{self, put_four, put_two, two};
-use crate::model::octets::{MEMORY_OCTETS, RECORD_OCTETS};
+use crate::model::octets::{MEMORY_OCTETS, PORT_OCTETS};
 use crate::model::port::{
     share, BEST_EFFORT, BEST_EFFORT_STREAM, CHARGES, CURRENT, DELAYS, DRAINING_TICKS, LAST, LEAST_PERMITTED, LINKS, MARK_YES, NOT_DRAINING,
     QUEUES, QUEUE_PLACES, RESERVED_QUEUES, STREAMS, VIDS,
@@ -11,7 +11,7 @@ use crate::model::port::{
 /// VID and address of a stream, as they stand in its entry.
 pub type Binding = [u8; layout::BINDING_END - layout::VID];
 
-/// The octets of a record and of its memory.
+/// The octets of a port, record and register block, as they are lent, and of its memory.
 #[derive(Clone, PartialEq, Eq)]
 pub struct Octets {
     pub record: Vec<u8>,
@@ -21,7 +21,7 @@ pub struct Octets {
 impl Octets {
     /// All octets zero: a closed port.
     pub fn zero() -> Octets {
-        Octets { record: vec![0; RECORD_OCTETS], memory: vec![0; MEMORY_OCTETS] }
+        Octets { record: vec![0; PORT_OCTETS], memory: vec![0; MEMORY_OCTETS] }
     }
 
     /// Any octets.
@@ -41,7 +41,21 @@ impl Octets {
             octets.put_queue(random, queue, start, count);
         }
         octets.put_streams(random, open);
+        octets.put_block(random);
         octets
+    }
+
+    /// Gives the register block any content: marks of flags that are up, down or neither, any mask, and counts at their end, near it or anywhere.
+    pub fn put_block(&mut self, random: &mut Random) {
+        for at in [layout::FLAG_DISCARD, layout::FLAG_PURGE, layout::FLAG_NOTHING] {
+            self.record[layout::in_block(at)] = if random.chance(50) { MARK_YES } else { no_mark(random) };
+        }
+        let (any, bit) = (random.number(), 1 << random.below(3));
+        put_four(&mut self.record, layout::in_block(layout::BLOCK_MASK), random.pick(&[0, bit, 7, 8, u32::MAX, any]));
+        for at in [layout::SENT, layout::ACCEPTED, layout::DISCARDED] {
+            let any = random.number();
+            put_four(&mut self.record, layout::in_block(at), random.pick(&[0, u32::MAX, u32::MAX - 1, u32::from(u16::MAX), any, any]));
+        }
     }
 
     /// Whether the port is open.

@@ -14,6 +14,7 @@ pub mod lent;
 pub mod profiles;
 pub mod program;
 pub mod random;
+pub mod registers;
 pub mod replayed;
 pub mod shapes;
 pub mod sides;

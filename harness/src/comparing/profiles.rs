@@ -1,5 +1,5 @@
-//! The profiles that several tests use, of steps that press one part of a port, and of any steps. The weights of `bind`, `frame` and `close` count
-//! in lists only: a capture has no such events.
+//! The profiles that several tests use, of steps that press one part of a port, and of any steps. The weights of `bind`, `frame`, `read_register`,
+//! `write_register` and `close` count in lists only: a capture has no such events.
 
 use crate::comparing::calls::{Charges, Permitted, Profile, Weights, NEVER, ORDINARY};
 use crate::comparing::random::Random;
@@ -12,7 +12,19 @@ const FULL_SHARE: u32 = FULL_LINK - LARGEST_CHARGE;
 
 /// Few streams, which arrivals press at every place: exact fits and discards.
 pub const FEW_STREAMS: Profile = Profile {
-    weights: Weights { reserve: 4, arrive: 70, tick: 15, transmit: 20, best_effort: 5, bind: 3, frame: 30, withdraw: 1, ..NEVER },
+    weights: Weights {
+        reserve: 4,
+        arrive: 70,
+        tick: 15,
+        transmit: 20,
+        best_effort: 5,
+        bind: 3,
+        frame: 30,
+        withdraw: 1,
+        read_register: 2,
+        write_register: 5,
+        ..NEVER
+    },
     streams: 4,
     links: 12_020..=FULL_LINK,
     permitted: Permitted::UpTo(2_500),
@@ -31,6 +43,8 @@ pub const MANY_STREAMS: Profile = Profile {
         bind: 60,
         frame: 100,
         withdraw: 3,
+        read_register: 10,
+        write_register: 20,
         close: 1,
     },
     links: 7_500..=FULL_LINK,
@@ -40,7 +54,19 @@ pub const MANY_STREAMS: Profile = Profile {
 
 /// Hardly any transmits, so that ticks purge.
 pub const HARDLY_ANY_TRANSMITS: Profile = Profile {
-    weights: Weights { reserve: 4, arrive: 60, tick: 30, transmit: 4, best_effort: 4, bind: 3, frame: 20, withdraw: 1, ..NEVER },
+    weights: Weights {
+        reserve: 4,
+        arrive: 60,
+        tick: 30,
+        transmit: 4,
+        best_effort: 4,
+        bind: 3,
+        frame: 20,
+        withdraw: 1,
+        read_register: 2,
+        write_register: 2,
+        ..NEVER
+    },
     streams: 16,
     links: 5_000..=FULL_LINK,
     permitted: Permitted::UpTo(3_000),
@@ -49,9 +75,42 @@ pub const HARDLY_ANY_TRANSMITS: Profile = Profile {
 
 /// Few streams that are withdrawn again and again, with ticks enough that they drain, and reservations that take their numbers and share again.
 pub const WITHDRAWING: Profile = Profile {
-    weights: Weights { reserve: 25, arrive: 40, tick: 30, transmit: 30, best_effort: 10, bind: 15, frame: 40, withdraw: 12, ..NEVER },
+    weights: Weights {
+        reserve: 25,
+        arrive: 40,
+        tick: 30,
+        transmit: 30,
+        best_effort: 10,
+        bind: 15,
+        frame: 40,
+        withdraw: 12,
+        read_register: 2,
+        write_register: 10,
+        ..NEVER
+    },
     streams: 6,
     links: 2_620..=FULL_LINK,
+    edges: 5,
+    ..ORDINARY
+};
+
+/// Registers read and written again and again beside calls of every sort, with ticks that purge, discards, and transmits that find nothing.
+pub const REGISTERS: Profile = Profile {
+    weights: Weights {
+        reserve: 6,
+        arrive: 40,
+        tick: 3,
+        transmit: 30,
+        best_effort: 4,
+        bind: 6,
+        frame: 15,
+        withdraw: 1,
+        read_register: 50,
+        write_register: 70,
+        ..NEVER
+    },
+    streams: 6,
+    links: 2_620..=9_000,
     edges: 5,
     ..ORDINARY
 };
@@ -68,6 +127,8 @@ pub const WRONG_ARGUMENTS: Profile = Profile {
         bind: 25,
         frame: 25,
         withdraw: 10,
+        read_register: 10,
+        write_register: 15,
         close: 5,
     },
     edges: 60,
@@ -94,8 +155,22 @@ pub fn any_profile(random: &mut Random) -> Profile {
     let (open, reserve, arrive) = (any(0, 4), any(1, 30), any(10, 100));
     let (tick, transmit, best_effort, close) = (any(0, 30), any(0, 60), any(0, 30), any(0, 2));
     let (bind, frame, withdraw) = (any(0, 15), any(0, 60), any(0, 6));
+    let (read_register, write_register) = (any(0, 8), any(0, 10));
     Profile {
-        weights: Weights { open, reserve, arrive, tick, transmit, best_effort, bind, frame, withdraw, close },
+        weights: Weights {
+            open,
+            reserve,
+            arrive,
+            tick,
+            transmit,
+            best_effort,
+            bind,
+            frame,
+            withdraw,
+            read_register,
+            write_register,
+            close,
+        },
         streams: any(1, STREAMS as u32),
         edges: any(0, 20),
         permitted: random.pick(&[Permitted::NearFree, Permitted::UpTo(1_000), Permitted::UpTo(6_000)]),

@@ -2,12 +2,12 @@
 
 use crate::comparing::fit::{any_binding, Binding, Octets};
 use crate::comparing::random::Random;
-use crate::layout;
-use crate::model::octets::{MEMORY_OCTETS, RECORD_OCTETS};
+use crate::layout::{self, two};
+use crate::model::octets::{MEMORY_OCTETS, PORT_OCTETS, RECORD_OCTETS};
 use crate::model::port::{MARK_YES, QUEUES, STREAMS};
 
-/// The lengths of a record that are tried: none, short by much or one, right, and longer.
-const RECORD_LENGTHS: [usize; 6] = [0, 1, RECORD_OCTETS - 1, RECORD_OCTETS, RECORD_OCTETS + 1, 2_000];
+/// The lengths of a lent port that are tried: none, one, those about a record alone, short by one, right, and longer.
+const PORT_LENGTHS: [usize; 8] = [0, 1, RECORD_OCTETS - 1, RECORD_OCTETS, PORT_OCTETS - 1, PORT_OCTETS, PORT_OCTETS + 1, 3_000];
 /// The lengths of a memory that are tried.
 const MEMORY_LENGTHS: [usize; 6] = [0, 1, MEMORY_OCTETS - 1, MEMORY_OCTETS, MEMORY_OCTETS + 1, 20_000];
 
@@ -57,7 +57,7 @@ pub fn sparse(random: &mut Random) -> Octets {
     random.fill(&mut octets.memory);
     for _ in 0..random.below(8) {
         let any = random.octet();
-        let at = random.below(RECORD_OCTETS);
+        let at = random.below(PORT_OCTETS);
         let in_head = random.below(layout::entry(0));
         octets.record[random.pick(&[at, in_head])] = random.pick(&[1, 1, 2, 255, any]);
     }
@@ -74,12 +74,14 @@ pub fn zeros_and_ones(random: &mut Random) -> Octets {
     octets
 }
 
-/// An open record of which any queue and stream may be far outside what is fit.
+/// An open record of which any queue and stream may be far outside what is fit, and frames may wait whose stream is that of nothing to send.
 pub fn extreme(random: &mut Random) -> Octets {
     let mut octets = Octets::fit(random, true);
     for queue in 0..QUEUES {
         put_extreme(random, &mut octets.record, layout::start(queue), &[255, 256, 32_768, u16::MAX]);
         put_extreme(random, &mut octets.record, layout::count(queue), &[0, 255, 256, 257, 32_768, u16::MAX]);
+        let oldest = layout::frame(queue, two(&octets.record, layout::start(queue)) as usize, 0);
+        put_extreme(random, &mut octets.memory, oldest + layout::FRAME_STREAM, &[64, 254, 254, 255, 256 + 254, u16::MAX]);
     }
     for at in (0..STREAMS).map(layout::entry) {
         put_extreme(random, &mut octets.record, at + layout::LEFT, &[0, 83, 84, u16::MAX]);
@@ -140,7 +142,7 @@ fn resize(octets: &mut Vec<u8>, random: &mut Random, length: usize) {
 
 /// Every shape with every pair of lengths of record and memory, so many times.
 pub fn each_shape_and_lengths(times: usize) -> Vec<((&'static str, Shape), (usize, usize))> {
-    let pairs = RECORD_LENGTHS.into_iter().flat_map(|record| MEMORY_LENGTHS.map(|memory| (record, memory)));
+    let pairs = PORT_LENGTHS.into_iter().flat_map(|record| MEMORY_LENGTHS.map(|memory| (record, memory)));
     let once: Vec<_> = pairs.flat_map(|lengths| SHAPES.map(|shape| (shape, lengths))).collect();
     once.repeat(times)
 }

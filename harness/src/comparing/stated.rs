@@ -1,4 +1,4 @@
-//! A list of Binds, Frames, Withdraws and other calls whose replies are written down, from documents 01 and 02 or for records that are not fit from
+//! A list of Binds, Frames, Withdraws, accesses to registers and other calls whose replies are written down, from documents 01 and 02 or for records that are not fit from
 //! the quick calls' definition, played on two sides.
 
 use crate::call::{Call, Reply, ADDRESS_OCTETS};
@@ -9,7 +9,7 @@ use crate::comparing::random::Random;
 use crate::comparing::sides::Side;
 use crate::comparing::test::Run;
 use crate::layout;
-use crate::model::octets::{MEMORY_OCTETS, RECORD_OCTETS};
+use crate::model::octets::{MEMORY_OCTETS, PORT_OCTETS};
 use crate::model::port::share;
 use crate::model::refusal::{MEMORY_SHORT, PORT_CLOSED, RECORD_UNFIT};
 
@@ -128,14 +128,14 @@ impl<'a, 'r> Stated<'a, 'r> {
     }
 }
 
-/// An open port as it is, closed, with its record or its memory cut by an octet, and with several of these at once; each with what every call but
+/// An open port as it is, closed, with its port or its memory cut by an octet, and with several of these at once; each with what every call but
 /// Open is refused with there, "18 19 1", before its own checks.
 pub fn refused_before_all_else(port: &Octets) -> Vec<(Octets, Option<u8>)> {
     let cases = (0..8).map(|case| (case & 1 != 0, case & 2 != 0, case & 4 != 0));
     let made = cases.map(|(closed, cut_record, cut_memory)| {
         let mut octets = port.clone();
         octets.record[layout::OPEN] = u8::from(!closed);
-        octets.record.truncate(RECORD_OCTETS - usize::from(cut_record));
+        octets.record.truncate(PORT_OCTETS - usize::from(cut_record));
         octets.memory.truncate(MEMORY_OCTETS - usize::from(cut_memory));
         let refusals = [(cut_memory, MEMORY_SHORT), (cut_record, RECORD_UNFIT), (closed, PORT_CLOSED)];
         let first = refusals.into_iter().find(|(holds, _)| *holds).map(|(_, refusal)| refusal);

@@ -17,18 +17,20 @@ pub enum Kind {
     Quick,
     Frames,
     Withdrawals,
+    Registers,
     Guarantee,
     Captures,
 }
 
 /// Each kind with the word that names it on the command line.
-pub const KINDS: [(&str, Kind); 8] = [
+pub const KINDS: [(&str, Kind); 9] = [
     ("streams", Kind::Streams),
     ("lists", Kind::Lists),
     ("records", Kind::Records),
     ("quick", Kind::Quick),
     ("frames", Kind::Frames),
     ("withdrawals", Kind::Withdrawals),
+    ("registers", Kind::Registers),
     ("guarantee", Kind::Guarantee),
     ("captures", Kind::Captures),
 ];

@@ -6,8 +6,9 @@ use crate::comparing::calls::ORDINARY;
 use crate::comparing::fit::Octets;
 use crate::comparing::frames::{arrival, stream_of};
 use crate::comparing::random::Random;
+use crate::comparing::registers::{any_read, any_write, ticks};
 use crate::comparing::sides::Play;
-use crate::guarantee::becoming;
+use crate::guarantee::becoming::{self, by_control};
 use crate::guarantee::list::{Event, Playing};
 use crate::guarantee::pairs::is_own;
 use crate::model::port::{CHARGES, DELAYS, LARGEST_CHARGE, LEAST_PERMITTED, LINKS, STREAMS};
@@ -21,6 +22,8 @@ struct Changes {
 
 /// How many arrivals in a hundred are Frames, where their stream is bound in the second list.
 const FRAMES: usize = 50;
+/// How many ticks in a hundred are control writes in the second list.
+const CONTROLLED: usize = 20;
 
 /// Writes such a list on another record and memory, with an L and a K of its own.
 pub fn write(random: &mut Random, play: Play, begin: &Octets, events: &[Event], stream: u8) -> Vec<Event> {
@@ -69,17 +72,20 @@ fn own(random: &mut Random, playing: &mut Playing, call: Call) {
             playing.call(call);
             playing.call(bind);
         }
+        Call::Tick if random.chance(CONTROLLED) => {
+            playing.call(by_control(call, random.number()));
+        }
         _ => {
             playing.call(call);
         }
     }
 }
 
-/// Plays a call that is not the stream's own, unless it would be one here: a Frame that becomes an arrival on it.
+/// Plays a call that is not the stream's own, unless it would be one here: a Frame that becomes an arrival on it, or a control write that ticks.
 fn other(playing: &mut Playing, call: Call, stream: u8) {
     let own = match &call {
         Call::Frame { octets, .. } => stream_of(&playing.octets().record, octets) == Some(usize::from(stream)),
-        _ => false,
+        call => ticks(call),
     };
     if !own {
         playing.call(call);
@@ -91,7 +97,7 @@ fn any_other(random: &mut Random, playing: &mut Playing, stream: u8) {
     let another = ((usize::from(stream) + 1 + random.below(STREAMS - 1)) % STREAMS) as u8;
     let (tag, charge) = (random.number(), random.between(CHARGES));
     let record = &playing.octets().record;
-    let call = match random.weighted(&[1, 4, 20, 20, 10, 4, 2, 15]) {
+    let call = match random.weighted(&[1, 4, 20, 20, 10, 4, 2, 2, 4, 15]) {
         0 => Call::Open { link: random.between(LINKS), delay: 1 },
         1 => Call::Reserve { stream: another, permitted: random.between(LEAST_PERMITTED..=2 * LARGEST_CHARGE) },
         2 => Call::Arrive { stream: another, charge, tag },
@@ -99,6 +105,8 @@ fn any_other(random: &mut Random, playing: &mut Playing, stream: u8) {
         4 => Call::BestEffort { charge, tag },
         5 => ORDINARY.bind(random, record, false),
         6 => Call::Withdraw { stream: another },
+        7 => any_read(random, false),
+        8 => any_write(random, false),
         _ => ORDINARY.frame(random, record, false),
     };
     other(playing, call, stream);

@@ -1,5 +1,7 @@
 //! What each call of a list counts as, from the events alone: a Frame "that is not refused with 17 and becomes an Arrive in its list counts there as
-//! that Arrive". The numbers of documents 01 and 02 stand here and in `ranges` as numbers, not as the model's.
+//! that Arrive", and a control write as the tick or the transmit that it makes, since "any list of control writes does to the port what the named
+//! calls do". A control write with both bits is in no list: its one reply does not say what the tick replied. A list that would hold one holds in
+//! its place two writes, one with each bit, played one after the other; that these are that write is held in `comparing::tests::registers`. The numbers of documents 01 and 02 stand here and in `ranges` as numbers, not as the model's.
 
 use crate::call::Call;
 use crate::guarantee::list::Event;
@@ -11,19 +13,59 @@ const OUTSIDE: u8 = 17;
 /// The octets of a header up to those of the VID.
 const HEADER: usize = 16;
 
-/// What each call of a list counts as: a Frame that is not refused with 17 as the Arrive or Best effort that it becomes by the bindings of then, any
-/// other call as itself.
+/// What each call of a list counts as: a Frame that is not refused with 17 as the Arrive or Best effort that it becomes by the bindings of then, a
+/// control write of one bit as the call that it makes, any other call as itself.
 pub fn counted(events: &[Event]) -> Vec<Call> {
     let mut taken = Taken::default();
-    let count = |event: &Event| match (&event.call, event.reply.refusal) {
-        (Call::Frame { octets, tag }, refusal) if refusal != OUTSIDE => becomes(&taken, octets, *tag),
+    let count = |event: &Event| match (made(&event.call), event.reply.refusal) {
+        (Call::Frame { octets, tag }, refusal) if refusal != OUTSIDE => becomes(&taken, &octets, tag),
         (call, 0) => {
-            taken.follow(call);
-            call.clone()
+            taken.follow(&call);
+            call
         }
-        (call, _) => call.clone(),
+        (call, _) => call,
     };
     events.iter().map(count).collect()
+}
+
+/// "Offset 0 is control".
+const CONTROL: u32 = 0;
+/// "writing bit 0 ticks, then bit 1 transmits".
+const TICKS: u32 = 1;
+const TRANSMITS: u32 = 2;
+
+/// The call that a control write of one bit makes, or the call itself.
+pub fn made(call: &Call) -> Call {
+    match *call {
+        Call::WriteRegister { offset: CONTROL, value } if value & (TICKS | TRANSMITS) == TICKS => Call::Tick,
+        Call::WriteRegister { offset: CONTROL, value } if value & (TICKS | TRANSMITS) == TRANSMITS => Call::Transmit,
+        _ => call.clone(),
+    }
+}
+
+/// Whether a call makes both a Tick and a Transmit.
+pub fn makes_both(call: &Call) -> bool {
+    matches!(*call, Call::WriteRegister { offset: CONTROL, value } if value & TICKS != 0 && value & TRANSMITS != 0)
+}
+
+/// What a list holds in the place of a call: of a control write with both bits a write with each, else the call.
+pub fn apart(call: Call) -> Vec<Call> {
+    match call {
+        Call::WriteRegister { offset, value } if makes_both(&call) => {
+            [value & !TRANSMITS, value & !TICKS].map(|value| Call::WriteRegister { offset, value }).to_vec()
+        }
+        call => vec![call],
+    }
+}
+
+/// A control write that makes a Tick or a Transmit, whatever its bits above; any other call as it is.
+pub fn by_control(call: Call, above: u32) -> Call {
+    let above = above & !(TICKS | TRANSMITS);
+    match call {
+        Call::Tick => Call::WriteRegister { offset: CONTROL, value: above | TICKS },
+        Call::Transmit => Call::WriteRegister { offset: CONTROL, value: above | TRANSMITS },
+        call => call,
+    }
 }
 
 /// "A bound pair is an Arrive on its stream; all else is best effort."

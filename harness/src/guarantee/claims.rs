@@ -47,6 +47,7 @@ pub fn check(events: &[Event]) -> Result<Found, Broken> {
     found.purging = told.ticks.iter().filter(|&&tick| events[tick].reply != PURGES_NOTHING).count() as u64;
     found.twins = told.twins();
     [found.frame_arrivals, found.frame_best_efforts] = told.frames();
+    [found.control_ticks, found.control_transmits] = told.control_writes();
     if found.link != Link::Failed {
         told.no_tick_purges()?;
         told.accepted_are_sent(&mut found)?;
@@ -66,6 +67,9 @@ fn frame_sent(events: &[Event], calls: &[Call], number: usize) -> Result<Option<
     let Event { reply, marked, apart, .. } = events[number];
     if NEVER_MET.contains(&reply.refusal) {
         return broken(number, "a refusal that no list from an opening meets");
+    }
+    if becoming::makes_both(&events[number].call) {
+        return broken(number, "a control write with both bits, of which the reply does not say what the tick replied");
     }
     if becoming::is_judged_wrongly(&events[number]) {
         return broken(number, &format!("it replies {reply}, and 17 is for frames outside their range of lengths alone"));
@@ -126,6 +130,12 @@ impl<'a> Told<'a> {
         let arrivals = frames.clone().filter(|(_, call)| matches!(call, Call::Arrive { .. })).count();
         let best_efforts = frames.filter(|(_, call)| matches!(call, Call::BestEffort { .. })).count();
         [arrivals as u64, best_efforts as u64]
+    }
+
+    /// How many control writes count as a Tick, and how many as a Transmit.
+    fn control_writes(&self) -> [u64; 2] {
+        let writes = self.events.iter().zip(&self.calls).filter(|(event, _)| matches!(event.call, Call::WriteRegister { .. }));
+        [Call::Tick, Call::Transmit].map(|made| writes.clone().filter(|(_, call)| **call == made).count() as u64)
     }
 
     /// The charge of the reserved frame, one "that an Arrive brought", that a call sends.

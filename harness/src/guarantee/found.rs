@@ -39,6 +39,9 @@ pub struct Found {
     /// Frames that count as an Arrive, and Frames that count as a Best effort.
     pub frame_arrivals: u64,
     pub frame_best_efforts: u64,
+    /// Control writes that count as a Tick, and those that count as a Transmit.
+    pub control_ticks: u64,
+    pub control_transmits: u64,
     /// Accepted reserved frames that were sent before the fourth tick after them, and those of them that were not before the third.
     pub sent_in_time: u64,
     pub sent_after_third: u64,
@@ -74,6 +77,8 @@ impl Found {
             twins: 0,
             frame_arrivals: 0,
             frame_best_efforts: 0,
+            control_ticks: 0,
+            control_transmits: 0,
             sent_in_time: 0,
             sent_after_third: 0,
             sent_as_replied,
@@ -85,7 +90,7 @@ impl Found {
     }
 
     /// The counts by what they show.
-    pub fn shown(&self) -> [(Shown, u64); 22] {
+    pub fn shown(&self) -> [(Shown, u64); 24] {
         let [as_current, as_next, as_last] = self.sent_as_replied;
         [
             (Shown::Link(self.link), 1),
@@ -94,6 +99,8 @@ impl Found {
             (Shown::Twin, self.twins),
             (Shown::FrameArrival, self.frame_arrivals),
             (Shown::FrameBestEffort, self.frame_best_efforts),
+            (Shown::ControlTick, self.control_ticks),
+            (Shown::ControlTransmit, self.control_transmits),
             (Shown::SentInTime, self.sent_in_time),
             (Shown::SentAfterThird, self.sent_after_third),
             (Shown::SentAsCurrent, as_current),
@@ -129,6 +136,10 @@ pub enum Shown {
     FrameArrival,
     /// A Frame that counts as a Best effort.
     FrameBestEffort,
+    /// A control write that counts as a Tick.
+    ControlTick,
+    /// A control write that counts as a Transmit.
+    ControlTransmit,
     /// An accepted frame that was sent before the fourth tick after it.
     SentInTime,
     /// One of these that was not sent before the third.
@@ -235,6 +246,8 @@ impl fmt::Display for Shown {
             Shown::Twin => "such frames sent",
             Shown::FrameArrival => "frames that count as arrivals",
             Shown::FrameBestEffort => "frames that count as best effort",
+            Shown::ControlTick => "control writes that count as ticks",
+            Shown::ControlTransmit => "control writes that count as transmits",
             Shown::SentInTime => "accepted frames sent before the 4th tick",
             Shown::SentAfterThird => "of these not before the 3rd",
             Shown::SentAsCurrent => "accepted as current and sent before the 2nd tick",

@@ -9,7 +9,9 @@ use crate::comparing::compared::Step;
 use crate::comparing::fit::Octets;
 use crate::comparing::frames::{any_header, any_untagged, arrival, arrival_of};
 use crate::comparing::random::Random;
+use crate::comparing::registers::any_read;
 use crate::comparing::sides::Play;
+use crate::guarantee::becoming::{apart, by_control, made};
 use crate::guarantee::list::{Event, Playing};
 use crate::layout::{self, two};
 use crate::model::port::{
@@ -80,6 +82,8 @@ struct Writer<'a> {
     later: Vec<(u8, u32)>,
     /// How many streams in a hundred offer all that they can between two ticks; the others can still fill all their queues later.
     pressed: usize,
+    /// How many ticks and transmits in a hundred are control writes.
+    controlled: usize,
 }
 
 /// Writes a list in a manner; before the first tick, where the link condition asks nothing, the link most often does not serve.
@@ -92,7 +96,7 @@ pub fn write(random: &mut Random, play: Play, begin: &Octets, manner: &Manner) -
         let service = if withheld { Service::Withheld } else { writer.random.pick(manner.services) };
         writer.stretch(manner, service);
         writer.serve(service);
-        writer.tick();
+        writer.tick(Call::Tick);
         writer.cease(manner);
         writer.grant_again(manner);
     }
@@ -106,14 +110,7 @@ pub fn write_any(random: &mut Random, play: Play, begin: &Octets, profile: &Prof
     let mut writer = Writer::open(random, play, begin, link);
     for _ in 0..calls {
         match profile.step(writer.random, &writer.playing.octets().record) {
-            Step::Call(Call::Tick) => {
-                if writer.random.chance(served) {
-                    let service = writer.random.pick(&[Service::Share, Service::Idle]);
-                    writer.serve(service);
-                }
-                writer.tick();
-            }
-            Step::Call(call) => writer.call(call),
+            Step::Call(call) => apart(call).into_iter().for_each(|call| writer.any(call, served)),
             Step::HostWrites { .. } => unreachable!("nobody else writes the record of a list"),
         }
     }
@@ -126,7 +123,7 @@ impl<'a> Writer<'a> {
         let mut playing = Playing::new(play, begin);
         playing.call(Call::Open { link, delay: random.between(DELAYS) });
         let (offered, conforming, was_granted) = ([0; STREAMS], [false; STREAMS], [false; STREAMS]);
-        let pressed = random.pick(&[100, 100, 75]);
+        let (pressed, controlled) = (random.pick(&[100, 100, 75]), random.pick(&[0, 0, 30, 100]));
         Writer {
             random,
             playing,
@@ -138,16 +135,30 @@ impl<'a> Writer<'a> {
             was_granted,
             later: Vec::new(),
             pressed,
+            controlled,
         }
     }
 
-    /// Plays a call, and keeps what the link sent and what a stream offered.
+    /// Plays any call of a list; before a tick the link serves so many times in a hundred.
+    fn any(&mut self, call: Call, served: usize) {
+        if made(&call) != Call::Tick {
+            return self.call(call);
+        }
+        if self.random.chance(served) {
+            let service = self.random.pick(&[Service::Share, Service::Idle]);
+            self.serve(service);
+        }
+        self.tick(call);
+    }
+
+    /// Plays a call, a tick or a transmit now and then by a control write, and keeps what the link sent and what a stream offered.
     fn call(&mut self, call: Call) {
-        let event = self.playing.call(call);
+        let controlled = self.random.chance(self.controlled);
+        let event = self.playing.call(if controlled { by_control(call, self.random.number()) } else { call });
         if let (Call::Reserve { stream, .. }, 0) = (&event.call, event.reply.refusal) {
             self.was_granted[usize::from(*stream)] = true;
         }
-        if event.call == Call::Transmit {
+        if made(&event.call) == Call::Transmit {
             match self.charge_sent(&event) {
                 Some(charge) => self.sent += charge,
                 None => self.idle = true,
@@ -172,9 +183,9 @@ impl<'a> Writer<'a> {
         (event.reply.first < STREAMS as u32).then_some(charge)
     }
 
-    /// Plays a Tick.
-    fn tick(&mut self) {
-        self.call(Call::Tick);
+    /// Plays a Tick, or the control write that makes it.
+    fn tick(&mut self, tick: Call) {
+        self.call(tick);
         (self.sent, self.idle, self.offered) = (0, false, [0; STREAMS]);
     }
 
@@ -375,7 +386,9 @@ impl<'a> Writer<'a> {
     fn refused_call(&mut self) {
         let (stream, number) = (self.random.octet(), self.random.number());
         let reserved = self.is_reserved(usize::from(stream));
-        let call = match self.random.below(6) {
+        let call = match self.random.below(8) {
+            6 => any_read(self.random, false),
+            7 => self.write_outside_control(),
             0 => Call::Open { link: self.random.between(LINKS), delay: 1 },
             4 => ORDINARY.bind(self.random, &self.playing.octets().record, true),
             5 => self.frame_outside(),
@@ -384,6 +397,12 @@ impl<'a> Writer<'a> {
             _ => Call::Arrive { stream, charge: LARGEST_CHARGE + 1 + number % 100, tag: number },
         };
         self.call(call);
+    }
+
+    /// A write of a register that is not control.
+    fn write_outside_control(&mut self) -> Call {
+        let value = self.random.number();
+        Call::WriteRegister { offset: 4 * self.random.between(1..=15), value }
     }
 
     /// A Frame of a length outside its range.

@@ -2,10 +2,12 @@
 //! content, and what the benchmark measures them beside. Written from their definition (`crates/port/specs/Quick.antt` and the steps below it), which
 //! is total: the queue in a role is (prior + role) modulo 4 for every prior, a ring's place is taken modulo 256 for every start, a place that
 //! is none of the three goes by the same sentences, a draining count of any size falls by one at a tick, W falls to no less than 0, and so does what
-//! L leaves beside R; of streams that are bound to one pair the first counts, reserved or not.
+//! L leaves beside R; of streams that are bound to one pair the first counts, reserved or not. What a call's reply does to the register block is
+//! written from document 02, "Register block", and its reading.
 
 mod bindings;
 mod fields;
+mod registers;
 mod traffic;
 
 use crate::call::{Call, Given, Reply};
@@ -29,11 +31,28 @@ pub fn call(call: &Given, port: &mut [u8], memory: &mut [u8]) -> Reply {
     }
 }
 
-/// The quick call: its reply, or the number of its refusal; 18 for a memory that is too short comes first, then 19 for a record that is.
+/// The quick call: its reply, or the number of its refusal; 26 for a register's offset comes first, then 18 for a memory that is too short, then 19
+/// for a port that is.
 #[inline(always)]
 fn played(call: &Given, port: &mut [u8], memory: &mut [u8]) -> Result<Reply, u8> {
+    refuse(26, registers::offset_is_wrong(call))?;
     let memory = memory.first_chunk_mut().ok_or(18)?;
-    let record = port.first_chunk_mut().ok_or(19)?;
+    let (record, rest) = port.split_first_chunk_mut().ok_or(19)?;
+    let block = rest.first_chunk_mut().ok_or(19)?;
+    match *call {
+        Call::ReadRegister { offset } => Ok(registers::read(record, block, offset)),
+        Call::WriteRegister { offset, value } => registers::write(record, memory, block, offset, value),
+        _ => {
+            let reply = on_record(call, record, memory);
+            registers::follow(block, call, &reply);
+            reply
+        }
+    }
+}
+
+/// What a quick call that names no register does to the record and the memory: its reply, or the number of its refusal.
+#[inline(always)]
+fn on_record(call: &Given, record: &mut Record, memory: &mut Memory) -> Result<Reply, u8> {
     match *call {
         Call::Open { link, delay } => open(record, link, delay),
         Call::Reserve { stream, permitted } => reserve(record, stream, permitted),
@@ -44,6 +63,7 @@ fn played(call: &Given, port: &mut [u8], memory: &mut [u8]) -> Result<Reply, u8>
         Call::Bind { stream, address, vid } => bind(record, stream, address, vid),
         Call::Frame { octets, tag } => frame(record, memory, octets, tag),
         Call::Withdraw { stream } => withdraw(record, stream),
+        Call::ReadRegister { .. } | Call::WriteRegister { .. } => unreachable!("an access to a register is played beside the record"),
     }
 }
 

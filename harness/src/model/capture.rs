@@ -136,5 +136,6 @@ pub fn kind(event: &Call) -> u8 {
         Call::Transmit => TRANSMIT,
         Call::Withdraw { .. } => WITHDRAW,
         Call::Bind { .. } | Call::Frame { .. } => unreachable!("no kind of event is a Bind or a Frame"),
+        Call::ReadRegister { .. } | Call::WriteRegister { .. } => unreachable!("no kind of event names a register"),
     }
 }

@@ -1,9 +1,9 @@
 //! What a lent memory and a port record must be before any rule runs: refusals 18 and 19 of document 01, the latter with a clause
-//! of document 02, "Withdraw a stream", and the ranges of "Envelope frames".
+//! of document 02, "Withdraw a stream", and the ranges of "Envelope frames". The register block has no clause in 19.
 
 use std::collections::VecDeque;
 
-use super::octets::{self, MEMORY_OCTETS, RECORD_OCTETS};
+use super::octets::{self, MEMORY_OCTETS, PORT_OCTETS};
 use super::port::{
     permitted_sum, share, Frame, Stream, BEST_EFFORT, BEST_EFFORT_STREAM, CHARGES, CURRENT, DELAYS, DRAINING_TICKS, LAST, LEAST_PERMITTED,
     LINKS, MARK_YES, NEXT, QUEUES, QUEUE_PLACES, RESERVED_QUEUES, STREAMS, VIDS,
@@ -12,7 +12,7 @@ use super::port::{
 /// The clauses of 19, in document 01's order, that of document 02 beside the others on reserved streams.
 #[derive(Clone, Copy, Debug, PartialEq, Eq)]
 pub enum Clause {
-    /// The record is too short to hold a port.
+    /// The lent port is too short to hold a record and a register block.
     ShortRecord,
     /// "prior above 3".
     Prior,
@@ -78,7 +78,7 @@ pub fn memory_short(memory: &[u8]) -> bool {
 
 /// 19: the clauses that the record breaks, in that order; a clause that cannot be judged is not among them.
 pub fn unfit(record: &[u8], memory: &[u8]) -> Vec<Clause> {
-    if record.len() < RECORD_OCTETS {
+    if record.len() < PORT_OCTETS {
         return vec![Clause::ShortRecord];
     }
     CLAUSES.iter().copied().filter(|clause| breaks(*clause, record, memory)).collect()

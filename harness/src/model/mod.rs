@@ -15,6 +15,9 @@ mod frame_tests;
 pub mod octets;
 pub mod port;
 pub mod refusal;
+#[cfg(test)]
+mod register_tests;
+pub mod registers;
 pub mod replay;
 pub mod rule;
 #[cfg(test)]
@@ -22,10 +25,14 @@ mod tests;
 #[cfg(test)]
 mod withdraw_tests;
 
-use crate::call::{Given, Reply};
+use crate::call::{Call, Given, Reply};
 
-/// Plays one call on a lent record and memory of any length and content: "Checks run 18, 19", then the call's own, then its rule.
+/// Plays one call on a lent port, record and register block, and memory of any length and content: 26 of a register's offset, "before 18"; "Checks
+/// run 18, 19", then the call's own, then its rule.
 pub fn call(call: &Given, record: &mut [u8], memory: &mut [u8]) -> Reply {
+    if registers::offset_is_wrong(call) {
+        return Reply::refused(refusal::REGISTER_OFFSET);
+    }
     if fitness::memory_short(memory) {
         return Reply::refused(refusal::MEMORY_SHORT);
     }
@@ -34,6 +41,9 @@ pub fn call(call: &Given, record: &mut [u8], memory: &mut [u8]) -> Reply {
     }
     let mut port = octets::read(record, memory);
     let reply = rule::step(call, &mut port);
+    if matches!(call, Call::Open { .. }) && reply.refusal == 0 {
+        octets::clear_block(record);
+    }
     octets::write(&port, record, memory);
     reply
 }

@@ -1,12 +1,17 @@
-//! The octet layout: reads a port from record and memory, and writes it back. Numbers stand high octet first.
+//! The octet layout: reads a port from record, register block and memory, and writes it back. Numbers stand high octet first.
 
 use std::collections::VecDeque;
 
 use super::port::{Frame, Port, Queue, Stream, QUEUES, QUEUE_PLACES, STREAMS};
+use super::registers::{Registers, FLAG_BITS};
 use crate::call::ADDRESS_OCTETS;
 
-/// A record is at least this long; octets past it are never read or written.
+/// The octets of the record, with which a lent port begins.
 pub const RECORD_OCTETS: usize = 1_088;
+/// The octets of the register block, which follows the record.
+pub const BLOCK_OCTETS: usize = 528;
+/// A lent port is at least this long, a record and a register block; octets past it are never read or written.
+pub const PORT_OCTETS: usize = RECORD_OCTETS + BLOCK_OCTETS;
 /// Memory is at least this long, 1,280 frame places; octets past it are never read or written.
 pub const MEMORY_OCTETS: usize = QUEUES * QUEUE_PLACES * FRAME_OCTETS;
 
@@ -50,6 +55,17 @@ const BOUND_IN_ENTRY: usize = 7;
 const VID_IN_ENTRY: usize = 8;
 /// Where the address stands in a stream's entry, six octets.
 const ADDRESS_IN_ENTRY: usize = 10;
+
+/// Where the marks of the flags stand in the block, one octet each, in the order of their bits.
+const FLAGS_IN_BLOCK: usize = 0;
+/// Where the interrupt mask stands in the block, four octets.
+const MASK_IN_BLOCK: usize = 4;
+/// Where the count of frames sent stands in the block, four octets.
+const SENT_IN_BLOCK: usize = 8;
+/// Where the count of frames accepted stands in the block, four octets.
+const ACCEPTED_IN_BLOCK: usize = 16;
+/// Where the count of discards stands in the block, four octets.
+const DISCARDED_IN_BLOCK: usize = 20;
 
 /// The octets of a frame place.
 const FRAME_OCTETS: usize = 8;
@@ -165,7 +181,46 @@ pub fn frames(record: &[u8], memory: &[u8], queue: usize) -> VecDeque<Frame> {
     (0..count(record, queue)).map(|waiting| frame(memory, queue, (start + waiting) % QUEUE_PLACES)).collect()
 }
 
-/// Reads the whole port from a record that is fit and a memory that is long enough.
+/// The register block of a port, the octets right after its record.
+fn block(port: &[u8]) -> &[u8] {
+    &port[RECORD_OCTETS..PORT_OCTETS]
+}
+
+/// The same, to be written.
+fn block_mut(port: &mut [u8]) -> &mut [u8] {
+    &mut port[RECORD_OCTETS..PORT_OCTETS]
+}
+
+/// The registers in the block.
+fn registers(port: &[u8]) -> Registers {
+    let block = block(port);
+    let mut flags = [0; FLAG_BITS];
+    flags.copy_from_slice(&block[FLAGS_IN_BLOCK..FLAGS_IN_BLOCK + FLAG_BITS]);
+    Registers {
+        flags,
+        mask: number(block, MASK_IN_BLOCK, FOUR),
+        accepted: number(block, ACCEPTED_IN_BLOCK, FOUR),
+        discarded: number(block, DISCARDED_IN_BLOCK, FOUR),
+        sent: number(block, SENT_IN_BLOCK, FOUR),
+    }
+}
+
+/// Writes the registers into the block.
+fn write_registers(registers: &Registers, port: &mut [u8]) {
+    let block = block_mut(port);
+    block[FLAGS_IN_BLOCK..FLAGS_IN_BLOCK + FLAG_BITS].copy_from_slice(&registers.flags);
+    put_number(block, MASK_IN_BLOCK, FOUR, registers.mask);
+    put_number(block, ACCEPTED_IN_BLOCK, FOUR, registers.accepted);
+    put_number(block, DISCARDED_IN_BLOCK, FOUR, registers.discarded);
+    put_number(block, SENT_IN_BLOCK, FOUR, registers.sent);
+}
+
+/// Writes zeros to the whole block, as opening does, also where no register stands.
+pub fn clear_block(port: &mut [u8]) {
+    block_mut(port).fill(0);
+}
+
+/// Reads the whole port from a record that is fit, its register block, and a memory that is long enough.
 pub fn read(record: &[u8], memory: &[u8]) -> Port {
     let queue = |queue| Queue { start: start(record, queue), frames: frames(record, memory, queue) };
     Port {
@@ -176,6 +231,7 @@ pub fn read(record: &[u8], memory: &[u8]) -> Port {
         waits: waits(record),
         queues: (0..QUEUES).map(queue).collect(),
         streams: streams(record),
+        registers: registers(record),
     }
 }
 
@@ -196,6 +252,7 @@ pub fn write(port: &Port, record: &mut [u8], memory: &mut [u8]) {
     for (number, stream) in port.streams.iter().enumerate() {
         write_stream(stream, record, number);
     }
+    write_registers(&port.registers, record);
 }
 
 /// Writes the entry of a stream.

@@ -1,9 +1,10 @@
-//! The state of a port in plain form: document 01, "State of a port", with the draining of document 02, "Withdraw a stream", and its numbers, each
-//! named once, the largest charge that of "Envelope frames".
+//! The state of a port in plain form: document 01, "State of a port", with the draining of document 02, "Withdraw a stream", and the registers of
+//! "Register block", and its numbers, each named once, the largest charge that of "Envelope frames".
 
 use std::collections::VecDeque;
 use std::ops::RangeInclusive;
 
+use super::registers::Registers;
 use crate::call::ADDRESS_OCTETS;
 
 /// "Queues prior, current, next, last and best effort": five.
@@ -43,9 +44,9 @@ pub const LEAST_PERMITTED: u32 = 84;
 /// "9 VID outside 1 to 4,094".
 pub const VIDS: RangeInclusive<u32> = 1..=4_094;
 
-/// The mark of an open port, of a reserved stream and of a bound stream; any other octet says that it is not.
+/// The mark of an open port, of a reserved stream, of a bound stream and of a flag that is up; any other octet says that it is not.
 pub const MARK_YES: u8 = 1;
-/// The mark that Open leaves at every stream, neither reserved nor bound.
+/// The mark that Open leaves at every stream, neither reserved nor bound, and at every flag, which is down.
 pub const MARK_NO: u8 = 0;
 
 /// The place current of a stream, and "1 current" in Arrive's reply.
@@ -84,7 +85,7 @@ pub struct Stream {
     pub address: [u8; ADDRESS_OCTETS],
 }
 
-/// The whole port: what the record holds, and the frames that wait in memory.
+/// The whole port: what the record holds, the frames that wait in memory, and the registers.
 #[derive(Clone, Debug, PartialEq, Eq)]
 pub struct Port {
     pub open: u8,
@@ -99,6 +100,7 @@ pub struct Port {
     pub queues: Vec<Queue>,
     /// Streams 0 to 63, by their number.
     pub streams: Vec<Stream>,
+    pub registers: Registers,
 }
 
 impl Queue {
@@ -176,7 +178,16 @@ impl Port {
             vid: 0,
             address: [0; ADDRESS_OCTETS],
         };
-        Port { open: MARK_NO, prior: 0, delay: 0, link: 0, waits: 0, queues: vec![queue; QUEUES], streams: vec![stream; STREAMS] }
+        Port {
+            open: MARK_NO,
+            prior: 0,
+            delay: 0,
+            link: 0,
+            waits: 0,
+            queues: vec![queue; QUEUES],
+            streams: vec![stream; STREAMS],
+            registers: Registers::ZERO,
+        }
     }
 
     /// Whether the port is open.

@@ -51,9 +51,11 @@ pub const CAPTURE_INDEX: u8 = 23;
 pub const CAPTURE_RECORD: u8 = 24;
 /// 25, "an arrival, reservation, binding or withdrawal of a draining stream".
 pub const DRAINING: u8 = 25;
+/// 26, "an offset that is no multiple of 4 or is above 60".
+pub const REGISTER_OFFSET: u8 = 26;
 
 /// What the documents say of each refusal, in the order of the numbers, with the ends of a range that they name elsewhere.
-const WORDS: [(u8, &str); 25] = [
+const WORDS: [(u8, &str); 26] = [
     (PORT_CLOSED, "port closed"),
     (OPEN_ALREADY, "open already"),
     (LINK_OUTSIDE, "L outside its range, 2,104 to 23,524"),
@@ -79,6 +81,7 @@ const WORDS: [(u8, &str); 25] = [
     (CAPTURE_INDEX, "first or next index"),
     (CAPTURE_RECORD, "kind, stream octet, unused number or zero octets"),
     (DRAINING, "stream draining"),
+    (REGISTER_OFFSET, "register offset that is no multiple of 4 or is above 60"),
 ];
 
 /// What the documents say of a refusal; of a number that is none, nothing.

@@ -1,5 +1,5 @@
 //! The steps of document 01, and Withdraw of document 02, on a port that is fit: each call's checks in their order, then its rule in the documents'
-//! words.
+//! words, then what its reply does to the registers.
 
 use super::frame::{self, Pair, FRAME_LENGTHS};
 use super::port::{
@@ -7,10 +7,19 @@ use super::port::{
     LEAST_PERMITTED, LINKS, MARK_NO, MARK_YES, NEXT, NOTHING, NOT_DRAINING, QUEUE_PLACES, RESERVED_QUEUES, STREAMS, VIDS,
 };
 use super::refusal;
+use super::registers::{CONTROL, TICKS, TRANSMITS};
 use crate::call::{Call, Given, Reply, ADDRESS_OCTETS};
 
-/// Runs a call on a port that has passed 18 and 19; a refusal leaves the port as it was, but for 14.
+/// Runs a call on a port that has passed 18 and 19, and on a register that there is; a refusal leaves the port as it was, but for 14. "Flags and
+/// counts follow every granted call on the port, not only control writes."
 pub fn step(call: &Given, port: &mut Port) -> Reply {
+    let reply = on_record(call, port);
+    port.registers.follow(call, &reply);
+    reply
+}
+
+/// What a call does to all of the port but its registers; an access to a register does there what it does.
+fn on_record(call: &Given, port: &mut Port) -> Reply {
     match *call {
         Call::Open { link, delay } => open(port, link, delay),
         Call::Reserve { stream, permitted } => reserve(port, usize::from(stream), permitted),
@@ -21,7 +30,23 @@ pub fn step(call: &Given, port: &mut Port) -> Reply {
         Call::Bind { stream, address, vid } => bind(port, usize::from(stream), *address, vid),
         Call::Frame { octets, tag } => frame(port, octets, tag),
         Call::Withdraw { stream } => withdraw(port, usize::from(stream)),
+        Call::ReadRegister { offset } => port.registers.read(offset, port.is_open()),
+        Call::WriteRegister { offset: CONTROL, value } => control(port, value),
+        Call::WriteRegister { offset, value } => port.registers.write(offset, value),
     }
+}
+
+/// A write of control: "writing bit 0 ticks, then bit 1 transmits". It replies "as its last call", "(and a control write with neither bit) two zeros".
+/// Tick and Transmit ask themselves whether the port is closed: "1 stops only ticks and transmits".
+fn control(port: &mut Port, value: u32) -> Reply {
+    let mut reply = Reply::granted(0, 0);
+    if value & TICKS != 0 {
+        reply = step(&Call::Tick, port);
+    }
+    if value & TRANSMITS != 0 {
+        reply = step(&Call::Transmit, port);
+    }
+    reply
 }
 
 /// "Open(L, K) empties all queues, drops all reservations and bindings and sets W to 0"; it "ends all draining", and replies the share.
@@ -260,7 +285,7 @@ fn frame(port: &mut Port, octets: &[u8], tag: u32) -> Reply {
     if !FRAME_LENGTHS.contains(&octets.len()) {
         return Reply::refused(refusal::FRAME_LENGTH);
     }
-    step(&becomes(port, octets, tag).given(), port)
+    on_record(&becomes(port, octets, tag).given(), port)
 }
 
 /// What a frame whose length is in its range becomes: "A bound pair is an Arrive on its stream; all else is best effort."

@@ -23,6 +23,8 @@ pub fn call(call: &Call) -> String {
         Call::Bind { stream, address, vid } => format!("bind stream {stream}, address {}, VID {vid}", hexadecimal(address)),
         Call::Frame { octets, tag } => format!("frame of {} octets, tag {tag}", octets.len()),
         Call::Withdraw { stream } => format!("withdraw stream {stream}"),
+        Call::ReadRegister { offset } => format!("read the register at offset {offset}"),
+        Call::WriteRegister { offset, value } => format!("write {value} to the register at offset {offset}"),
     }
 }
 
@@ -66,6 +68,10 @@ fn granted(call: &Call, first: u32, second: u32) -> Option<String> {
         // W after a frame has joined best effort is above every place.
         Call::Frame { .. } => joined(first, second).or_else(|| joined_best_effort(first, second)),
         Call::Withdraw { .. } => (first == 0 && second == 0).then(|| format!("withdraws, drains for {DRAINING_TICKS} ticks")),
+        Call::ReadRegister { .. } => (second == 0).then(|| format!("reads {first}")),
+        Call::WriteRegister { offset: 0, value } if value & 2 != 0 => sent(first, second),
+        Call::WriteRegister { offset: 0, value } if value & 1 != 0 => Some(purged(first, second)),
+        Call::WriteRegister { .. } => (first == 0 && second == 0).then(|| String::from("writes")),
     }
 }
 
@@ -116,6 +122,10 @@ mod tests {
             Call::Bind { stream: 5, address: [1, 0, 0x5e, 0, 0, 5], vid: 10 },
             Call::Frame { octets: vec![0; 96].into(), tag: 7 },
             Call::Withdraw { stream: 5 },
+            Call::ReadRegister { offset: 16 },
+            Call::WriteRegister { offset: 12, value: 7 },
+            Call::WriteRegister { offset: 0, value: 1 },
+            Call::WriteRegister { offset: 0, value: 3 },
         ]
     }
 
@@ -143,6 +153,10 @@ mod tests {
         assert_eq!(said(&calls[7], 0, 2, 100), "6 frame of 96 octets, tag 7: joins next, 100 left");
         assert_eq!(said(&calls[7], 0, 520, 0), "6 frame of 96 octets, tag 7: joins best effort, W 520");
         assert_eq!(said(&calls[8], 0, 0, 0), "6 withdraw stream 5: withdraws, drains for 4 ticks");
+        assert_eq!(said(&calls[9], 0, 3, 0), "6 read the register at offset 16: reads 3");
+        assert_eq!(said(&calls[10], 0, 0, 0), "6 write 7 to the register at offset 12: writes");
+        assert_eq!(said(&calls[11], 0, 2, 204), "6 write 1 to the register at offset 0: purges 2 frames, 204 octets");
+        assert_eq!(said(&calls[12], 0, 5, 7), "6 write 3 to the register at offset 0: sends stream 5, tag 7");
     }
 
     #[test]
@@ -165,7 +179,8 @@ mod tests {
         assert!(odd(&calls[0], 3, 600, 0) && odd(&calls[0], 0, 600, 1) && odd(&calls[1], 0, 400, 1));
         assert!(odd(&calls[2], 0, 0, 80) && odd(&calls[2], 0, 4, 80) && odd(&calls[5], 0, 400, 1) && odd(&calls[6], 0, 1, 0));
         assert!(odd(&calls[4], 0, 64, 7) && odd(&calls[4], 0, 254, 1) && odd(&calls[7], 0, 4, 1));
-        assert!(odd(&calls[8], 0, 400, 0) && odd(&calls[8], 0, 0, 1) && odd(&calls[8], 25, 1, 0) && odd(&calls[8], 26, 0, 0));
+        assert!(odd(&calls[8], 0, 400, 0) && odd(&calls[8], 0, 0, 1) && odd(&calls[8], 25, 1, 0) && odd(&calls[8], 27, 0, 0));
+        assert!(odd(&calls[9], 0, 3, 1) && odd(&calls[10], 0, 1, 0) && odd(&calls[12], 0, 64, 0));
     }
 
     #[test]
@@ -174,7 +189,7 @@ mod tests {
         for call in calls() {
             let mut told = HashSet::new();
             for (refusal, first, second) in
-                (0..=26).flat_map(|refusal| numbers.map(|first| numbers.map(|second| (refusal, first, second)))).flatten()
+                (0..=27).flat_map(|refusal| numbers.map(|first| numbers.map(|second| (refusal, first, second)))).flatten()
             {
                 assert!(told.insert(reply(&call, &Reply { refusal, first, second })), "{call}: {refusal} {first} {second}");
             }

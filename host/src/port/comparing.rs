@@ -1,5 +1,5 @@
 //! Random lists of calls through a port, held against the independent model: each reply in the rule's numbers, and after each call every octet of
-//! record and memory.
+//! record, register block and memory.
 
 use std::path::Path;
 
@@ -10,16 +10,17 @@ use harness::comparing::coverage::{prior_waits, Asked, Seen};
 use harness::comparing::draining::{ending, Freed};
 use harness::comparing::fit::Octets;
 use harness::comparing::profiles::{
-    self, any_profile, FEW_STREAMS, FULL_LINK, HARDLY_ANY_TRANSMITS, MANY_STREAMS, WITHDRAWING, WRONG_ARGUMENTS,
+    self, any_profile, FEW_STREAMS, FULL_LINK, HARDLY_ANY_TRANSMITS, MANY_STREAMS, REGISTERS, WITHDRAWING, WRONG_ARGUMENTS,
 };
 use harness::comparing::random::Random;
+use harness::comparing::registers::{Held, EVERY_COUNT, EVERY_FLAG};
 use harness::comparing::sides::Sides;
 use harness::comparing::test::Run;
 use harness::comparing::tests::lists::at_each_place;
 use harness::model;
 
 use super::Port;
-use crate::{Framed, Joined, Queue, Refusal, Sent};
+use crate::{Control, Controlled, Flags, Framed, Joined, Queue, Refusal, Register, Sent};
 
 /// The seed of the lists.
 const SEED: u64 = 1;
@@ -86,11 +87,23 @@ fn withdrawn_streams() -> Result<(), String> {
     run.demand(&asked.map(|asked| (Seen::RefusedDraining(asked), 25)))
 }
 
+/// Registers that are read and written again and again, beside calls that raise each flag and each counter.
+#[test]
+fn registers_accessed() -> Result<(), String> {
+    let run = play("registers_accessed", 16, 600, |_| REGISTERS)?;
+    run.demand(&[Seen::LineUp, Seen::LineDown, Seen::RegisterRead, Seen::FlagsWritten, Seen::MaskWritten].map(|seen| (seen, 100)))?;
+    run.demand(&[Seen::ControlTicked, Seen::ControlTransmitted, Seen::ControlDidBoth, Seen::ControlDidNeither].map(|seen| (seen, 50)))?;
+    run.demand(&[(Seen::OtherRegisterWritten, 100), (Seen::ReadRefused(26), 25), (Seen::WriteRefused(26), 25)])?;
+    run.demand(&EVERY_FLAG.map(|(flag, _)| (Seen::FlagSet(flag), 15)))?;
+    run.demand(&EVERY_FLAG.map(|(flag, _)| (Seen::FlagCleared(flag), 15)))?;
+    run.demand(&EVERY_COUNT.map(|(count, _)| (Seen::Counted(count), 100)))
+}
+
 /// Every argument outside its range, at its ends and where fewer bits would hide it.
 #[test]
 fn arguments_out_of_range() -> Result<(), String> {
     let run = play("arguments_out_of_range", 36, 400, |_| WRONG_ARGUMENTS)?;
-    run.demand(&[5, 6, 7, 8, 9, 10, 11, 12, 13, 16, 17, 25].map(|refusal| (Seen::Refused(refusal), 5)))
+    run.demand(&[5, 6, 7, 8, 9, 10, 11, 12, 13, 16, 17, 25, 26].map(|refusal| (Seen::Refused(refusal), 5)))
 }
 
 /// Everything, with other weights in each list.
@@ -157,16 +170,23 @@ impl Both {
     /// Plays a call on both, which must do the same.
     fn play(&mut self, run: &mut Run, call: &Call) {
         let (prior_waited, ending) = (prior_waits(&self.octets.record), ending(call, &self.octets.record));
+        let before = self.held();
         let reply = model::call(&call.given(), &mut self.octets.record, &mut self.octets.memory);
         assert_eq!(through(&mut self.port, call), reply, "{}, call {}: {call}", run.place, run.calls);
         self.assert_same_octets(run, call);
         run.count_call(call, &reply, &self.octets.record, prior_waited);
         self.freed.follow(&mut run.coverage, call, &reply, &ending);
+        before.count_changes(&mut run.coverage, &self.held());
     }
 
-    /// The port's record and memory are the model's, octet for octet.
+    /// What the register block holds.
+    fn held(&self) -> Held {
+        Held::of(&self.octets.record).expect("the port is long enough")
+    }
+
+    /// The port's record, register block and memory are the model's, octet for octet.
     fn assert_same_octets(&self, run: &Run, call: &Call) {
-        assert!(self.port.record[..] == self.octets.record, "{}, call {}: {call}: the records differ", run.place, run.calls);
+        assert!(self.port.octets[..] == self.octets.record, "{}, call {}: {call}: the ports differ", run.place, run.calls);
         assert!(self.port.memory[..] == self.octets.memory, "{}, call {}: {call}: the memories differ", run.place, run.calls);
     }
 }
@@ -186,6 +206,51 @@ fn through(port: &mut Port, call: &Call) -> Reply {
             Framed::BestEffort(waiting) => (waiting.octets, 0),
         }),
         Call::Withdraw { stream } => numbers(port.withdraw(stream), |()| (0, 0)),
+        Call::ReadRegister { offset } => numbers(read(port, offset), |register| (register, 0)),
+        Call::WriteRegister { offset, value } => numbers(write(port, offset, value), |numbers| numbers),
+    }
+}
+
+/// Reads by an offset, and where it is a register's by the method with its type, which must say the same.
+fn read(port: &Port, offset: u32) -> Result<u32, Refusal> {
+    let read = port.read_register(offset);
+    if let Some(register) = Register::from_offset(offset) {
+        assert_eq!(read, Ok(of_register(port, register)), "{register:?}");
+    }
+    read
+}
+
+/// What the method with a register's type reads, as the register's value; control, which has none, reads zero.
+fn of_register(port: &Port, register: Register) -> u32 {
+    match register {
+        Register::Control => 0,
+        Register::Status => port.status().bits(),
+        Register::Flags => port.flags().bits(),
+        Register::Mask => port.mask().0,
+        Register::Accepted => port.counts().accepted,
+        Register::Discarded => port.counts().discarded,
+        Register::Sent => port.counts().sent,
+    }
+}
+
+/// Writes by the method with the register's type where the type has all bits of the value, otherwise by the offset.
+fn write(port: &mut Port, offset: u32, value: u32) -> Result<(u32, u32), Refusal> {
+    let (control, flags) = (Control::from_bits(value), Flags::from_bits(value));
+    match Register::from_offset(offset) {
+        Some(Register::Control) if control.bits() == value => return port.control(control).map(of_control),
+        Some(Register::Flags) if flags.bits() == value => port.clear(flags),
+        Some(Register::Mask) if flags.bits() == value => port.set_mask(flags),
+        _ => return port.write_register(offset, value),
+    }
+    Ok((0, 0))
+}
+
+/// "A control write as its last call, with neither bit two zeros".
+fn of_control(controlled: Controlled) -> (u32, u32) {
+    match controlled {
+        Controlled::Neither => (0, 0),
+        Controlled::Ticked(purged) => (purged.frames, purged.octets),
+        Controlled::Transmitted(sent) => of_sent(sent),
     }
 }
 

@@ -4,6 +4,7 @@ mod cases;
 mod envelope;
 mod names;
 mod refusals;
+mod registers;
 mod threads;
 mod withdrawing;
 

@@ -7,7 +7,8 @@ use crate::comparing::lent::Lend;
 use crate::comparing::sides::Side;
 use crate::comparing::test::{Kind, Run, Test};
 use crate::comparing::tests::each_call::try_lengths;
-use crate::model::octets::{MEMORY_OCTETS, RECORD_OCTETS};
+use crate::comparing::tests::registers::OF_ACCESSES;
+use crate::model::octets::{MEMORY_OCTETS, PORT_OCTETS};
 use crate::model::refusal::{DRAINING, FRAME_LENGTH};
 
 /// The tests between fences.
@@ -19,7 +20,7 @@ pub const TESTS: [Test; 3] = [
 
 /// A read right outside a slice is noticed at either edge, of record and memory and of what a call is given to read.
 fn fences_notice_a_touch(run: &mut Run) -> Result<(), String> {
-    for length in [0, 1, RECORD_OCTETS, MEMORY_OCTETS] {
+    for length in [0, 1, PORT_OCTETS, MEMORY_OCTETS] {
         for edge in EDGES {
             run.records += 3;
             let noticed = [0, 1, 2].map(|slice| touch_is_noticed(length, edge, slice));
@@ -60,5 +61,7 @@ fn between_fences(run: &mut Run, side: Side) -> Result<(), String> {
     })?;
     run.demand(&[(Seen::FitRecord, 100), (Seen::UnfitRecord, 500), (Seen::Ticked, 40), (Seen::Opened, 40), (Seen::BestEffort, 40)])?;
     run.demand(&[(Seen::Bound, 20), (Seen::FrameArrived, 20), (Seen::FrameBestEffort, 40), (Seen::FrameRefused(FRAME_LENGTH), 20)])?;
-    run.demand(&[(Seen::Withdrawn, 40), (Seen::Freed, 20), (Seen::Refused(DRAINING), 20)])
+    run.demand(&[(Seen::Withdrawn, 40), (Seen::Freed, 20), (Seen::Refused(DRAINING), 20)])?;
+    run.demand(&OF_ACCESSES.map(|seen| (seen, 20)))?;
+    run.demand(&[(Seen::RegisterRead, 40), (Seen::MaskWritten, 20), (Seen::ControlTicked, 10), (Seen::ControlTransmitted, 10)])
 }

@@ -138,7 +138,8 @@ fn lists_of_any_calls(run: &mut Run) -> Result<(), String> {
     demand(run, &[(BeginningList, 900), (Beginning, 8_000), (BeginningSent, 6_000), (BeginningAfterFirst, 1_000)])?;
     demand(run, &[(TwinsList, 1_000), (Twin, 5_000), (Pair, 4_000), (ArrivalCompared, 80_000)])?;
     demand(run, &[(FrameArrival, 30_000), (FrameBestEffort, 60_000), (FrameCompared, 40_000)])?;
-    demand(run, &[(Withdrawal, 3_000), (RefusedDraining, 10_000), (RefusedFree, 500), (GrantedAgain, 1_000), (WithdrawalCompared, 500)])
+    demand(run, &[(Withdrawal, 3_000), (RefusedDraining, 10_000), (RefusedFree, 500), (GrantedAgain, 1_000), (WithdrawalCompared, 500)])?;
+    demand(run, &[(ControlTick, 10_000), (ControlTransmit, 20_000)])
 }
 
 /// Conforming streams beside streams that overfill.
@@ -149,6 +150,7 @@ fn beside_overfilled_streams(run: &mut Run) -> Result<(), String> {
     demand(run, &[(SentAsCurrent, 50_000), (SentAsNext, 6_000), (SentAsLast, 30_000), (SentAsRepliedLate, 20_000)])?;
     demand(run, &[(Conforming, 50_000), (ConformingSent, 40_000), (ConformingAfterFirst, 10_000)])?;
     demand(run, &[(BeginningList, 1_000), (Beginning, 6_000), (BeginningSent, 6_000), (BeginningAfterFirst, 4_000)])?;
+    demand(run, &[(ControlTick, 4_000), (ControlTransmit, 50_000)])?;
     demand(run, &[(Pair, 2_000), (ArrivalCompared, 50_000), (FrameArrival, 70_000), (FrameBestEffort, 9_000), (FrameCompared, 25_000)])
 }
 
@@ -246,7 +248,8 @@ fn of_the_model(run: &mut Run) -> Result<(), String> {
     demand(run, &[(SentAsCurrent, 4_000), (SentAsNext, 800), (SentAsLast, 2_000), (Beginning, 800), (Twin, 1_000)])?;
     demand(run, &[(SentInTime, 5_000), (Conforming, 3_000), (Pair, 100), (ArrivalCompared, 5_000)])?;
     demand(run, &[(FrameArrival, 10_000), (FrameBestEffort, 2_500), (FrameCompared, 8_000)])?;
-    demand(run, &[(Withdrawal, 200), (Withdrawn, 500), (RefusedDraining, 500), (GrantedAgain, 100)])
+    demand(run, &[(Withdrawal, 200), (Withdrawn, 500), (RefusedDraining, 500), (GrantedAgain, 100)])?;
+    demand(run, &[(ControlTick, 500), (ControlTransmit, 5_000)])
 }
 
 /// Fails if lists showed a thing less often than is asked at full size.

@@ -11,6 +11,7 @@ use crate::comparing::profiles::{
 use crate::comparing::random::Random;
 use crate::comparing::sides::Side;
 use crate::comparing::test::{Kind, Run, Test};
+use crate::comparing::tests::registers::demand_registers;
 use crate::model::port::{CURRENT, LARGEST_CHARGE, LAST, LEAST_CHARGE, LEAST_PERMITTED, LINKS, NEXT};
 use crate::model::refusal::*;
 
@@ -174,13 +175,14 @@ fn opened_again(run: &mut Run) -> Result<(), String> {
 
 /// Every argument outside its range, at its ends and where fewer bits would hide it.
 fn arguments_out_of_range(run: &mut Run) -> Result<(), String> {
-    play(run, SIDES, &Plan { lists: 200, calls: 600, begin: a_closed_port }, |_| WRONG_ARGUMENTS)?;
+    play(run, SIDES, &Plan { lists: 200, calls: 700, begin: a_closed_port }, |_| WRONG_ARGUMENTS)?;
     never_met_from_opening(run)?;
     run.demand(&OF_PLANNER.map(|refusal| (Seen::Refused(refusal), 400)))?;
     run.demand(&OF_SENDER.map(|refusal| (Seen::Refused(refusal), 500)))?;
     run.demand(&[(Seen::Refused(VID_OUTSIDE), 400), (Seen::Refused(BOUND_ALREADY), 30), (Seen::Refused(PAIR_BOUND_ALREADY), 200)])?;
     run.demand(&[(Seen::FrameRefused(FRAME_LENGTH), 2_000), (Seen::FrameRefused(PORT_CLOSED), 200)])?;
-    run.demand(&[(Seen::Withdrawn, 300), (Seen::Refused(DRAINING), 1_000)])
+    run.demand(&[(Seen::Withdrawn, 300), (Seen::Refused(DRAINING), 1_000)])?;
+    run.demand(&[(Seen::ReadRefused(REGISTER_OFFSET), 1_000), (Seen::WriteRefused(REGISTER_OFFSET), 1_000)])
 }
 
 /// Everything, with other weights in each list.
@@ -192,7 +194,8 @@ fn mixture(run: &mut Run) -> Result<(), String> {
     run.demand(&[(Seen::Opened, 500), (Seen::Reserved, 1_500), (Seen::Ticked, 5_000), (Seen::Refused(DISCARD), 1_000)])?;
     run.demand(&[(Seen::BestEffort, 3_000), (Seen::SentFromBestEffort, 1_000), (Seen::Refused(BEST_EFFORT_EXCEEDED), 1_000)])?;
     run.demand(&[(Seen::Bound, 1_000), (Seen::FrameArrived, 2_000), (Seen::FrameBestEffort, 5_000)])?;
-    run.demand(&[(Seen::Withdrawn, 800), (Seen::Freed, 600), (Seen::GrantedAgain, 60), (Seen::Refused(DRAINING), 2_000)])
+    run.demand(&[(Seen::Withdrawn, 800), (Seen::Freed, 600), (Seen::GrantedAgain, 60), (Seen::Refused(DRAINING), 2_000)])?;
+    demand_registers(run, 100)
 }
 
 /// A demand for each of the three places.

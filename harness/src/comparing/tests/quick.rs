@@ -4,11 +4,13 @@ use crate::comparing::broken;
 use crate::comparing::compared::Compared;
 use crate::comparing::coverage::Seen;
 use crate::comparing::profiles::{any_profile, few_ticks};
+use crate::comparing::registers::EVERY_COUNT;
 use crate::comparing::shapes::{any_fit, any_open, bindings_of_every_sort, extreme, SHAPES};
 use crate::comparing::sides::Side;
 use crate::comparing::test::{Kind, Run, Test};
 use crate::comparing::tests::each_call::{try_each_call, try_lengths, try_shape};
 use crate::comparing::tests::lists::{an_open_port, any_port, play, Plan};
+use crate::comparing::tests::registers::{demand_registers, OF_ACCESSES};
 use crate::comparing::tests::withdrawals::OF_DRAINING;
 use crate::model::refusal::*;
 
@@ -46,7 +48,9 @@ fn as_the_call_on_fit_records(run: &mut Run) -> Result<(), String> {
     )?;
     run.demand(&[(Seen::Bound, 3_000), (Seen::FrameArrived, 3_000), (Seen::FrameBestEffort, 5_000)])?;
     run.demand(&[(Seen::Withdrawn, 10_000), (Seen::Freed, 4_000), (Seen::FrameRefused(DRAINING), 500)])?;
-    run.demand(&OF_DRAINING.map(|seen| (seen, 300)))
+    run.demand(&OF_DRAINING.map(|seen| (seen, 300)))?;
+    run.demand(&EVERY_COUNT.map(|(count, _)| (Seen::CountWrapped(count), 1_000)))?;
+    demand_registers(run, 1_000)
 }
 
 /// In lists from fit records the quick calls are the calls.
@@ -57,7 +61,8 @@ fn as_the_call_in_lists(run: &mut Run) -> Result<(), String> {
     run.demand(&[(Seen::JoinedWrapped, 800), (Seen::Refused(QUEUE_FULL), 1_500)])?;
     run.demand(&[(Seen::BestEffort, 10_000), (Seen::BestEffortWrapped, 500), (Seen::Refused(BEST_EFFORT_EXCEEDED), 5_000)])?;
     run.demand(&[(Seen::Bound, 3_000), (Seen::FrameArrived, 8_000), (Seen::FrameBestEffort, 10_000)])?;
-    run.demand(&[(Seen::Withdrawn, 3_000), (Seen::Freed, 3_000), (Seen::GrantedAgain, 500), (Seen::Refused(DRAINING), 5_000)])
+    run.demand(&[(Seen::Withdrawn, 3_000), (Seen::Freed, 3_000), (Seen::GrantedAgain, 500), (Seen::Refused(DRAINING), 5_000)])?;
+    demand_registers(run, 200)
 }
 
 /// On records of every shape, fit or far from it, the quick calls are what is defined.
@@ -71,7 +76,8 @@ fn as_defined_on_every_shape(run: &mut Run) -> Result<(), String> {
     run.demand(&[(Seen::FrameRefused(NOT_RESERVED), 2_000), (Seen::Refused(PAIR_BOUND_ALREADY), 500), (Seen::AllBound, 5)])?;
     run.demand(&[(Seen::Bound, 5_000), (Seen::FrameArrived, 3_000), (Seen::FrameBestEffort, 5_000)])?;
     run.demand(&[(Seen::Withdrawn, 5_000), (Seen::Freed, 3_000), (Seen::FrameRefused(DRAINING), 500)])?;
-    run.demand(&OF_DRAINING.map(|seen| (seen, 500)))
+    run.demand(&OF_DRAINING.map(|seen| (seen, 500)))?;
+    demand_registers(run, 800)
 }
 
 /// In lists that begin on an open record far outside what is fit, the quick calls are what is defined.
@@ -82,7 +88,8 @@ fn as_defined_in_lists(run: &mut Run) -> Result<(), String> {
     run.demand(&[(Seen::JoinedElsewhere, 500), (Seen::SentFromBestEffort, 500), (Seen::Refused(QUEUE_FULL), 500)])?;
     run.demand(&[(Seen::BestEffort, 1_000), (Seen::Refused(BEST_EFFORT_FULL), 500), (Seen::Refused(BEST_EFFORT_EXCEEDED), 1_000)])?;
     run.demand(&[(Seen::Bound, 2_000), (Seen::FrameArrived, 4_000), (Seen::FrameRefused(NOT_RESERVED), 500)])?;
-    run.demand(&[(Seen::Withdrawn, 2_000), (Seen::Freed, 2_000), (Seen::GrantedAgain, 200), (Seen::Refused(DRAINING), 5_000)])
+    run.demand(&[(Seen::Withdrawn, 2_000), (Seen::Freed, 2_000), (Seen::GrantedAgain, 200), (Seen::Refused(DRAINING), 5_000)])?;
+    demand_registers(run, 200)
 }
 
 /// On records with one broken clause the quick calls are what is defined.
@@ -102,5 +109,6 @@ fn as_defined_on_broken_clauses(run: &mut Run) -> Result<(), String> {
 fn as_defined_at_all_lengths(run: &mut Run) -> Result<(), String> {
     try_lengths(run, 12, |run, _, octets| Compared::guarded(WITH_DEFINITION, run, &octets.record, &octets.memory))?;
     run.demand(&[MEMORY_SHORT, RECORD_UNFIT, PORT_CLOSED].map(|refusal| (Seen::Refused(refusal), 100)))?;
+    run.demand(&OF_ACCESSES.map(|seen| (seen, 20)))?;
     run.demand(&[(Seen::Opened, 50), (Seen::Ticked, 50), (Seen::Withdrawn, 50), (Seen::Freed, 20)])
 }

@@ -1,0 +1,35 @@
+use mathlib.Core.Path.{_∙_, ap}
+use Rattle.register_block.specs.Fields.{bit1, bit2}
+use Rattle.register_block.specs.Written.{clearedBy}
+use Rattle.register_block.specs.Layout.{purgeFlag, nothingFlag}
+use borrow.Author.Needs.{needs}
+use Rattle.register_block.proofs.clear_flags.Statement.{statement}
+use Rattle.register_block.proofs.clear_flags.Tie as tie
+use Rattle.register_block.proofs.clear_flags.Reads as reads
+use Rattle.register_block.proofs.clear_flags.Lts as lts
+use Rattle.register_block.proofs.clear_by.Reads as clear-by-reads
+
+-- src/lib.rt:253:5
+clear-by-requires : tie.Need-clear-by-requires
+clear-by-requires c κs = search needs
+
+-- src/lib.rt:254:5
+clear-by-requires-2 : tie.Need-clear-by-requires-2
+clear-by-requires-2 c κs = search needs
+
+-- src/lib.rt:255:5
+clear-by-requires-3 : tie.Need-clear-by-requires-3
+clear-by-requires-3 c κs = search needs
+
+-- src/lib.rt:249:1
+same-length : tie.Need-same-length
+same-length c = search needs
+
+-- src/lib.rt:249:1
+returns : tie.Need-returns
+returns c = c .before .before .clear-by3 .ensures ∙ ap (clearedBy nothingFlag bit2 _) (c .before .before .before .before .before .before .clear-by2 .ensures ∙ ap (clearedBy purgeFlag bit1 _) (c .before .before .before .before .before .before .before .before .before .before .clear-by .ensures))
+
+pub clear-flags-spec : {M : Type 1} → statement M
+clear-flags-spec =
+    tie.close
+    (tie.spec clear-by-requires clear-by-requires-2 clear-by-requires-3 same-length returns)

@@ -1,0 +1,18 @@
+use Rattle.register_block.specs.Fields.{flagAt}
+use borrow.Author.Needs.{needs}
+use Rattle.register_block.proofs.flag_at.Statement.{statement}
+use Rattle.register_block.proofs.flag_at.Tie as tie
+use Rattle.register_block.proofs.flag_at.Reads as reads
+use Rattle.register_block.proofs.flag_at.Lts as lts
+
+-- src/lib.rt:69:5
+shared-slice-read-result : tie.Need-shared-slice-read-result
+shared-slice-read-result c = search needs
+
+-- src/lib.rt:65:1
+returns : tie.Need-returns
+unfolding flagAt
+returns c = search needs
+
+pub flag-at-spec : {M : Type 1} → statement M
+flag-at-spec = tie.close (tie.spec shared-slice-read-result returns)

@@ -1,0 +1,19 @@
+use Rattle.register_block.specs.Fields.{wordAt}
+use borrow.Author.Needs.{needs}
+use Rattle.register_block.proofs.word_at.Statement.{statement}
+use Rattle.register_block.proofs.word_at.Tie as tie
+use Rattle.register_block.proofs.word_at.Reads as reads
+use Rattle.register_block.proofs.word_at.Lts as lts
+use Rattle.octets.proofs.four_at.Reads as four-at-reads
+
+-- src/lib.rt:93:5
+four-at-requires : tie.Need-four-at-requires
+four-at-requires c κs = search needs
+
+-- src/lib.rt:89:1
+returns : tie.Need-returns
+unfolding wordAt
+returns c = search needs
+
+pub word-at-spec : {M : Type 1} → statement M
+word-at-spec = tie.close (tie.spec four-at-requires returns)

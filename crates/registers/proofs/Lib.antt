@@ -1,0 +1,3 @@
+-- The laws of the port with its registers, cited by the crates above.
+pub mod PartLaws
+pub mod AccessLaws

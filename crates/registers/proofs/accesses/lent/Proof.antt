@@ -1,0 +1,34 @@
+use Rattle.registers.proofs.PartLaws.{part-long, lent-short, lent-else}
+use Rattle.fitness.specs.Fit.{lentRefusal}
+use borrow.Author.Needs.{needs}
+use Rattle.registers.proofs.accesses.lent.Statement.{statement}
+use Rattle.registers.proofs.accesses.lent.Tie as tie
+use Rattle.registers.proofs.accesses.lent.Reads as reads
+use Rattle.registers.proofs.accesses.lent.Lts as lts
+use Rattle.fitness.proofs.refusal.Reads as refusal-reads
+use Rattle.registers.proofs.lengths.Reads as lengths-reads
+
+-- src/accesses.rt:35:9
+lengths-requires : tie.Need-lengths-requires
+lengths-requires c κs = search needs
+
+-- src/accesses.rt:37:9
+returns : tie.Need-returns
+returns c = lent-short lentRefusal _ _ _ (c .if1 .taken) (c .before .lengths .ensures)
+
+-- src/accesses.rt:39:22
+slice-aggregate-refusal : tie.Need-slice-aggregate-refusal
+slice-aggregate-refusal c = part-long _ _ _ (c .before .if1 .left) (c .before .before .lengths .ensures)
+
+-- src/accesses.rt:39:5
+refusal-requires : tie.Need-refusal-requires
+refusal-requires c κs = search needs
+
+-- src/accesses.rt:32:1
+returns-2 : tie.Need-returns-2
+returns-2 c = lent-else lentRefusal _ _ _ _ (c .before .before .if1 .left) (c .before .before .before .lengths .ensures) (c .refusal .ensures)
+
+pub lent-spec : {M : Type 1} → statement M
+lent-spec =
+    tie.close
+    (tie.spec lengths-requires returns slice-aggregate-refusal refusal-requires returns-2)

@@ -1,0 +1,24 @@
+use Rattle.registers.specs.Accesses.{offsetRefusal}
+use borrow.Author.Tests.{eq-eqb, ne-eqb, lt-ltb, le-ltb}
+use Rattle.registers.proofs.accesses.offset_refusal.Statement.{statement}
+use Rattle.registers.proofs.accesses.offset_refusal.Tie as tie
+use Rattle.registers.proofs.accesses.offset_refusal.Reads as reads
+use Rattle.registers.proofs.accesses.offset_refusal.Lts as lts
+
+-- src/accesses.rt:23:9
+returns : tie.Need-returns
+unfolding offsetRefusal
+returns c = simp (ne-eqb _ _ (c .if1 .taken))
+
+-- src/accesses.rt:26:9
+returns-2 : tie.Need-returns-2
+unfolding offsetRefusal
+returns-2 c = simp (eq-eqb _ _ (c .before .if1 .left), lt-ltb _ _ (c .if2 .taken))
+
+-- src/accesses.rt:19:1
+returns-3 : tie.Need-returns-3
+unfolding offsetRefusal
+returns-3 c = simp (eq-eqb _ _ (c .before .if1 .left), le-ltb _ _ (c .if2 .left))
+
+pub offset-refusal-spec : {M : Type 1} → statement M
+offset-refusal-spec = tie.close (tie.spec returns returns-2 returns-3)

@@ -1,0 +1,58 @@
+use mathlib.Core.Path.{refl}
+use Rattle.registers.proofs.PartLaws.{lent-enough}
+use Rattle.steps.proofs.OutcomeLaws.{same-outcome, stopped, passed}
+use Rattle.port.specs.Quick.{lengthRefusal}
+use borrow.Author.Needs.{needs}
+use Rattle.registers.proofs.accesses.quick_put.Statement.{statement}
+use Rattle.registers.proofs.accesses.quick_put.Tie as tie
+use Rattle.registers.proofs.accesses.quick_put.Reads as reads
+use Rattle.registers.proofs.accesses.quick_put.Lts as lts
+use Rattle.registers.proofs.accesses.lent_lengths.Reads as lent-lengths-reads
+use Rattle.registers.proofs.notes.write.Reads as write-reads
+use Rattle.steps.proofs.granted.Reads as granted-reads
+use Rattle.steps.proofs.refused.Reads as refused-reads
+
+-- src/accesses.rt:108:9
+lent-lengths-requires : tie.Need-lent-lengths-requires
+lent-lengths-requires c κs = search needs
+
+-- src/accesses.rt:110:9
+refused-requires : tie.Need-refused-requires
+refused-requires c κs = search needs
+
+-- src/accesses.rt:110:9
+same-length : tie.Need-same-length
+same-length c = search needs
+
+-- src/accesses.rt:110:9
+returns : tie.Need-returns
+returns c = stopped _ _ _ _ _ _ (c .refused .ensures) (c .before .if1 .taken) (c .before .before .lent-lengths .ensures)
+
+-- src/accesses.rt:112:5
+write-requires : tie.Need-write-requires
+write-requires c κs = lent-enough lengthRefusal _ _ _ (c .before .if1 .left) (c .before .before .lent-lengths .ensures)
+
+-- src/accesses.rt:113:5
+granted-requires : tie.Need-granted-requires
+granted-requires c κs = search needs
+
+-- src/accesses.rt:105:1
+same-length-2 : tie.Need-same-length-2
+same-length-2 c = search needs
+
+-- src/accesses.rt:105:1
+returns-2 : tie.Need-returns-2
+returns-2 c = passed _ _ _ _ _ _ (same-outcome _ _ _ _ _ _ (c .granted .ensures) (c .before .before .before .write .ensures) refl) (c .before .before .before .before .before .if1 .left) (c .before .before .before .before .before .before .lent-lengths .ensures)
+
+pub quick-put-spec : {M : Type 1} → statement M
+quick-put-spec =
+    tie.close
+    (tie.spec
+    lent-lengths-requires
+    refused-requires
+    same-length
+    returns
+    write-requires
+    granted-requires
+    same-length-2
+    returns-2)

@@ -1,0 +1,79 @@
+use native.Mathlib.Omega.{arith}
+use mathlib.Core.Path.{_∙_}
+use Rattle.registers.specs.Notes.{frameNoted}
+use Rattle.registers.proofs.PartLaws.{whole-port, part-long, replaced-long, replaced-in, short, done}
+use Rattle.port.specs.Calls.{called}
+use borrow.Author.Needs.{needs}
+use Rattle.registers.proofs.frame.Statement.{statement}
+use Rattle.registers.proofs.frame.Tie as tie
+use Rattle.registers.proofs.frame.Reads as reads
+use Rattle.registers.proofs.frame.Lts as lts
+use Rattle.port.proofs.frame.Reads as frame-reads
+use Rattle.registers.proofs.lengths.Reads as lengths-reads
+use Rattle.registers.proofs.notes.frame.Reads as notes-frame-reads
+use Rattle.steps.proofs.refused.Reads as refused-reads
+
+-- src/lib.rt:133:9
+lengths-requires : tie.Need-lengths-requires
+lengths-requires c κs = search needs
+
+-- src/lib.rt:135:9
+refused-requires : tie.Need-refused-requires
+refused-requires c κs = search needs
+
+-- src/lib.rt:135:9
+same-length : tie.Need-same-length
+same-length c = search needs
+
+-- src/lib.rt:135:9
+same-length-2 : tie.Need-same-length-2
+same-length-2 c = search needs
+
+-- src/lib.rt:135:9
+returns : tie.Need-returns
+returns c = short called _ _ _ _ _ (c .refused .ensures) (c .before .if1 .taken) (c .before .before .lengths .ensures)
+
+-- src/lib.rt:137:29
+slice-relend-prefix-frame : tie.Need-slice-relend-prefix-frame
+slice-relend-prefix-frame c = let long = whole-port _ _ _ (c .if1 .left) (c .before .lengths .ensures) in omega (arith, long)
+
+-- src/lib.rt:137:29
+slice-aggregate-frame : tie.Need-slice-aggregate-frame
+slice-aggregate-frame c = part-long _ _ _ (c .before .if1 .left) (c .before .before .lengths .ensures)
+
+-- src/lib.rt:137:9
+frame-requires : tie.Need-frame-requires
+frame-requires c κs = search needs
+
+-- src/lib.rt:138:5
+frame-requires-2 : tie.Need-frame-requires-2
+frame-requires-2 c κs = replaced-long _ _ _ (c .before .before .before .before .before .before .before .before .if1 .left) (c .before .before .before .before .before .before .before .before .before .lengths .ensures) (c .before .before .before .before .before .frame .last .0) (c .before .before .before .before .before .frame .kept .0)
+
+-- src/lib.rt:130:1
+same-length-3 : tie.Need-same-length-3
+same-length-3 c = search needs
+
+-- src/lib.rt:130:1
+same-length-4 : tie.Need-same-length-4
+same-length-4 c = search needs
+
+-- src/lib.rt:130:1
+returns-2 : tie.Need-returns-2
+returns-2 c = done called _ _ _ _ _ _ _ _ (c .before .before .before .before .before .before .before .before .before .before .before .if1 .left) (c .before .before .before .before .before .before .before .before .before .before .before .before .lengths .ensures) (c .before .before .before .before .before .before .before .before .frame .ensures) (c .before .before .frame2 .ensures ∙ replaced-in _ _ _ (c .before .before .before .before .before .before .before .before .before .before .before .if1 .left) (c .before .before .before .before .before .before .before .before .before .before .before .before .lengths .ensures) (c .before .before .before .before .before .before .before .before .frame .last .0) (c .before .before .before .before .before .before .before .before .frame .kept .0) (frameNoted _))
+
+pub frame-spec : {M : Type 1} → statement M
+frame-spec =
+    tie.close
+    (tie.spec
+    lengths-requires
+    refused-requires
+    same-length
+    same-length-2
+    returns
+    slice-relend-prefix-frame
+    slice-aggregate-frame
+    frame-requires
+    frame-requires-2
+    same-length-3
+    same-length-4
+    returns-2)

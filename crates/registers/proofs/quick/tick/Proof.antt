@@ -1,0 +1,69 @@
+use native.Mathlib.Omega.{arith}
+use mathlib.Core.Path.{_∙_}
+use Rattle.registers.specs.Notes.{tickNoted}
+use Rattle.registers.proofs.PartLaws.{whole-port, part-long, replaced-long, replaced-in, short, done}
+use Rattle.port.specs.Quick.{quicklyCalled}
+use borrow.Author.Needs.{needs}
+use Rattle.registers.proofs.quick.tick.Statement.{statement}
+use Rattle.registers.proofs.quick.tick.Tie as tie
+use Rattle.registers.proofs.quick.tick.Reads as reads
+use Rattle.registers.proofs.quick.tick.Lts as lts
+use Rattle.port.proofs.quick.tick.Reads as quick-tick-reads
+use Rattle.registers.proofs.lengths.Reads as lengths-reads
+use Rattle.registers.proofs.notes.tick.Reads as notes-tick-reads
+use Rattle.steps.proofs.refused.Reads as refused-reads
+
+-- src/quick.rt:61:9
+lengths-requires : tie.Need-lengths-requires
+lengths-requires c κs = search needs
+
+-- src/quick.rt:63:9
+refused-requires : tie.Need-refused-requires
+refused-requires c κs = search needs
+
+-- src/quick.rt:63:9
+same-length : tie.Need-same-length
+same-length c = search needs
+
+-- src/quick.rt:63:9
+returns : tie.Need-returns
+returns c = short quicklyCalled _ _ _ _ _ (c .refused .ensures) (c .before .if1 .taken) (c .before .before .lengths .ensures)
+
+-- src/quick.rt:65:35
+slice-relend-prefix-tick : tie.Need-slice-relend-prefix-tick
+slice-relend-prefix-tick c = let long = whole-port _ _ _ (c .if1 .left) (c .before .lengths .ensures) in omega (arith, long)
+
+-- src/quick.rt:65:35
+slice-aggregate-tick : tie.Need-slice-aggregate-tick
+slice-aggregate-tick c = part-long _ _ _ (c .before .if1 .left) (c .before .before .lengths .ensures)
+
+-- src/quick.rt:65:9
+tick-requires : tie.Need-tick-requires
+tick-requires c κs = search needs
+
+-- src/quick.rt:66:5
+tick-requires-2 : tie.Need-tick-requires-2
+tick-requires-2 c κs = replaced-long _ _ _ (c .before .before .before .before .before .if1 .left) (c .before .before .before .before .before .before .lengths .ensures) (c .before .before .before .tick .last .0) (c .before .before .before .tick .kept .0)
+
+-- src/quick.rt:58:1
+same-length-2 : tie.Need-same-length-2
+same-length-2 c = search needs
+
+-- src/quick.rt:58:1
+returns-2 : tie.Need-returns-2
+returns-2 c = done quicklyCalled _ _ _ _ _ _ _ _ (c .before .before .before .before .before .before .before .before .if1 .left) (c .before .before .before .before .before .before .before .before .before .lengths .ensures) (c .before .before .before .before .before .before .tick .ensures) (c .before .before .tick2 .ensures ∙ replaced-in _ _ _ (c .before .before .before .before .before .before .before .before .if1 .left) (c .before .before .before .before .before .before .before .before .before .lengths .ensures) (c .before .before .before .before .before .before .tick .last .0) (c .before .before .before .before .before .before .tick .kept .0) (tickNoted _ _))
+
+pub tick-spec : {M : Type 1} → statement M
+tick-spec =
+    tie.close
+    (tie.spec
+    lengths-requires
+    refused-requires
+    same-length
+    returns
+    slice-relend-prefix-tick
+    slice-aggregate-tick
+    tick-requires
+    tick-requires-2
+    same-length-2
+    returns-2)

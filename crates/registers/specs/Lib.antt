@@ -1,0 +1,5 @@
+-- The port with its registers: what the host lends, what replies do to the register block, the calls, and the register accesses.
+pub mod Lent
+pub mod Notes
+pub mod Calls
+pub mod Accesses
