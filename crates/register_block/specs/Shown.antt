@@ -1,6 +1,7 @@
 -- What each register shows.
-use Prim.Native.Nat.{ℕ, _+_}
-use mathlib.Core.Bool.{Bool, cond, _&&_, _||_}
+use Prim.Native.Nat.{ℕ, _+_, _^_}
+use mathlib.Core.Path.{_≡_}
+use mathlib.Core.Bool.{Bool, true, cond, _&&_, _||_}
 use mathlib.Core.List.{List}
 use lib.Dec.{eqb}
 use Rattle.register_block.specs.Layout.{statusOffset, flagsOffset, maskOffset, acceptedOffset, discardedOffset, sentOffset, discardFlag, purgeFlag, nothingFlag, maskOctet, sentOctet, acceptedOctet, discardedOctet}
@@ -21,6 +22,17 @@ sharesOne b flag weight = flagAt b flag && bitOf (maskOf b) weight
 -- "The interrupt line is up exactly when flags and mask share a one": the other bits of the flags are never one (`line-exactly`)
 unfoldable pub lineUp : List ℕ → Bool
 lineUp b = sharesOne b discardFlag bit0 || (sharesOne b purgeFlag bit1 || sharesOne b nothingFlag bit2)
+
+-- two numbers that share a one: some bit is one in both
+pub record ShareOne (x y : ℕ) : Type 0 where
+  pub bit : ℕ
+  pub first : bitOf x (2 ^ bit) ≡ true
+  pub second : bitOf y (2 ^ bit) ≡ true
+
+-- the line is up exactly then, of all bits
+pub record LineExactly (b : List ℕ) : Type 0 where
+  pub only-then : lineUp b ≡ true → ShareOne (flagsOf b) (maskOf b)
+  pub then-up : ShareOne (flagsOf b) (maskOf b) → lineUp b ≡ true
 
 -- "Offset 4 is status (bit 0, the lowest, open; bit 1 the interrupt line)"
 unfoldable pub statusOf : Bool → List ℕ → ℕ

@@ -31,10 +31,10 @@ readBy refusal offset p m =
 unfoldable pub named : ℕ → List Call
 named number = cond (bitOf number bit0) (ticking ∷ []) [] ++ cond (bitOf number bit1) (transmitting ∷ []) []
 
--- calls one after the other, each on what the one before it left; the outcome of the last one
-abbrev pub inTurn : (Call → List ℕ → List ℕ → Outcome) → Outcome → List Call → Outcome
-inTurn call o [] = o
-inTurn call o (c ∷ cs) = inTurn call (call c (o .port) (o .memory)) cs
+-- what is done in turn, each on what the one before it left; the outcome of the last one
+abbrev pub inTurn : {X : Type 0} → (X → List ℕ → List ℕ → Outcome) → Outcome → List X → Outcome
+inTurn does o [] = o
+inTurn does o (x ∷ xs) = inTurn does (does x (o .port) (o .memory)) xs
 
 -- a write that names these calls, by this sort of call and this refusal of what is lent: it replies "as its last call"; one that names none writes the
 -- register, and replies "two zeros", whether the port is open or not: "1 stops only ticks and transmits"

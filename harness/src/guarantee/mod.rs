@@ -13,6 +13,8 @@ mod frame_tests;
 pub mod list;
 pub mod pairs;
 pub mod ranges;
+#[cfg(test)]
+mod register_tests;
 pub mod taken;
 #[cfg(test)]
 mod tests;

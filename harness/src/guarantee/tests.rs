@@ -1,5 +1,5 @@
 //! The checkers' own tests: lists with replies that no port need ever have given, each of which breaks one claim, or just does not. Those with
-//! Frames are in `frame_tests`, those with Withdraws in `withdraw_tests`.
+//! Frames are in `frame_tests`, those with Withdraws in `withdraw_tests`, those with accesses to registers in `register_tests`.
 
 use crate::call::{Call, Given, Reply};
 use crate::comparing::fit::Octets;

@@ -264,7 +264,7 @@ fn any_list(random: &mut Random, play: Play, begin: &Octets) -> Vec<Event> {
     profile.weights.close = 0;
     profile.weights.tick = profile.weights.tick.max(1);
     let served = random.pick(&[0, 90, 100, 100]);
-    write_any(random, play, begin, &profile, 300, served)
+    write_any(random, play, begin, &profile, 350, served)
 }
 
 /// Writes lists in a manner.
@@ -396,6 +396,10 @@ fn is_tight(run: &mut Run) -> Result<(), String> {
         expect(run, side, &one_too_few, Found { link: Failed, purging: 1, twins: 4, ..none })?;
         expect(run, side, &one_octet_too_few, Found { link: Failed, ..none })?;
         expect(run, side, &by_frames(&just_served), Found { beginning: late, frame_arrivals: 6, ..sent })?;
+        let controlled = Found { control_ticks: 4, control_transmits: 6, ..sent };
+        expect(run, side, &by_control_writes(&just_served), Found { beginning: late, ..controlled })?;
+        let purged = Found { link: Failed, purging: 1, twins: 4, control_ticks: 4, control_transmits: 5, ..none };
+        expect(run, side, &by_control_writes(&one_too_few), purged)?;
         let current = Prompt { current: 2, ..Prompt::default() };
         expect(run, side, &granted_again, Found { beginning: late, conforming: current, twins: 6, ..sent })?;
         let sent = Found { sent_as_replied: [2, 0, 0], sent_as_replied_late: 2, conforming: late, ..none };
@@ -403,6 +407,11 @@ fn is_tight(run: &mut Run) -> Result<(), String> {
         expect(run, side, &by_frames(&conforming), Found { link: ByBoth, twins: 1, frame_arrivals: 2, ..sent })?;
     }
     Ok(())
+}
+
+/// A list with its ticks and transmits by control writes.
+fn by_control_writes(calls: &[Call]) -> Vec<Call> {
+    calls.iter().map(|call| becoming::by_control(call.clone(), u32::MAX)).collect()
 }
 
 /// A list of one stream with a Bind after its Reserve, and its arrivals by frames.

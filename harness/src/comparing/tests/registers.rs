@@ -19,7 +19,7 @@ use crate::layout;
 use crate::model::refusal::*;
 
 /// The tests of this kind.
-pub const TESTS: [Test; 14] = [
+pub const TESTS: [Test; 15] = [
     test("registers_of_a_list", registers_of_a_list),
     test("registers_of_frames_and_refusals", registers_of_frames_and_refusals),
     test("register_checks_in_order", register_checks_in_order),
@@ -34,6 +34,7 @@ pub const TESTS: [Test; 14] = [
     test("registers_in_lists_from_any_port", registers_in_lists_from_any_port),
     test("registers_on_ports_opened_again", registers_on_ports_opened_again),
     test("registers_on_unfit_records", registers_on_unfit_records),
+    test("quick_registers_by_the_reply", quick_registers_by_the_reply),
 ];
 
 /// A test of this kind.
@@ -658,4 +659,30 @@ fn registers_on_unfit_records(run: &mut Run) -> Result<(), String> {
         play(run, [Side::Quick, Side::InPlace], &Plan { lists: 300, calls: 150, begin }, |_| REGISTERS)?;
     }
     demand_registers(run, 400)
+}
+
+/// The quick calls' registers follow the replies on records that are not fit: a purge of frames without octets is a purge, and a frame whose stream is
+/// the 254 of nothing to send is, by the reply, nothing to send, whatever its tag.
+fn quick_registers_by_the_reply(run: &mut Run) -> Result<(), String> {
+    let mut list = Stated::opened(run, [Side::Quick, Side::InPlace], 2_620, 1, &[(5, 200)])?;
+    let begin = list.octets();
+    for (stream, charge, tag) in [(5, 0, 0), (254, 0, 0), (254, 84, 7), (253, 84, 7), (256 + 254, 84, 7), (255, 84, 7), (u32::from(u16::MAX), 84, 7)] {
+        let mut octets = begin.clone();
+        octets.put_queue(&mut list.random, 0, 9, 1);
+        let at = layout::frame(0, 9, 0);
+        layout::put_two(&mut octets.memory, at + layout::FRAME_STREAM, stream);
+        layout::put_two(&mut octets.memory, at + layout::FRAME_CHARGE, charge);
+        layout::put_four(&mut octets.memory, at + layout::FRAME_TAG, tag);
+        for control in [false, true] {
+            list.lend_again(&octets);
+            list.call(if control { write(CONTROL, 1) } else { Call::Tick }, Reply::granted(1, charge))?;
+            counted(&mut list, 2, [0; 3])?;
+            list.lend_again(&octets);
+            list.call(if control { write(CONTROL, 2) } else { Call::Transmit }, Reply::granted(stream, tag))?;
+            let nothing = stream == 254;
+            counted(&mut list, if nothing { 4 } else { 0 }, [0, 0, u32::from(!nothing)])?;
+        }
+    }
+    let (nothing, _) = EVERY_FLAG[2];
+    run.demand(&[(Seen::FlagSet(nothing), 4), (Seen::ControlTicked, 7), (Seen::ControlTransmitted, 7)])
 }

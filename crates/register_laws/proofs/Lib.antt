@@ -1,0 +1,3 @@
+-- The laws of lists of calls and register accesses.
+pub mod NoteLaws
+pub mod FollowLaws

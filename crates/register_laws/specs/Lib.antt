@@ -1,0 +1,5 @@
+-- What is said of lists of calls and register accesses on one port.
+pub mod Uses
+pub mod Happenings
+pub mod History
+pub mod Controls
