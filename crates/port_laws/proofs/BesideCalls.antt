@@ -40,7 +40,7 @@ use Rattle.gates.specs.Table.{refusalOf, stepOf}
 use Rattle.gates.proofs.GateLaws.{open-allowed, reserve-allowed, withdraw-allowed, arrive-allowed}
 use Rattle.gates.proofs.FrameGateLaws.{bind-allowed}
 use Rattle.port.specs.Calls.{called}
-use Rattle.port_laws.proofs.SameLength.{either}
+use Rattle.port_laws.proofs.CallKeeps.{either}
 
 module _ (p m : List ℕ) (s : ℕ) (opened : openAt p ≡ true) (drains : drainsAt p s ≡ true) where
   -- the record that a call leaves

@@ -14,7 +14,9 @@ pub mod BestEffortFit
 pub mod FrameLaws
 pub mod LookupLaws
 pub mod QuickLaws
+pub mod CallKeeps
 pub mod SameLength
+pub mod StayOpen
 pub mod StayLaws
 pub mod BesideCalls
 pub mod TurnBeside

@@ -10,6 +10,7 @@ use lib.Seq.{take-at, drop-at}
 use lib.Dec.{eqb, ltb}
 use borrow.Author.Tests.{le-ltb, eq-eqb, ne-eqb}
 use Rattle.lists.proofs.Order.{eq-or-not}
+use Rattle.lists.proofs.EachLaws.{some-not-none}
 use Rattle.stream.specs.declared.Reply.{Reply}
 use Rattle.stream.specs.Replies.{granted}
 use Rattle.record.specs.Layout.{recordLength, memoryLength}
@@ -20,9 +21,11 @@ use Rattle.steps.specs.Outcome.{Outcome, outcome, gated, refused}
 use Rattle.steps.proofs.OutcomeLaws.{grants, refuses}
 use Rattle.port.specs.Calls.{called}
 use Rattle.port_laws.specs.Lists.{replies}
+use Rattle.port_laws.proofs.CallKeeps.{either}
 use Rattle.port_laws.proofs.SameLength.{record-length}
 use Rattle.register_block.specs.Layout.{controlOffset}
 use Rattle.register_block.specs.Written.{writtenAt}
+use Rattle.register_block.proofs.WrittenLaws.{length-written}
 use Rattle.registers.specs.Lent.{portLength, WholePort, recordPart, blockPart, inBlock, shortRefusal, portRefusal}
 use Rattle.registers.specs.Notes.{noted}
 use Rattle.registers.specs.Calls.{withNote, registered, portCall}
@@ -106,3 +109,137 @@ follows-both p m x cs ds hs ks o u first second =
           ∙ ap₂ _++_ (first .told) (second .told ∙ ap₂ (λ (q n : List ℕ). replies called ds q n) (first .same-record) (first .same-memory))
           ∙ sym (replies-after cs ds x);
     }
+
+-- calls in turn, from a port that is what the record alone is
+pub turn-follows : (cs : List Call) (o x : Outcome) → WholePort (o .port) → recordPart (o .port) ≡ x .port → o .memory ≡ x .memory
+    → Follows (o .port) (o .memory) (recordPart (o .port)) (o .memory) cs (repliedTo cs (o .port) (o .memory)) (inTurn portCall o cs) (inTurn called x cs)
+turn-follows [] o x whole same kept = follows-none (o .port) (o .memory) whole o x refl refl (sym same) (sym kept)
+turn-follows (c ∷ cs) o x whole same kept =
+    let one = call-follows (o .port) (o .memory) whole c in
+    let made : called c (recordPart (o .port)) (o .memory) ≡ called c (x .port) (x .memory) = ap₂ (called c) same kept in
+    let start = lent (recordPart (o .port)) (o .memory) in
+    let u = portCall c (o .port) (o .memory) in
+    let y = called c (recordPart (o .port)) (o .memory) in
+    subst
+    (λ (z : Outcome). Follows (o .port) (o .memory) (recordPart (o .port)) (o .memory) (c ∷ cs) (repliedTo (c ∷ cs) (o .port) (o .memory)) (inTurn portCall u cs) (inTurn called z cs)) made
+    (follows-both (o .port) (o .memory) start (c ∷ []) cs (repliedTo (c ∷ []) (o .port) (o .memory)) (repliedTo cs (u .port) (u .memory)) u (inTurn portCall u cs) one
+    (turn-follows cs u y (one .whole) (one .same-record) (one .same-memory)))
+
+-- a read leaves slice and memory as they are
+pub read-leaves : (refusal : List ℕ → List ℕ → ℕ) (offset : ℕ) (p m : List ℕ) → (readBy refusal offset p m .port ≡ p) × (readBy refusal offset p m .memory ≡ m)
+unfolding readBy
+read-leaves refusal offset p m =
+    let Leaves : Outcome → Type 0 = λ o. (o .port ≡ p) × (o .memory ≡ m) in
+    either Leaves (eqb (offsetRefusal offset) 0) _ _ (either Leaves (eqb (portRefusal refusal p m) 0) _ _ (refl, refl) (refl, refl)) (refl, refl)
+
+module _ (offset number : ℕ) (p m : List ℕ) (whole : WholePort p) where
+  -- a write that is refused
+  refused-write : (g : ℕ) → (g ≡ 0 → ⊥) → registerWrite offset number p m ≡ refused g p m
+      → Follows p m (recordPart p) m [] (writeHappens offset number p m []) (registerWrite offset number p m) (lent (recordPart p) m)
+  refused-write g some made =
+      let none : writeHappens offset number p m [] ≡ [] =
+      ap (λ (o : Outcome). cond (eqb (o .reply .refusal) 0) (written offset number ∷ []) []) made ∙ ap (λ (b : Bool). cond b (written offset number ∷ []) []) (ne-eqb g 0 some) in
+      subst (λ (hs : List Happening). Follows p m (recordPart p) m [] hs (registerWrite offset number p m) (lent (recordPart p) m)) (sym none)
+      (follows-none p m whole (registerWrite offset number p m) (lent (recordPart p) m) (ap (λ (o : Outcome). o .port) made) (ap (λ (o : Outcome). o .memory) made) refl refl)
+
+  -- and one that is granted
+  granted-write : registerWrite offset number p m ≡ outcome (granted 0 0) (inBlock (writtenAt offset number) p) m
+      → Follows p m (recordPart p) m [] (writeHappens offset number p m []) (registerWrite offset number p m) (lent (recordPart p) m)
+  unfolding inBlock
+  granted-write made =
+      let b = writtenAt offset number (blockPart p) in
+      let long = record-long p whole in
+      let behind : length b ≡ length p - recordLength = length-written offset number (blockPart p) ∙ block-long p in
+      rw made
+      (record {
+        whole = omega (arith, length-append (recordPart p) b, long, behind, whole);
+        same-record = take-at (recordPart p) b recordLength long;
+        same-memory = refl;
+        block = drop-at (recordPart p) b recordLength long;
+        told = refl;
+      })
+
+  -- a write that makes no call, by its two gates
+  plain-write : callsOf (writing offset number) ≡ [] → Follows p m (recordPart p) m [] (writeHappens offset number p m []) (registerWrite offset number p m) (lent (recordPart p) m)
+  unfolding writeBy
+  plain-write none =
+      let body = writtenBy called lentRefusal offset number p m [] in
+      let done = outcome (granted 0 0) (inBlock (writtenAt offset number) p) m in
+      let first : registerWrite offset number p m ≡ gated (offsetRefusal offset) p m body = ap (λ (cs : List Call). gated (offsetRefusal offset) p m (writtenBy called lentRefusal offset number p m cs)) none in
+      ⊎-elim
+      (λ (zero : offsetRefusal offset ≡ 0).
+      ⊎-elim
+      (λ (free : portRefusal lentRefusal p m ≡ 0). granted-write (first ∙ grants (offsetRefusal offset) p m body zero ∙ grants (portRefusal lentRefusal p m) p m done free))
+      (λ (some : portRefusal lentRefusal p m ≡ 0 → ⊥).
+      refused-write (portRefusal lentRefusal p m) some (first ∙ grants (offsetRefusal offset) p m body zero ∙ refuses (portRefusal lentRefusal p m) p m done some))
+      (eq-or-not (portRefusal lentRefusal p m) 0))
+      (λ (some : offsetRefusal offset ≡ 0 → ⊥). refused-write (offsetRefusal offset) some (first ∙ refuses (offsetRefusal offset) p m body some))
+      (eq-or-not (offsetRefusal offset) 0)
+
+-- a write that names calls is one to control, and is those calls in turn
+pub control-calls : (offset number : ℕ) (p m : List ℕ) (c : Call) (cs : List Call) → callsOf (writing offset number) ≡ c ∷ cs
+    → registerWrite offset number p m ≡ inTurn portCall (lent p m) (c ∷ cs)
+unfolding writeBy offsetRefusal
+control-calls offset number p m c cs e =
+    ⊎-elim
+    (λ (is : offset ≡ controlOffset).
+    ap (λ (k : ℕ). gated (offsetRefusal k) p m (writtenBy called lentRefusal offset number p m (callsOf (writing offset number)))) is
+    ∙ ap (writtenBy called lentRefusal offset number p m) e)
+    (λ (isnt : offset ≡ controlOffset → ⊥).
+    some-not-none c cs (sym e ∙ ap (λ (b : Bool). cond b (named number) []) (ne-eqb offset controlOffset isnt)))
+    (eq-or-not offset controlOffset)
+
+-- each use
+pub use-follows : (u : Use) (p m : List ℕ) → WholePort p
+    → Follows p m (recordPart p) m (callsOf u) (happens u p m) (used u p m) (inTurn called (lent (recordPart p) m) (callsOf u))
+use-follows (calling c) p m whole = call-follows p m whole c
+use-follows (reading offset) p m whole =
+    let left = read-leaves lentRefusal offset p m in follows-none p m whole (registerRead offset p m) (lent (recordPart p) m) (left .0) (left .1) refl refl
+use-follows (writing offset number) p m whole = by-calls (callsOf (writing offset number)) refl
+  where
+    by-calls : (cs : List Call) → callsOf (writing offset number) ≡ cs
+        → Follows p m (recordPart p) m cs (writeHappens offset number p m cs) (registerWrite offset number p m) (inTurn called (lent (recordPart p) m) cs)
+    by-calls [] none = plain-write offset number p m whole none
+    by-calls (c ∷ cs) e =
+        subst (λ (o : Outcome). Follows p m (recordPart p) m (c ∷ cs) (repliedTo (c ∷ cs) p m) o (inTurn called (lent (recordPart p) m) (c ∷ cs))) (sym (control-calls offset number p m c cs e))
+        (turn-follows (c ∷ cs) (lent p m) (lent (recordPart p) m) whole refl refl)
+
+-- and every list of them: the record and the memory after it are those after its calls on the record alone, which reply the same, and the block is what the
+-- happenings make of it
+in-turn-both : (cs ds : List Call) (o : Outcome) → inTurn called o (cs ++ ds) ≡ inTurn called (inTurn called o cs) ds
+in-turn-both [] ds o = refl
+in-turn-both (c ∷ cs) ds o = in-turn-both cs ds (called c (o .port) (o .memory))
+
+-- slice and memory after a list go by slice and memory before it, whatever was replied
+same-after : {X : Type 0} (does : X → List ℕ → List ℕ → Outcome) (xs : List X) (o u : Outcome) → o .port ≡ u .port → o .memory ≡ u .memory
+    → (inTurn does o xs .port ≡ inTurn does u xs .port) × (inTurn does o xs .memory ≡ inTurn does u xs .memory)
+same-after does [] o u same kept = (same, kept)
+same-after does (x ∷ xs) o u same kept =
+    let made = ap (λ (z : Outcome). inTurn does z xs) (ap₂ (does x) same kept) in (ap (λ (z : Outcome). z .port) made, ap (λ (z : Outcome). z .memory) made)
+
+follows-at : (p m q n : List ℕ) (cs : List Call) (hs : List Happening) (o u x y : Outcome) → (o .port ≡ u .port) × (o .memory ≡ u .memory)
+    → (x .port ≡ y .port) × (x .memory ≡ y .memory) → Follows p m q n cs hs o x → Follows p m q n cs hs u y
+follows-at p m q n cs hs o u x y same so f =
+    record {
+      whole = subst WholePort (same .0) (f .whole);
+      same-record = ap recordPart (sym (same .0)) ∙ f .same-record ∙ so .0;
+      same-memory = sym (same .1) ∙ f .same-memory ∙ so .1;
+      block = ap blockPart (sym (same .0)) ∙ f .block;
+      told = f .told;
+    }
+
+pub list-follows : (us : List Use) (p m : List ℕ) → WholePort p
+    → Follows p m (recordPart p) m (allCalls us) (happenings us p m) (ran us p m) (inTurn called (lent (recordPart p) m) (allCalls us))
+list-follows [] p m whole = follows-none p m whole (lent p m) (lent (recordPart p) m) refl refl refl refl
+list-follows (u ∷ us) p m whole =
+    let one = use-follows u p m whole in
+    let o = used u p m in
+    let x = inTurn called (lent (recordPart p) m) (callsOf u) in
+    let rest =
+    follows-at (o .port) (o .memory) (recordPart (o .port)) (o .memory) (allCalls us) (happenings us (o .port) (o .memory))
+    (ran us (o .port) (o .memory)) (inTurn used o us) (inTurn called (lent (recordPart (o .port)) (o .memory)) (allCalls us)) (inTurn called x (allCalls us))
+    (same-after used us (lent (o .port) (o .memory)) o refl refl)
+    (same-after called (allCalls us) (lent (recordPart (o .port)) (o .memory)) x (one .same-record) (one .same-memory))
+    (list-follows us (o .port) (o .memory) (one .whole)) in
+    subst (λ (z : Outcome). Follows p m (recordPart p) m (callsOf u ++ allCalls us) (happenings (u ∷ us) p m) (inTurn used o us) z) (sym (in-turn-both (callsOf u) (allCalls us) (lent (recordPart p) m)))
+    (follows-both p m (lent (recordPart p) m) (callsOf u) (allCalls us) (happens u p m) (happenings us (o .port) (o .memory)) o (inTurn used o us) one rest)

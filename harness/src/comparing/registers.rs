@@ -22,26 +22,8 @@ const HELD: [u32; 7] = [CONTROL, STATUS, FLAGS, MASK, 16, 20, 24];
 /// The offset of the last register.
 const LAST_OFFSET: u32 = 60;
 /// Offsets that are no multiple of 4 or are above 60, also where fewer bits would hide that.
-pub const WRONG_OFFSETS: [u32; 18] = [
-    1,
-    2,
-    3,
-    5,
-    6,
-    13,
-    27,
-    59,
-    61,
-    62,
-    63,
-    64,
-    68,
-    1 << 8,
-    (1 << 8) + 4,
-    (1 << 16) + 8,
-    (1 << 31) + 12,
-    u32::MAX,
-];
+pub const WRONG_OFFSETS: [u32; 18] =
+    [1, 2, 3, 5, 6, 13, 27, 59, 61, 62, 63, 64, 68, 1 << 8, (1 << 8) + 4, (1 << 16) + 8, (1 << 31) + 12, u32::MAX];
 /// Values whose bits alone matter: each bit of control and of the flags, several at once, none of them, and bits above.
 const VALUES: [u32; 14] = [0, 1, 2, 3, 4, 5, 6, 7, 8, 9, 0xffff_fff8, 0x8000_0001, 0x0100_0002, u32::MAX];
 
@@ -79,8 +61,7 @@ pub enum Flag {
 }
 
 /// Every flag, in the order of their bits, with the place of its mark in the register block.
-pub const EVERY_FLAG: [(Flag, usize); 3] =
-    [(Flag::Discard, FLAG_DISCARD), (Flag::Purge, FLAG_PURGE), (Flag::NothingToSend, FLAG_NOTHING)];
+pub const EVERY_FLAG: [(Flag, usize); 3] = [(Flag::Discard, FLAG_DISCARD), (Flag::Purge, FLAG_PURGE), (Flag::NothingToSend, FLAG_NOTHING)];
 
 /// The counts, in the order of their offsets.
 #[derive(Clone, Copy, Debug, PartialEq, Eq, PartialOrd, Ord)]

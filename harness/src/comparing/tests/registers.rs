@@ -200,7 +200,8 @@ fn registers_of_frames_and_refusals(run: &mut Run) -> Result<(), String> {
         counted(&mut list, 1, [3, 2, 0])?;
         let of_stream = |stream: u8, charge: u32| Call::Arrive { stream, charge, tag: 1 };
         let refused = [(of_stream(6, 84), 25), (of_stream(7, 84), 12), (of_stream(64, 84), 5), (of_stream(5, 83), 13)];
-        let refused = refused.into_iter().chain([(Call::BestEffort { charge: 83, tag: 1 }, 13), (Call::BestEffort { charge: 500, tag: 1 }, 16)]);
+        let refused =
+            refused.into_iter().chain([(Call::BestEffort { charge: 83, tag: 1 }, 13), (Call::BestEffort { charge: 500, tag: 1 }, 16)]);
         for (call, refusal) in refused {
             list.call(call, Reply::refused(refusal))?;
         }
@@ -666,7 +667,9 @@ fn registers_on_unfit_records(run: &mut Run) -> Result<(), String> {
 fn quick_registers_by_the_reply(run: &mut Run) -> Result<(), String> {
     let mut list = Stated::opened(run, [Side::Quick, Side::InPlace], 2_620, 1, &[(5, 200)])?;
     let begin = list.octets();
-    for (stream, charge, tag) in [(5, 0, 0), (254, 0, 0), (254, 84, 7), (253, 84, 7), (256 + 254, 84, 7), (255, 84, 7), (u32::from(u16::MAX), 84, 7)] {
+    for (stream, charge, tag) in
+        [(5, 0, 0), (254, 0, 0), (254, 84, 7), (253, 84, 7), (256 + 254, 84, 7), (255, 84, 7), (u32::from(u16::MAX), 84, 7)]
+    {
         let mut octets = begin.clone();
         octets.put_queue(&mut list.random, 0, 9, 1);
         let at = layout::frame(0, 9, 0);
