@@ -92,9 +92,13 @@ zeroed-octet b whole k below =
 pub word-zeroed : (b : List ℕ) (at : ℕ) → WholeBlock b → at + 4 ≤ blockLength → wordAt (zeroed b) at ≡ 0
 unfolding wordAt fourOf twoOf
 word-zeroed b at whole inside =
-    omega
-    (arith, zeroed-octet b whole at (omega arith), zeroed-octet b whole (at + 1) (omega arith), zeroed-octet b whole (at + 1 + 1) (omega arith),
-    zeroed-octet b whole (at + 1 + 1 + 1) (omega arith))
+    omega (
+      arith,
+      zeroed-octet b whole at (omega arith),
+      zeroed-octet b whole (at + 1) (omega arith),
+      zeroed-octet b whole (at + 1 + 1) (omega arith),
+      zeroed-octet b whole (at + 1 + 1 + 1) (omega arith),
+    )
 
 pub flag-zeroed : (b : List ℕ) (flag : ℕ) → WholeBlock b → flag < blockLength → flagAt (zeroed b) flag ≡ false
 unfolding flagAt

@@ -35,12 +35,15 @@ use Rattle.register_laws.specs.Uses.{Use, calling, reading, writing, use
 use Rattle.register_laws.specs.Happenings.{Happening, replied, written, repliedTo, writeHappens, happens, happenings, repliesIn, note, notedAll}
 use Rattle.register_laws.proofs.NoteLaws.{length-noted}
 
--- a slice that is long enough is not refused for its length, and the call is made on the record and noted in the block
+-- a slice that is long enough is not refused for its length,
+pub whole-short : (p m : List ℕ) → WholePort p → shortRefusal p m ≡ 0
+unfolding shortRefusal
+whole-short p m whole = ap (λ (b : Bool). cond b (cond (ltb (length m) (memoryLength (queuesAt p))) 18 19) 0) (le-ltb (length p) portLength whole)
+
+-- and the call is made on the record and noted in the block
 whole-call : (call : Call → List ℕ → List ℕ → Outcome) (c : Call) (p m : List ℕ) → WholePort p → registered call c p m ≡ withNote c (blockPart p) (call c (recordPart p) m)
-unfolding registered shortRefusal
-whole-call call c p m whole =
-    ap (λ (b : Bool). gated (cond b (cond (ltb (length m) (memoryLength (queuesAt p))) 18 19) 0) p m (withNote c (blockPart p) (call c (recordPart p) m)))
-    (le-ltb (length p) portLength whole)
+unfolding registered
+whole-call call c p m whole = grants (shortRefusal p m) p m (withNote c (blockPart p) (call c (recordPart p) m)) (whole-short p m whole)
 
 -- slice and memory of o are those of x, the record alone, after calls that replied the same, with the block behind as these happenings leave it
 pub record Follows (p m q n : List ℕ) (cs : List Call) (hs : List Happening) (o x : Outcome) : Type 0 where
@@ -79,13 +82,17 @@ module _ (p m : List ℕ) (whole : WholePort p) where
         told = refl;
       })
 
--- the replies of calls after calls
-replies-after : (cs ds : List Call) (o : Outcome) → replies called (cs ++ ds) (o .port) (o .memory)
-    ≡ replies called cs (o .port) (o .memory) ++ replies called ds (inTurn called o cs .port) (inTurn called o cs .memory)
-replies-after [] ds o = refl
-replies-after (c ∷ cs) ds o = ap (λ (rs : List Reply). called c (o .port) (o .memory) .reply ∷ rs) (replies-after cs ds (called c (o .port) (o .memory)))
+-- the replies of calls after calls, and what both leave
+pub replies-after : (call : Call → List ℕ → List ℕ → Outcome) (cs ds : List Call) (o : Outcome) → replies call (cs ++ ds) (o .port) (o .memory)
+    ≡ replies call cs (o .port) (o .memory) ++ replies call ds (inTurn call o cs .port) (inTurn call o cs .memory)
+replies-after call [] ds o = refl
+replies-after call (c ∷ cs) ds o = ap (λ (rs : List Reply). call c (o .port) (o .memory) .reply ∷ rs) (replies-after call cs ds (call c (o .port) (o .memory)))
 
-replies-both : (hs ks : List Happening) → repliesIn (hs ++ ks) ≡ repliesIn hs ++ repliesIn ks
+pub in-turn-both : (call : Call → List ℕ → List ℕ → Outcome) (cs ds : List Call) (o : Outcome) → inTurn call o (cs ++ ds) ≡ inTurn call (inTurn call o cs) ds
+in-turn-both call [] ds o = refl
+in-turn-both call (c ∷ cs) ds o = in-turn-both call cs ds (call c (o .port) (o .memory))
+
+pub replies-both : (hs ks : List Happening) → repliesIn (hs ++ ks) ≡ repliesIn hs ++ repliesIn ks
 replies-both [] ks = refl
 replies-both (replied c r ∷ hs) ks = ap (λ (rs : List Reply). r ∷ rs) (replies-both hs ks)
 replies-both (written offset number ∷ hs) ks = replies-both hs ks
@@ -107,7 +114,7 @@ follows-both p m x cs ds hs ks o u first second =
       told =
           replies-both hs ks
           ∙ ap₂ _++_ (first .told) (second .told ∙ ap₂ (λ (q n : List ℕ). replies called ds q n) (first .same-record) (first .same-memory))
-          ∙ sym (replies-after cs ds x);
+          ∙ sym (replies-after called cs ds x);
     }
 
 -- calls in turn, from a port that is what the record alone is
@@ -204,14 +211,8 @@ use-follows (writing offset number) p m whole = by-calls (callsOf (writing offse
         subst (λ (o : Outcome). Follows p m (recordPart p) m (c ∷ cs) (repliedTo (c ∷ cs) p m) o (inTurn called (lent (recordPart p) m) (c ∷ cs))) (sym (control-calls offset number p m c cs e))
         (turn-follows (c ∷ cs) (lent p m) (lent (recordPart p) m) whole refl refl)
 
--- and every list of them: the record and the memory after it are those after its calls on the record alone, which reply the same, and the block is what the
--- happenings make of it
-in-turn-both : (cs ds : List Call) (o : Outcome) → inTurn called o (cs ++ ds) ≡ inTurn called (inTurn called o cs) ds
-in-turn-both [] ds o = refl
-in-turn-both (c ∷ cs) ds o = in-turn-both cs ds (called c (o .port) (o .memory))
-
 -- slice and memory after a list go by slice and memory before it, whatever was replied
-same-after : {X : Type 0} (does : X → List ℕ → List ℕ → Outcome) (xs : List X) (o u : Outcome) → o .port ≡ u .port → o .memory ≡ u .memory
+pub same-after : {X : Type 0} (does : X → List ℕ → List ℕ → Outcome) (xs : List X) (o u : Outcome) → o .port ≡ u .port → o .memory ≡ u .memory
     → (inTurn does o xs .port ≡ inTurn does u xs .port) × (inTurn does o xs .memory ≡ inTurn does u xs .memory)
 same-after does [] o u same kept = (same, kept)
 same-after does (x ∷ xs) o u same kept =
@@ -228,6 +229,8 @@ follows-at p m q n cs hs o u x y same so f =
       told = f .told;
     }
 
+-- and every list of them: the record and the memory after it are those after its calls on the record alone, which reply the same, and the block is what the
+-- happenings make of it
 pub list-follows : (us : List Use) (p m : List ℕ) → WholePort p
     → Follows p m (recordPart p) m (allCalls us) (happenings us p m) (ran us p m) (inTurn called (lent (recordPart p) m) (allCalls us))
 list-follows [] p m whole = follows-none p m whole (lent p m) (lent (recordPart p) m) refl refl refl refl
@@ -241,5 +244,5 @@ list-follows (u ∷ us) p m whole =
     (same-after used us (lent (o .port) (o .memory)) o refl refl)
     (same-after called (allCalls us) (lent (recordPart (o .port)) (o .memory)) x (one .same-record) (one .same-memory))
     (list-follows us (o .port) (o .memory) (one .whole)) in
-    subst (λ (z : Outcome). Follows p m (recordPart p) m (callsOf u ++ allCalls us) (happenings (u ∷ us) p m) (inTurn used o us) z) (sym (in-turn-both (callsOf u) (allCalls us) (lent (recordPart p) m)))
+    subst (λ (z : Outcome). Follows p m (recordPart p) m (callsOf u ++ allCalls us) (happenings (u ∷ us) p m) (inTurn used o us) z) (sym (in-turn-both called (callsOf u) (allCalls us) (lent (recordPart p) m)))
     (follows-both p m (lent (recordPart p) m) (callsOf u) (allCalls us) (happens u p m) (happenings us (o .port) (o .memory)) o (inTurn used o us) one rest)

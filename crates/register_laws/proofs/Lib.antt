@@ -3,3 +3,9 @@ pub mod NoteLaws
 pub mod FollowLaws
 pub mod RuleLaws
 pub mod HistoryLaws
+pub mod OpenedLaws
+pub mod Histories
+pub mod GuaranteedLaws
+pub mod ControlLaws
+pub mod QuickRegisters
+pub mod ReadLaws

@@ -7,11 +7,15 @@ use mathlib.Core.List.{List, [], _∷_, _++_}
 use lib.Dec.{eqb}
 use Rattle.lists.specs.Each.{All}
 use Rattle.stream.specs.declared.Reply.{Reply}
+use Rattle.stream.specs.Replies.{granted}
+use Rattle.steps.specs.Outcome.{outcome}
 use Rattle.steps.specs.Call.{Call, opening, reserving, withdrawing, arriving, ticking, transmitting, joiningBestEffort, binding, framing}
 use Rattle.sending.specs.Sending.{nothing}
-use Rattle.register_block.specs.Layout.{flagsOffset}
+use Rattle.register_block.specs.Layout.{controlOffset, statusOffset, flagsOffset, maskOffset, acceptedOffset, discardedOffset, sentOffset}
 use Rattle.register_block.specs.Fields.{wordAt, flagAt, bitOf}
+use Rattle.register_block.specs.Shown.{flagsOf, maskOf, statusOf}
 use Rattle.registers.specs.Lent.{blockPart}
+use Rattle.registers.specs.Accesses.{registerRead}
 use Rattle.register_laws.specs.Uses.{UseList, leftBy}
 use Rattle.register_laws.specs.Happenings.{Happening, replied, written, happeningsIn}
 
@@ -109,3 +113,17 @@ pub record Flags (flag : ℕ) (test : Sort → Reply → Bool) : Type 0 where
   pub since-clear : (l : UseList) (before after : List Happening) (h : Happening) → happeningsIn l ≡ before ++ (h ∷ after)
       → clears flag h ≡ true → All (λ k. clears flag k ≡ false) after → flagAt (blockPart (leftBy l .port)) flag ≡ isThere (isReply test) after
   pub since-open : (l : UseList) → All (λ k. clears flag k ≡ false) (happeningsIn l) → flagAt (blockPart (leftBy l .port)) flag ≡ isThere (isReply test) (happeningsIn l)
+
+-- a read of the register at this offset after a list replies this number "and 0", and changes nothing
+abbrev pub Reads : UseList → ℕ → ℕ → Type 0
+Reads l offset number = registerRead offset (leftBy l .port) (leftBy l .memory) ≡ outcome (granted number 0) (leftBy l .port) (leftBy l .memory)
+
+-- what the controller reads after every list from a granted Open: the port is open, the three counts, and the flags, mask and interrupt line of the block
+pub record ReadsTell (l : UseList) : Type 0 where
+  pub control : Reads l controlOffset 0
+  pub status : Reads l statusOffset (statusOf true (blockPart (leftBy l .port)))
+  pub flags : Reads l flagsOffset (flagsOf (blockPart (leftBy l .port)))
+  pub mask : Reads l maskOffset (maskOf (blockPart (leftBy l .port)))
+  pub accepted : Reads l acceptedOffset (howMany (isReply acceptance) (happeningsIn l) % 2 ^ 32)
+  pub discarded : Reads l discardedOffset (howMany (isReply discard) (happeningsIn l) % 2 ^ 32)
+  pub sent : Reads l sentOffset (howMany (isReply sending) (happeningsIn l) % 2 ^ 32)

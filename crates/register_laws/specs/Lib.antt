@@ -3,3 +3,4 @@ pub mod Uses
 pub mod Happenings
 pub mod History
 pub mod Controls
+pub mod Guaranteed
