@@ -9,3 +9,5 @@ pub mod GuaranteedLaws
 pub mod ControlLaws
 pub mod QuickRegisters
 pub mod ReadLaws
+pub mod CasesHold
+pub mod HistoriesSay

@@ -9,6 +9,7 @@ use lib.ListN.{length, length-take}
 use lib.Seq.{length-take-le, take-at}
 use lib.Dec.{eqb}
 use Rattle.lists.proofs.Order.{eq-or-not}
+use Rattle.stream.specs.declared.Reply.{Reply}
 use Rattle.stream.specs.Replies.{granted}
 use Rattle.record.specs.Layout.{recordLength}
 use Rattle.record.specs.Head.{openAt}
@@ -29,6 +30,7 @@ use Rattle.registers.specs.Calls.{withNote, registered, portCall, quickPortCall
 use Rattle.registers.proofs.PartLaws.{enough}
 use Rattle.registers.specs.Accesses.{offsetRefusal, inTurn, readBy, writtenBy, writeBy, registerRead, registerWrite, quickRegisterRead, quickRegisterWrite}
 use Rattle.register_laws.specs.Uses.{Use, calling, reading, writing, used, quicklyUsed, lent, callsOf}
+use Rattle.register_laws.specs.Cases.{usesReply}
 use Rattle.register_laws.proofs.FollowLaws.{call-follows, read-leaves, control-calls}
 
 -- the record's part is fit for the memory
@@ -116,3 +118,10 @@ quick-list [] o fit = refl
 quick-list (u ∷ us) o fit =
     ap (λ (x : Outcome). inTurn quicklyUsed x us) (quick-use u (o .port) (o .memory) fit)
     ∙ quick-list us (used u (o .port) (o .memory)) (fit-use u (o .port) (o .memory) fit)
+
+pub quick-uses : (us : List Use) (p m : List ℕ) → Fit p m → usesReply quicklyUsed us p m ≡ usesReply used us p m
+quick-uses [] p m fit = refl
+quick-uses (u ∷ us) p m fit =
+    let o = used u p m in
+    ap (λ (x : Outcome). x .reply ∷ usesReply quicklyUsed us (x .port) (x .memory)) (quick-use u p m fit)
+    ∙ ap (λ (rs : List Reply). o .reply ∷ rs) (quick-uses us (o .port) (o .memory) (fit-use u p m fit))

@@ -4,3 +4,5 @@ pub mod Happenings
 pub mod History
 pub mod Controls
 pub mod Guaranteed
+pub mod Cases
+pub mod Says

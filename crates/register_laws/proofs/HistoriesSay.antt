@@ -1,0 +1,107 @@
+-- What the theorems say of lists in hand. Assumes nothing.
+use Prim.Native.Nat.{ℕ, _%_, _^_}
+use mathlib.Core.Path.{_≡_, refl, sym, ap, subst, _∙_}
+use mathlib.Core.Bool.{Bool, true, false}
+use mathlib.Core.List.{List, map, [], _∷_, _++_}
+use Rattle.lists.specs.Turns.{allTo, sumTo, listTo, iterate}
+use Rattle.octets.specs.Numbers.{twoOf, fourOf}
+use Rattle.stream.specs.Steps.{attempt, arriveOf, tickOf}
+use Rattle.queue.specs.Place.{frameAt, withFrame}
+use Rattle.queue.specs.Ring.{joinedMemory, frontOf}
+use Rattle.queue.specs.Waiting.{waiting}
+use Rattle.record.specs.Queues.{queuesAt}
+use Rattle.record.specs.Head.{openAt, withOpen, priorAt, withPrior, delayAt, withDelay, linkAt, withLink, waitsAt, withWaits, queueAt, withQueue}
+use Rattle.record.specs.Entry.{streamAt, withStream, withPlace, drainAt, withDrain, drainsAt, boundAt, vidAt, dropped}
+use Rattle.fitness.specs.Fit.{recordFits, lentRefusal}
+use Rattle.steps.specs.Roles.{roleAt}
+use Rattle.opening.specs.Opening.{openedRecord}
+use Rattle.arriving.specs.Arriving.{arriveStep}
+use Rattle.ticking.specs.Ticking.{drainedAt, tickedRecord, tickStep}
+use Rattle.sending.specs.Sending.{transmitStep}
+use Rattle.best_effort.specs.BestEffort.{bestEffortStep}
+use Rattle.gates.specs.Refusals.{openRefusal, reserveRefusal, arriveRefusal, closedRefusal, bestEffortRefusal}
+use Rattle.port.specs.Quick.{lengthRefusal}
+use Rattle.register_block.specs.Fields.{flagAt, withFlag, withoutFlag, wordAt, withWord}
+use Rattle.register_block.specs.Events.{raised, zeroed}
+use Rattle.register_block.specs.Shown.{flagsOf, sharesOne, lineUp, statusOf, registerAt}
+use Rattle.register_block.specs.Written.{clearedBy, writtenAt}
+use Rattle.registers.specs.Lent.{inBlock, shortRefusal}
+use Rattle.registers.specs.Notes.{openNoted, frameNoted, tickNoted, transmitNoted}
+use Rattle.registers.specs.Calls.{registered}
+use Rattle.registers.specs.Accesses.{inTurn, offsetRefusal, readBy, named, writeBy}
+use Rattle.steps.specs.Call.{terms, opening}
+use Rattle.port_laws.specs.Lists.{freshMemory}
+use Rattle.lists.specs.Each.{All}
+use Rattle.stream.specs.declared.Reply.{Reply}
+use Rattle.stream.specs.Replies.{granted, refusedBy}
+use Rattle.steps.specs.Call.{Call, reserving, arriving, ticking, transmitting}
+use Rattle.registers.specs.Calls.{portCall}
+use Rattle.register_block.specs.Layout.{discardFlag, purgeFlag, nothingFlag}
+use Rattle.register_laws.specs.Uses.{lent}
+use Rattle.register_laws.specs.Happenings.{Happening, replied, written, happeningsIn}
+use Rattle.register_laws.specs.History.{Sort, acceptance, discard, purge, sending, nothingSent, isReply, howMany, isThere, clears, Reads}
+use Rattle.register_laws.specs.Controls.{controlWrites, namedIn}
+use Rattle.register_laws.specs.Cases.{freshPort, controlUses}
+use Rattle.register_laws.specs.Says.{Opens, listOf, clearedUses, HistoriesSay}
+use Rattle.register_laws.proofs.Histories.{discard-flags, purge-flags, nothing-flags}
+use Rattle.register_laws.proofs.ReadLaws.{reads-tell}
+use Rattle.register_laws.proofs.ControlLaws.{controls-named}
+
+it-opens : Opens controlUses
+unfolding allTo sumTo listTo iterate twoOf fourOf attempt arriveOf tickOf frameAt withFrame joinedMemory frontOf waiting openAt withOpen priorAt withPrior delayAt withDelay linkAt withLink waitsAt withWaits queueAt queuesAt withQueue streamAt withStream withPlace drainAt withDrain drainsAt boundAt vidAt dropped recordFits lentRefusal roleAt openedRecord arriveStep drainedAt tickedRecord tickStep transmitStep bestEffortStep openRefusal reserveRefusal arriveRefusal closedRefusal bestEffortRefusal registered shortRefusal inBlock openNoted frameNoted tickNoted transmitNoted offsetRefusal readBy named writeBy flagAt withFlag withoutFlag wordAt withWord raised zeroed flagsOf sharesOne lineUp statusOf registerAt clearedBy writtenAt lengthRefusal
+it-opens = refl
+
+-- what happens in the list
+abbrev happened : List Happening
+happened =
+    replied (reserving 5 200) (granted 400 0)
+    ∷ written 12 5
+    ∷ replied (arriving 5 200 1) (granted 1 200)
+    ∷ replied (arriving 5 200 2) (granted 2 200)
+    ∷ replied (arriving 5 200 3) (granted 3 0)
+    ∷ replied (arriving 5 84 4) (refusedBy 14)
+    ∷ replied ticking (granted 0 0)
+    ∷ replied transmitting (granted 5 1)
+    ∷ replied ticking (granted 0 0)
+    ∷ replied ticking (granted 1 200)
+    ∷ replied transmitting (granted 5 3)
+    ∷ replied transmitting (granted 254 0)
+    ∷ []
+
+it-happens : happeningsIn (listOf controlUses it-opens) ≡ happened
+unfolding allTo sumTo listTo iterate twoOf fourOf attempt arriveOf tickOf frameAt withFrame joinedMemory frontOf waiting openAt withOpen priorAt withPrior delayAt withDelay linkAt withLink waitsAt withWaits queueAt queuesAt withQueue streamAt withStream withPlace drainAt withDrain drainsAt boundAt vidAt dropped recordFits lentRefusal roleAt openedRecord arriveStep drainedAt tickedRecord tickStep transmitStep bestEffortStep openRefusal reserveRefusal arriveRefusal closedRefusal bestEffortRefusal registered shortRefusal inBlock openNoted frameNoted tickNoted transmitNoted offsetRefusal readBy named writeBy flagAt withFlag withoutFlag wordAt withWord raised zeroed flagsOf sharesOne lineUp statusOf registerAt clearedBy writtenAt lengthRefusal
+it-happens = refl
+
+it-clears : happeningsIn (listOf clearedUses it-opens) ≡ happened ++ (written 8 1 ∷ [])
+unfolding allTo sumTo listTo iterate twoOf fourOf attempt arriveOf tickOf frameAt withFrame joinedMemory frontOf waiting openAt withOpen priorAt withPrior delayAt withDelay linkAt withLink waitsAt withWaits queueAt queuesAt withQueue streamAt withStream withPlace drainAt withDrain drainsAt boundAt vidAt dropped recordFits lentRefusal roleAt openedRecord arriveStep drainedAt tickedRecord tickStep transmitStep bestEffortStep openRefusal reserveRefusal arriveRefusal closedRefusal bestEffortRefusal registered shortRefusal inBlock openNoted frameNoted tickNoted transmitNoted offsetRefusal readBy named writeBy flagAt withFlag withoutFlag wordAt withWord raised zeroed flagsOf sharesOne lineUp statusOf registerAt clearedBy writtenAt lengthRefusal
+it-clears = refl
+
+-- no flag of this number is cleared in it
+uncleared : (flag : ℕ) → All (λ h. clears flag h ≡ false) happened
+uncleared flag = (refl, (refl, (refl, (refl, (refl, (refl, (refl, (refl, (refl, (refl, (refl, (refl, tt))))))))))))
+
+-- what the numbers 3 and 1 name
+named-three : namedIn (3 ∷ 1 ∷ []) ≡ ticking ∷ transmitting ∷ ticking ∷ []
+unfolding named
+named-three = refl
+
+pub histories-say : HistoriesSay
+histories-say =
+    let l = listOf controlUses it-opens in
+    let cleared = listOf clearedUses it-opens in
+    let tell = reads-tell l in
+    let none : (flag : ℕ) → All (λ h. clears flag h ≡ false) (happeningsIn l) = λ flag. subst (All (λ h. clears flag h ≡ false)) (sym it-happens) (uncleared flag) in
+    record {
+      opens = it-opens;
+      accepted = subst (λ (hs : List Happening). Reads l 16 (howMany (isReply acceptance) hs % 2 ^ 32)) it-happens (tell .accepted);
+      discarded = subst (λ (hs : List Happening). Reads l 20 (howMany (isReply discard) hs % 2 ^ 32)) it-happens (tell .discarded);
+      sent = subst (λ (hs : List Happening). Reads l 24 (howMany (isReply sending) hs % 2 ^ 32)) it-happens (tell .sent);
+      discard-up = discard-flags .since-open l (none discardFlag) ∙ ap (isThere (isReply discard)) it-happens;
+      purge-up = purge-flags .since-open l (none purgeFlag) ∙ ap (isThere (isReply purge)) it-happens;
+      nothing-up = nothing-flags .since-open l (none nothingFlag) ∙ ap (isThere (isReply nothingSent)) it-happens;
+      discard-down = discard-flags .since-clear cleared happened [] (written 8 1) it-clears refl tt;
+      purge-kept =
+          purge-flags .since-open cleared (subst (All (λ h. clears purgeFlag h ≡ false)) (sym it-clears) (refl, (refl, (refl, (refl, (refl, (refl, (refl, (refl, (refl, (refl, (refl, (refl, (refl, tt))))))))))))))
+          ∙ ap (isThere (isReply purge)) it-clears;
+      controls = λ p m. controls-named (3 ∷ 1 ∷ []) p m .slice ∙ ap (λ (cs : List Call). inTurn portCall (lent p m) cs .port) named-three;
+    }
