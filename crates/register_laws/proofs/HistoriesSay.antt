@@ -47,12 +47,12 @@ use Rattle.register_laws.proofs.Histories.{discard-flags, purge-flags, 
 use Rattle.register_laws.proofs.ReadLaws.{reads-tell}
 use Rattle.register_laws.proofs.ControlLaws.{controls-named}
 
-it-opens : Opens controlUses
+pub it-opens : Opens controlUses
 unfolding allTo sumTo listTo iterate twoOf fourOf attempt arriveOf tickOf frameAt withFrame joinedMemory frontOf waiting openAt withOpen priorAt withPrior delayAt withDelay linkAt withLink waitsAt withWaits queueAt queuesAt withQueue streamAt withStream withPlace drainAt withDrain drainsAt boundAt vidAt dropped recordFits lentRefusal roleAt openedRecord arriveStep drainedAt tickedRecord tickStep transmitStep bestEffortStep openRefusal reserveRefusal arriveRefusal closedRefusal bestEffortRefusal registered shortRefusal inBlock openNoted frameNoted tickNoted transmitNoted offsetRefusal readBy named writeBy flagAt withFlag withoutFlag wordAt withWord raised zeroed flagsOf sharesOne lineUp statusOf registerAt clearedBy writtenAt lengthRefusal
 it-opens = refl
 
 -- what happens in the list
-abbrev happened : List Happening
+abbrev pub happened : List Happening
 happened =
     replied (reserving 5 200) (granted 400 0)
     ∷ written 12 5
@@ -68,11 +68,11 @@ happened =
     ∷ replied transmitting (granted 254 0)
     ∷ []
 
-it-happens : happeningsIn (listOf controlUses it-opens) ≡ happened
+pub it-happens : happeningsIn (listOf controlUses it-opens) ≡ happened
 unfolding allTo sumTo listTo iterate twoOf fourOf attempt arriveOf tickOf frameAt withFrame joinedMemory frontOf waiting openAt withOpen priorAt withPrior delayAt withDelay linkAt withLink waitsAt withWaits queueAt queuesAt withQueue streamAt withStream withPlace drainAt withDrain drainsAt boundAt vidAt dropped recordFits lentRefusal roleAt openedRecord arriveStep drainedAt tickedRecord tickStep transmitStep bestEffortStep openRefusal reserveRefusal arriveRefusal closedRefusal bestEffortRefusal registered shortRefusal inBlock openNoted frameNoted tickNoted transmitNoted offsetRefusal readBy named writeBy flagAt withFlag withoutFlag wordAt withWord raised zeroed flagsOf sharesOne lineUp statusOf registerAt clearedBy writtenAt lengthRefusal
 it-happens = refl
 
-it-clears : happeningsIn (listOf clearedUses it-opens) ≡ happened ++ (written 8 1 ∷ [])
+pub it-clears : happeningsIn (listOf clearedUses it-opens) ≡ happened ++ (written 8 1 ∷ [])
 unfolding allTo sumTo listTo iterate twoOf fourOf attempt arriveOf tickOf frameAt withFrame joinedMemory frontOf waiting openAt withOpen priorAt withPrior delayAt withDelay linkAt withLink waitsAt withWaits queueAt queuesAt withQueue streamAt withStream withPlace drainAt withDrain drainsAt boundAt vidAt dropped recordFits lentRefusal roleAt openedRecord arriveStep drainedAt tickedRecord tickStep transmitStep bestEffortStep openRefusal reserveRefusal arriveRefusal closedRefusal bestEffortRefusal registered shortRefusal inBlock openNoted frameNoted tickNoted transmitNoted offsetRefusal readBy named writeBy flagAt withFlag withoutFlag wordAt withWord raised zeroed flagsOf sharesOne lineUp statusOf registerAt clearedBy writtenAt lengthRefusal
 it-clears = refl
 

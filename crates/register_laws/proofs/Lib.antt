@@ -11,3 +11,4 @@ pub mod QuickRegisters
 pub mod ReadLaws
 pub mod CasesHold
 pub mod HistoriesSay
+pub mod ClaimCases

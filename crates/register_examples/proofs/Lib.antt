@@ -1,0 +1,2 @@
+-- What demand 3 says of a list of control writes.
+pub mod ControlledSays
