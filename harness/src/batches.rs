@@ -5,11 +5,13 @@ use crate::call::{Call, Reply, ADDRESS_OCTETS};
 use crate::comparing::fit::Octets;
 use crate::comparing::frames::Header;
 use crate::comparing::random::Random;
+use crate::comparing::registers::{CONTROL, MASK, STATUS};
 use crate::comparing::sides::Play;
 use crate::model::port::{
     BEST_EFFORT, BEST_EFFORT_STREAM, DRAINING_TICKS, LAST, LEAST_CHARGE, LEAST_PERMITTED, LINKS, QUEUES, QUEUE_PLACES, STREAMS,
 };
 use crate::model::refusal::{DISCARD, DRAINING};
+use crate::model::registers::{TICKS, TRANSMITS};
 use crate::{exports, in_place, layout, model};
 
 /// L and K of every port: the greatest share, 21,504 octets, is 256 frames of the least charge.
@@ -21,13 +23,6 @@ const BATCH: usize = 64;
 
 /// The streams of a port with few.
 const FEW: u8 = 4;
-
-/// The offsets of control, status and the interrupt mask, and the bits of control.
-const CONTROL: u32 = 0;
-const STATUS: u32 = 4;
-const MASK: u32 = 12;
-const TICKS: u32 = 1;
-const TRANSMITS: u32 = 2;
 
 /// The VID to which every stream is bound.
 const VID: u16 = 1;

@@ -119,6 +119,8 @@ pub enum Seen {
     /// A count that a call made one more, and one of these that went from 4,294,967,295 to 0.
     Counted(Count),
     CountWrapped(Count),
+    /// A write of a slice that was lent to be read, made to see that it is noticed.
+    WriteNoticed,
     /// Counts, flags and interrupt line of a port that were held against what a test tracked itself.
     Tracked,
     /// What a list that is held against demand 3 showed.
@@ -198,6 +200,7 @@ impl fmt::Display for Seen {
             Seen::OtherMarkCleared => write!(f, "other marks of flags cleared"),
             Seen::Counted(count) => write!(f, "{count} counted"),
             Seen::CountWrapped(count) => write!(f, "count of {count} wrapped"),
+            Seen::WriteNoticed => write!(f, "writes noticed"),
             Seen::Tracked => write!(f, "registers as tracked"),
             Seen::Shown(shown) => write!(f, "{shown}"),
             Seen::Closed => write!(f, "closed by host"),

@@ -17,6 +17,8 @@ extern "C" {
 
 /// Pages that no one may touch.
 const UNREADABLE: i32 = 0;
+/// Pages that may be read alone.
+const READABLE: i32 = 1;
 /// Pages that may be read and written.
 const WRITABLE: i32 = 1 | 2;
 /// A mapping of this process's own that no file stands behind.
@@ -109,6 +111,13 @@ impl Fenced {
     /// Lets traps at its fences be noted, as those of the mapping of a number.
     fn note(&self, number: usize) {
         MAPPINGS.with(|mappings| mappings[number].store(self.mapping as usize, SeqCst));
+    }
+
+    /// Lets the slice be read alone from now on, so that a write of any octet is noted as a touch of a fence is.
+    pub fn read_only(&self) {
+        // The middle part is this value's own.
+        let closed = unsafe { mprotect(self.mapping.add(FENCE).cast(), FENCE, READABLE) };
+        assert!(closed == 0, "the system lets the middle part be read alone");
     }
 
     /// Reads the octet right outside the slice at the edge: what no call may do, to see that the fence notes it.

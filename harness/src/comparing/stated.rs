@@ -1,5 +1,5 @@
-//! A list of Binds, Frames, Withdraws, accesses to registers and other calls whose replies are written down, from documents 01 and 02 or for records that are not fit from
-//! the quick calls' definition, played on two sides.
+//! A list of Binds, Frames, Withdraws, accesses to registers and other calls whose replies are written down, from documents 01 and 02 or for records
+//! that are not fit from the quick calls' definition, played on two sides.
 
 use crate::call::{Call, Reply, ADDRESS_OCTETS};
 use crate::comparing::compared::Compared;

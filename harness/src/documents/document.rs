@@ -20,7 +20,7 @@ pub struct Document {
 }
 
 /// The rule of a port, which names every definition.
-pub const RULE: Document = Document { file: "RULE.md", index: Some("12.1"), left_out: "12.2", of_crate: None, records: &[] };
+pub const RULE: Document = Document { file: "RULE.md", index: Some("13.1"), left_out: "13.2", of_crate: None, records: &[] };
 
 /// What a port guarantees, which names every definition of demand 3 and each of its claims.
 pub const GUARANTEE: Document = Document {

@@ -129,16 +129,16 @@ fn a_wrong_module_is_found() {
 #[test]
 fn a_module_stands_alone_only_where_definitions_are_left_out() {
     finds(unknown, &sentence("`stream/Steps`, `arriveOf`"), &["1: `stream/Steps` stands alone; name the definition after it"]);
-    finds(unknown, "### 12.2 A\n\n(`stream/Alone`)", &[]);
+    finds(unknown, "### 13.2 A\n\n(`stream/Alone`)", &[]);
 }
 
 /// A text that names definitions in two sections, and the head of its index.
 const TEXT: &str = "### 1.1 A\n\n(`stream/Steps` · `tickOf`)\n\n### 1.2 B\n\n(`stream/Steps` · `tickOf`, `arriveOf`)\n\n\
-                    ### 12.1 Index\n\n| a | b |\n|---|---|\n";
+                    ### 13.1 Index\n\n| a | b |\n|---|---|\n";
 
 /// The text with these rows in its index.
 fn with_index(rows: &str) -> String {
-    format!("{TEXT}{rows}\n\n### 12.2 C\n\n(`stream/State` · `StreamFit`)\n")
+    format!("{TEXT}{rows}\n\n### 13.2 C\n\n(`stream/State` · `StreamFit`)\n")
 }
 
 #[test]
@@ -162,7 +162,7 @@ fn an_index_that_is_not_of_its_text_is_found() {
 fn a_definition_that_is_left_out_is_found() {
     let without = RULE.text().replace("`tickedAt`", "").replace("| `stream/Alone` |", "| |");
     let missing = unnamed(&RULE, &pieces(&without)).join("\n");
-    assert!(missing.contains("`ticking/Ticking` · `tickedAt` is nowhere named; give it a sentence, or a line in 12.2"), "{missing}");
+    assert!(missing.contains("`ticking/Ticking` · `tickedAt` is nowhere named; give it a sentence, or a line in 13.2"), "{missing}");
     assert!(missing.contains("`stream/Alone` · `octetsInto` is nowhere named"), "{missing}");
     assert!(!missing.contains("tickStep"), "{missing}");
 }

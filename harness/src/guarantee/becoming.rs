@@ -1,7 +1,8 @@
 //! What each call of a list counts as, from the events alone: a Frame "that is not refused with 17 and becomes an Arrive in its list counts there as
 //! that Arrive", and a control write as the tick or the transmit that it makes, since "any list of control writes does to the port what the named
-//! calls do". A control write with both bits is in no list: its one reply does not say what the tick replied. A list that would hold one holds in
-//! its place two writes, one with each bit, played one after the other; that these are that write is held in `comparing::tests::registers`. The numbers of documents 01 and 02 stand here and in `ranges` as numbers, not as the model's.
+//! calls do". A control write with both bits is in no list: its one reply does not say what the tick replied. A list that would hold one holds in its
+//! place two writes, one with each bit, played one after the other; that these are that write is held in `comparing::tests::register_lists`. The
+//! numbers of documents 01 and 02 stand here and in `ranges` as numbers, not as the model's.
 
 use crate::call::Call;
 use crate::guarantee::list::Event;
@@ -49,7 +50,7 @@ pub fn makes_both(call: &Call) -> bool {
 }
 
 /// What a list holds in the place of a call: of a control write with both bits a write with each, else the call.
-pub fn apart(call: Call) -> Vec<Call> {
+pub fn one_by_one(call: Call) -> Vec<Call> {
     match call {
         Call::WriteRegister { offset, value } if makes_both(&call) => {
             [value & !TRANSMITS, value & !TICKS].map(|value| Call::WriteRegister { offset, value }).to_vec()

@@ -2,7 +2,7 @@
 //! both bits is in no list, and all other accesses count as nothing but themselves.
 
 use crate::call::{Call, Reply};
-use crate::guarantee::becoming::{apart, by_control, counted, made};
+use crate::guarantee::becoming::{by_control, counted, made, one_by_one};
 use crate::guarantee::found::{Alike, Found};
 use crate::guarantee::tests::{Hand, STREAM};
 use crate::guarantee::{pairs, taken};
@@ -50,9 +50,9 @@ fn a_control_write_of_both_bits_is_in_no_list() {
     let mut hand = Hand::served();
     let number = hand.put(write(0, 3), Reply::granted(254, 0));
     assert_eq!(hand.check(), Err(number));
-    assert_eq!(apart(write(0, 0x8000_0003)), [write(0, 0x8000_0001), write(0, 0x8000_0002)]);
+    assert_eq!(one_by_one(write(0, 0x8000_0003)), [write(0, 0x8000_0001), write(0, 0x8000_0002)]);
     for call in [write(0, 0), write(0, 1), write(0, 2), write(0, 4), write(12, 3), Call::Tick, Call::ReadRegister { offset: 0 }] {
-        assert_eq!(apart(call.clone()), [call]);
+        assert_eq!(one_by_one(call.clone()), [call]);
     }
 }
 

@@ -11,7 +11,7 @@ use crate::comparing::frames::{any_header, any_untagged, arrival, arrival_of};
 use crate::comparing::random::Random;
 use crate::comparing::registers::any_read;
 use crate::comparing::sides::Play;
-use crate::guarantee::becoming::{apart, by_control, made};
+use crate::guarantee::becoming::{by_control, made, one_by_one};
 use crate::guarantee::list::{Event, Playing};
 use crate::layout::{self, two};
 use crate::model::port::{
@@ -110,7 +110,7 @@ pub fn write_any(random: &mut Random, play: Play, begin: &Octets, profile: &Prof
     let mut writer = Writer::open(random, play, begin, link);
     for _ in 0..calls {
         match profile.step(writer.random, &writer.playing.octets().record) {
-            Step::Call(call) => apart(call).into_iter().for_each(|call| writer.any(call, served)),
+            Step::Call(call) => one_by_one(call).into_iter().for_each(|call| writer.any(call, served)),
             Step::HostWrites { .. } => unreachable!("nobody else writes the record of a list"),
         }
     }

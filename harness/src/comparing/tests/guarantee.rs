@@ -240,10 +240,9 @@ fn of_many_streams_in_long_lists(run: &mut Run) -> Result<(), String> {
 /// The model keeps the demand too; faults that cannot be seeded in the exports are seeded there.
 fn of_the_model(run: &mut Run) -> Result<(), String> {
     hold(run, &[Side::Model], 60, any_list)?;
-    for manner in [&OVERFILLED, &JUST_THE_SHARE, &ONE_FRAME_SHORT, &WITHDRAWN, &IDLE] {
-        hold(run, &[Side::Model], 80, in_manner(manner))?;
+    for (manner, lists) in [(&OVERFILLED, 80), (&JUST_THE_SHARE, 200), (&ONE_FRAME_SHORT, 80), (&WITHDRAWN, 80), (&IDLE, 80), (&FULL, 30)] {
+        hold(run, &[Side::Model], lists, in_manner(manner))?;
     }
-    hold(run, &[Side::Model], 10, in_manner(&FULL))?;
     demand(run, &[(Link(ByOctets), 10), (Link(ByIdle), 20), (Link(Failed), 20), (Purging, 10)])?;
     demand(run, &[(SentAsCurrent, 4_000), (SentAsNext, 800), (SentAsLast, 2_000), (Beginning, 800), (Twin, 1_000)])?;
     demand(run, &[(SentInTime, 5_000), (Conforming, 3_000), (Pair, 100), (ArrivalCompared, 5_000)])?;

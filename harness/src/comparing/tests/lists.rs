@@ -11,7 +11,7 @@ use crate::comparing::profiles::{
 use crate::comparing::random::Random;
 use crate::comparing::sides::Side;
 use crate::comparing::test::{Kind, Run, Test};
-use crate::comparing::tests::registers::demand_registers;
+use crate::comparing::tests::register_lists::demand_registers;
 use crate::model::port::{CURRENT, LARGEST_CHARGE, LAST, LEAST_CHARGE, LEAST_PERMITTED, LINKS, NEXT};
 use crate::model::refusal::*;
 

@@ -10,7 +10,8 @@ use crate::comparing::sides::Side;
 use crate::comparing::test::{Kind, Run, Test};
 use crate::comparing::tests::each_call::{try_each_call, try_lengths, try_shape};
 use crate::comparing::tests::lists::{an_open_port, any_port, play, Plan};
-use crate::comparing::tests::registers::{demand_registers, OF_ACCESSES};
+use crate::comparing::tests::register_lists::demand_registers;
+use crate::comparing::tests::registers::OF_ACCESSES;
 use crate::comparing::tests::withdrawals::OF_DRAINING;
 use crate::model::refusal::*;
 

@@ -11,7 +11,8 @@ use crate::comparing::shapes::{any_fit, any_open, bindings_of_every_sort, near_f
 use crate::comparing::sides::Side;
 use crate::comparing::test::{Kind, Run, Test};
 use crate::comparing::tests::each_call::{try_lengths, try_shape};
-use crate::comparing::tests::registers::{demand_registers, OF_ACCESSES};
+use crate::comparing::tests::register_lists::demand_registers;
+use crate::comparing::tests::registers::OF_ACCESSES;
 use crate::comparing::tests::withdrawals::OF_DRAINING;
 use crate::model::fitness::unfit;
 use crate::model::refusal::*;

@@ -1,25 +1,22 @@
-//! The kind `registers`: reads and writes of registers, with the replies and octets that document 02 gives, on ports of any content and length, and in
-//! lists beside all other calls; control writes held against the named calls, and the registers against what a test tracks itself by the replies.
+//! The kind `registers`, reads and writes with the replies and octets that document 02 gives, on ports of any content and length; lists with them are
+//! in `register_lists`.
 
 use crate::call::{Call, Reply};
-use crate::comparing::calls::{Profile, Weights};
-use crate::comparing::compared::{Compared, Step};
-use crate::comparing::coverage::{prior_waits, Seen};
+use crate::comparing::compared::Compared;
+use crate::comparing::coverage::Seen;
 use crate::comparing::fit::Octets;
-use crate::comparing::profiles::{any_profile, REGISTERS};
-use crate::comparing::random::Random;
-use crate::comparing::registers::{is_outside, ticks, Held, CONTROL, EVERY_COUNT, EVERY_FLAG, FLAGS, MASK, STATUS, WRONG_OFFSETS};
-use crate::comparing::shapes::{any_open, extreme, with_lengths};
+use crate::comparing::registers::{is_outside, CONTROL, EVERY_COUNT, EVERY_FLAG, FLAGS, MASK, STATUS, WRONG_OFFSETS};
+use crate::comparing::shapes::with_lengths;
 use crate::comparing::sides::Side;
 use crate::comparing::stated::{Stated, BOTH_SORTS};
 use crate::comparing::test::{Kind, Run, Test};
 use crate::comparing::tests::bindings::demand_met;
-use crate::comparing::tests::lists::{a_closed_port, an_open_port, any_port, never_met_from_opening, play, Plan};
+use crate::comparing::tests::lists::any_port;
 use crate::layout;
 use crate::model::refusal::*;
 
-/// The tests of this kind.
-pub const TESTS: [Test; 15] = [
+/// The tests of this file.
+pub const TESTS: [Test; 9] = [
     test("registers_of_a_list", registers_of_a_list),
     test("registers_of_frames_and_refusals", registers_of_frames_and_refusals),
     test("register_checks_in_order", register_checks_in_order),
@@ -28,17 +25,11 @@ pub const TESTS: [Test; 15] = [
     test("register_writes_change_what_is_named", register_writes_change_what_is_named),
     test("counts_wrap_and_marks_of_any_content", counts_wrap_and_marks_of_any_content),
     test("opening_zeroes_the_block", opening_zeroes_the_block),
-    test("control_writes_as_named_calls", control_writes_as_named_calls),
-    test("registers_as_tracked_by_replies", registers_as_tracked_by_replies),
-    test("registers_in_lists", registers_in_lists),
-    test("registers_in_lists_from_any_port", registers_in_lists_from_any_port),
-    test("registers_on_ports_opened_again", registers_on_ports_opened_again),
-    test("registers_on_unfit_records", registers_on_unfit_records),
     test("quick_registers_by_the_reply", quick_registers_by_the_reply),
 ];
 
 /// A test of this kind.
-const fn test(name: &'static str, body: fn(&mut Run) -> Result<(), String>) -> Test {
+pub const fn test(name: &'static str, body: fn(&mut Run) -> Result<(), String>) -> Test {
     Test { kind: Kind::Registers, name, body }
 }
 
@@ -51,15 +42,15 @@ const PORT: usize = 1_616;
 const RECORD: usize = 1_088;
 
 /// A reply with two zeros.
-const ZEROS: Reply = Reply::granted(0, 0);
+pub const ZEROS: Reply = Reply::granted(0, 0);
 
 /// A read of a register.
-const fn read(offset: u32) -> Call {
+pub const fn read(offset: u32) -> Call {
     Call::ReadRegister { offset }
 }
 
 /// A write of a register.
-const fn write(offset: u32, value: u32) -> Call {
+pub const fn write(offset: u32, value: u32) -> Call {
     Call::WriteRegister { offset, value }
 }
 
@@ -69,7 +60,7 @@ const fn arrive(charge: u32, tag: u32) -> Call {
 }
 
 /// The register that a read replies, beside 0.
-const fn value(value: u32) -> Reply {
+pub const fn value(value: u32) -> Reply {
     Reply::granted(value, 0)
 }
 
@@ -171,7 +162,7 @@ fn registers_of_a_list(run: &mut Run) -> Result<(), String> {
 }
 
 /// Demands each flag set and cleared so often, and each count made more so often.
-fn each_flag_and_count(run: &Run, flags: u64, counts: u64) -> Result<(), String> {
+pub fn each_flag_and_count(run: &Run, flags: u64, counts: u64) -> Result<(), String> {
     run.demand(&EVERY_FLAG.map(|(flag, _)| (Seen::FlagSet(flag), flags)))?;
     run.demand(&EVERY_FLAG.map(|(flag, _)| (Seen::FlagCleared(flag), flags)))?;
     run.demand(&EVERY_COUNT.map(|(count, _)| (Seen::Counted(count), counts)))
@@ -302,6 +293,17 @@ impl Wrong {
         refusals.into_iter().find(|(holds, _)| *holds).map_or(0, |(_, refusal)| refusal)
     }
 }
+
+/// Each refusal that a read and a write of a register can meet; 1 is a write's alone.
+pub const OF_ACCESSES: [Seen; 7] = [
+    Seen::ReadRefused(REGISTER_OFFSET),
+    Seen::ReadRefused(MEMORY_SHORT),
+    Seen::ReadRefused(RECORD_UNFIT),
+    Seen::WriteRefused(REGISTER_OFFSET),
+    Seen::WriteRefused(MEMORY_SHORT),
+    Seen::WriteRefused(RECORD_UNFIT),
+    Seen::WriteRefused(PORT_CLOSED),
+];
 
 /// Every access of the table, where any of the refusals before it hold at once.
 fn register_checks_in_order(run: &mut Run) -> Result<(), String> {
@@ -446,224 +448,8 @@ fn opening_zeroes_the_block(run: &mut Run) -> Result<(), String> {
     run.demand(&[(Seen::Opened, 200)])
 }
 
-/// A step of a list that is played twice: by named calls alone, and with control writes in their place.
-struct Twice {
-    named: Vec<Call>,
-    written: Call,
-}
-
-/// A step of such a list: a tick, a transmit, both or neither by control, with any bits above, or a call that is the same in both.
-fn twice(random: &mut Random, port: &[u8], profile: &Profile) -> Twice {
-    let above = random.number() & !3;
-    let above = random.pick(&[0, 0, above]);
-    let by_control = |named: &[Call], bits: u32| Twice { named: named.to_vec(), written: write(CONTROL, above | bits) };
-    match random.weighted(&[3, 5, 5, 1, 12]) {
-        0 => by_control(&[Call::Tick], 1),
-        1 => by_control(&[Call::Transmit], 2),
-        2 => by_control(&[Call::Tick, Call::Transmit], 3),
-        3 => by_control(&[], 0),
-        _ => match profile.step(random, port) {
-            Step::Call(call) => Twice { named: vec![call.clone()], written: call },
-            Step::HostWrites { .. } => by_control(&[], 0),
-        },
-    }
-}
-
-/// "Any list of control writes does to the port what the named calls do": the same list by named calls and by control writes, on two copies of a
-/// port; the replies, of which a control write has that of its last call, and every octet are the same.
-fn control_writes_as_named_calls(run: &mut Run) -> Result<(), String> {
-    for side in [Side::Exports, Side::Quick, Side::Model, Side::InPlace] {
-        for number in 0..run.scaled(100) {
-            let mut random = run.next_list();
-            let unfit = [Side::Quick, Side::InPlace].contains(&side) && number % 3 == 0;
-            let begin = if unfit { random.pick(&[extreme, any_open])(&mut random) } else { any_port(&mut random) };
-            let profile = any_profile(&mut random);
-            by_both(run, &mut random, side, &begin, &profile)?;
-        }
-    }
-    run.demand(&[(Seen::ControlTicked, 4_000), (Seen::ControlTransmitted, 4_000), (Seen::ControlDidBoth, 4_000)])?;
-    run.demand(&[(Seen::ControlDidNeither, 1_000), (Seen::WriteRefused(PORT_CLOSED), 150)])
-}
-
-/// Plays one such list on a side.
-fn by_both(run: &mut Run, random: &mut Random, side: Side, begin: &Octets, profile: &Profile) -> Result<(), String> {
-    let play = run.sides.play(side);
-    let (mut by_name, mut by_control) = (begin.clone(), begin.clone());
-    for _ in 0..200 {
-        let Twice { named, written } = twice(random, &by_name.record, profile);
-        let replies = named.iter().map(|call| play(&call.given(), &mut by_name.record, &mut by_name.memory));
-        let last = replies.last().unwrap_or(ZEROS);
-        let reply = play(&written.given(), &mut by_control.record, &mut by_control.memory);
-        run.calls += 1 + named.len() as u64;
-        run.coverage.count_access(&written, &reply);
-        if reply != last || by_name != by_control {
-            let names: Vec<String> = named.iter().map(Call::to_string).collect();
-            return Err(format!("{}, {side}: {written} replies {reply}; {} replies {last}, or octets differ", run.place, names.join(", ")));
-        }
-    }
-    Ok(())
-}
-
-/// Flags, mask and counts as a test tracks them by calls and replies alone, but for a purge in a control write with both bits, which the record
-/// before it shows.
-struct Tracked {
-    flags: [bool; 3],
-    mask: u32,
-    counts: [u32; 3],
-    open: bool,
-}
-
-impl Tracked {
-    /// What a port holds.
-    fn of(port: &[u8]) -> Tracked {
-        let held = Held::of(port).expect("the port is long enough");
-        Tracked { flags: held.marks.map(|mark| mark == 1), mask: held.mask, counts: held.counts, open: port[layout::OPEN] == 1 }
-    }
-
-    /// Follows a call by its reply; the record before it says whether frames waited in prior.
-    fn follow(&mut self, call: &Call, reply: &Reply, prior_waited: bool) {
-        match (call, reply.refusal) {
-            (Call::Open { .. }, 0) => *self = Tracked { flags: [false; 3], mask: 0, counts: [0; 3], open: true },
-            (Call::Arrive { .. } | Call::BestEffort { .. } | Call::Frame { .. }, 0) => self.count(0),
-            (_, 14) => {
-                self.flags[0] = true;
-                self.count(1);
-            }
-            (Call::Transmit, 0) => self.transmitted(reply),
-            (Call::WriteRegister { offset: FLAGS, value }, 0) => {
-                self.flags.iter_mut().enumerate().for_each(|(bit, flag)| *flag = *flag && value >> bit & 1 == 0);
-            }
-            (Call::WriteRegister { offset: MASK, value }, 0) => self.mask = *value,
-            (Call::WriteRegister { offset: CONTROL, value }, 0) if value & 2 != 0 => self.transmitted(reply),
-            _ => (),
-        }
-        self.flags[1] |= reply.refusal == 0 && prior_waited && ticks(call);
-    }
-
-    /// A count with one more.
-    fn count(&mut self, number: usize) {
-        self.counts[number] = (u64::from(self.counts[number]) + 1).rem_euclid(1 << 32) as u32;
-    }
-
-    /// A granted Transmit.
-    fn transmitted(&mut self, reply: &Reply) {
-        match reply.first {
-            254 => self.flags[2] = true,
-            _ => self.count(2),
-        }
-    }
-
-    /// What a read of each register must reply.
-    fn registers(&self) -> [(u32, u32); 8] {
-        let flags = self.flags.iter().rev().fold(0, |bits, &flag| bits << 1 | u32::from(flag));
-        let line = if flags & self.mask == 0 { 0 } else { 2 };
-        let [accepted, discarded, sent] = self.counts;
-        let status = u32::from(self.open) + line;
-        [(0, 0), (4, status), (8, flags), (12, self.mask), (16, accepted), (20, discarded), (24, sent), (28, 0)]
-    }
-}
-
-/// In lists from an opening, and from any port, the counts are those that the test keeps itself from the replies, each flag is what it tracked, and
-/// the line is up by flags and mask.
-fn registers_as_tracked_by_replies(run: &mut Run) -> Result<(), String> {
-    for begin in [a_closed_port, an_open_port] {
-        for sides in BOTH_SORTS {
-            for _ in 0..run.scaled(100) {
-                let mut random = run.next_list();
-                let profile = if random.chance(70) { REGISTERS } else { any_profile(&mut random) };
-                let octets = begin(&mut random);
-                tracked_list(run, &mut random, sides, &octets, &profile)?;
-            }
-        }
-    }
-    run.demand(&[(Seen::Tracked, 20_000), (Seen::LineUp, 5_000), (Seen::LineDown, 5_000), (Seen::ControlDidBoth, 1_000)])?;
-    run.demand(&EVERY_COUNT.map(|(count, _)| (Seen::CountWrapped(count), 20)))?;
-    each_flag_and_count(run, 300, 1_000)
-}
-
-/// Plays one such list, which begins with an Open where the port is closed, and reads all registers now and then.
-fn tracked_list(run: &mut Run, random: &mut Random, sides: [Side; 2], begin: &Octets, profile: &Profile) -> Result<(), String> {
-    let mut compared = Compared::guarded(sides, run, &begin.record, &begin.memory);
-    let mut tracked = Tracked::of(&begin.record);
-    for number in 0..400 {
-        let step = match number {
-            0 if !begin.is_open() => Step::Call(profile.open(random, false)),
-            _ => profile.step(random, compared.record()),
-        };
-        let Step::Call(call) = step else { continue };
-        let prior_waited = prior_waits(compared.record());
-        let reply = compared.call(run, &call)?;
-        tracked.follow(&call, &reply, prior_waited);
-        if random.chance(20) {
-            run.coverage.count(Seen::Tracked);
-            for (offset, register) in tracked.registers() {
-                compared.expect(run, &read(offset), |reply| *reply == value(register), &format!("{} as tracked", value(register)))?;
-            }
-        }
-    }
-    Ok(())
-}
-
-/// Each refusal that a read and a write of a register can meet; 1 is a write's alone.
-pub const OF_ACCESSES: [Seen; 7] = [
-    Seen::ReadRefused(REGISTER_OFFSET),
-    Seen::ReadRefused(MEMORY_SHORT),
-    Seen::ReadRefused(RECORD_UNFIT),
-    Seen::WriteRefused(REGISTER_OFFSET),
-    Seen::WriteRefused(MEMORY_SHORT),
-    Seen::WriteRefused(RECORD_UNFIT),
-    Seen::WriteRefused(PORT_CLOSED),
-];
-
-/// What lists of the profile must have met of every register and flag.
-pub fn demand_registers(run: &Run, times: u64) -> Result<(), String> {
-    run.demand(&[(Seen::LineUp, times), (Seen::LineDown, times), (Seen::RegisterRead, 4 * times), (Seen::ControlDidNeither, times / 4)])?;
-    run.demand(&[(Seen::ControlTicked, times), (Seen::ControlTransmitted, times), (Seen::ControlDidBoth, times)])?;
-    run.demand(&[(Seen::FlagsWritten, times), (Seen::MaskWritten, times), (Seen::OtherRegisterWritten, times)])?;
-    run.demand(&[(Seen::ReadRefused(REGISTER_OFFSET), times / 4), (Seen::WriteRefused(REGISTER_OFFSET), times / 4)])?;
-    each_flag_and_count(run, times / 4, times)
-}
-
-/// Lists from an opening, the calls beside the model and the quick calls beside the calls.
-fn registers_in_lists(run: &mut Run) -> Result<(), String> {
-    for sides in [[Side::Exports, Side::Model], [Side::Quick, Side::Exports]] {
-        play(run, sides, &Plan { lists: 100, calls: 600, begin: a_closed_port }, |_| REGISTERS)?;
-    }
-    never_met_from_opening(run)?;
-    demand_registers(run, 1_000)
-}
-
-/// Lists from an open port of any content, whose counts are at their ends or anywhere and whose flags have any mark.
-fn registers_in_lists_from_any_port(run: &mut Run) -> Result<(), String> {
-    for sides in BOTH_SORTS {
-        let profile = |random: &mut Random| Profile { streams: random.pick(&[6, 64]), ..REGISTERS };
-        play(run, sides, &Plan { lists: 300, calls: 150, begin: an_open_port }, profile)?;
-    }
-    run.demand(&EVERY_COUNT.map(|(count, _)| (Seen::CountWrapped(count), 100)))?;
-    run.demand(&[(Seen::OtherMarkCleared, 200)])?;
-    demand_registers(run, 500)
-}
-
-/// Lists in which the host closes ports, whose registers are read and written all the same, and opens them again.
-fn registers_on_ports_opened_again(run: &mut Run) -> Result<(), String> {
-    let profile = Profile { weights: Weights { open: 2, close: 10, ..REGISTERS.weights }, ..REGISTERS };
-    for sides in BOTH_SORTS {
-        play(run, sides, &Plan { lists: 150, calls: 300, begin: an_open_port }, |_| profile.clone())?;
-    }
-    run.demand(&[(Seen::Opened, 1_500), (Seen::Closed, 1_500), (Seen::WriteRefused(PORT_CLOSED), 80)])?;
-    demand_registers(run, 200)
-}
-
-/// Lists of quick calls from records far outside what is fit, among whose frames some have the stream that says nothing to send.
-fn registers_on_unfit_records(run: &mut Run) -> Result<(), String> {
-    for begin in [extreme, any_open] {
-        play(run, [Side::Quick, Side::InPlace], &Plan { lists: 300, calls: 150, begin }, |_| REGISTERS)?;
-    }
-    demand_registers(run, 400)
-}
-
-/// The quick calls' registers follow the replies on records that are not fit: a purge of frames without octets is a purge, and a frame whose stream is
-/// the 254 of nothing to send is, by the reply, nothing to send, whatever its tag.
+/// The quick calls' registers follow the replies on records that are not fit: a purge of frames without octets is a purge, and a frame whose stream
+/// is the 254 of nothing to send is, by the reply, nothing to send, whatever its tag.
 fn quick_registers_by_the_reply(run: &mut Run) -> Result<(), String> {
     let mut list = Stated::opened(run, [Side::Quick, Side::InPlace], 2_620, 1, &[(5, 200)])?;
     let begin = list.octets();
