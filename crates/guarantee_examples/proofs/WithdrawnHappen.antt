@@ -30,20 +30,7 @@ use Rattle.guarantee_examples.specs.Examples.{callsOf}
 use Rattle.guarantee_examples.specs.LeftOpen.{laterCalls}
 use Rattle.guarantee_examples.specs.Withdrawn.{handed, withdrawn, leaving, leftAlone, triedCalls, tried, hurriedly, hurry}
 use Rattle.guarantee_examples.specs.WithdrawnShown.{WithdrawnHappen}
-use Rattle.guarantee_examples.proofs.Quickly.{happens-quickly}
-
--- the three Opens
-opened-84 : quicklyCalled (opening (terms (linkOf 84) 1)) freshRecord freshMemory .reply .refusal ≡ 0
-unfolding openAt queuesAt openRefusal lengthRefusal
-opened-84 = refl
-
-opened-600 : quicklyCalled (opening (terms (linkOf 600) 1)) freshRecord freshMemory .reply .refusal ≡ 0
-unfolding openAt queuesAt openRefusal lengthRefusal
-opened-600 = refl
-
-opened-200 : quicklyCalled (opening (terms (linkOf 200) 3)) freshRecord freshMemory .reply .refusal ≡ 0
-unfolding openAt queuesAt openRefusal lengthRefusal
-opened-200 = refl
+use Rattle.guarantee_examples.proofs.Quickly.{happens-quickly, opened-84, opened-600, opened-200}
 
 -- the lists
 handed-6-made : events quicklyCalled (callsOf (handed 6)) freshRecord freshMemory ≡ handed 6

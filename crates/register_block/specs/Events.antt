@@ -14,9 +14,9 @@ raised b octet = withWord b octet ((wordAt b octet + 1) % 2 ^ 32)
 abbrev pub accepted : List ℕ → List ℕ
 accepted b = raised b acceptedOctet
 
--- a frame was discarded: a flag and a count
+-- a frame was discarded: a count and a flag
 abbrev pub discarded : List ℕ → List ℕ
-discarded b = raised (withFlag b discardFlag) discardedOctet
+discarded b = withFlag (raised b discardedOctet) discardFlag
 
 -- a tick has purged at least one frame
 abbrev pub purged : List ℕ → List ℕ

@@ -129,13 +129,14 @@ pub fn accept(block: &mut [u8])
     raise(block, ACCEPTED);
 }
 
-// A frame was discarded.
+// A frame was discarded. The count is raised first: the compiler then keeps it apart from that of an accepted frame, and each is one read and one
+// write of four octets.
 pub fn discard(block: &mut [u8])
     requires { ⌜ WholeBlock (now block) ⌝ }
     ensures { λ _. ⌜ now (block .exit) ≡ discarded (now (block .entry)) ⌝ }
 {
-    put_flag(block, DISCARD_FLAG);
     raise(block, DISCARDED);
+    put_flag(block, DISCARD_FLAG);
 }
 
 // A tick has purged at least one frame.

@@ -10,8 +10,9 @@ use borrow.Author.Tests.{eq-eqb, ne-eqb}
 use Rattle.lists.specs.Each.{All}
 use Rattle.stream.specs.declared.Reply.{Reply}
 use Rattle.register_block.specs.Layout.{WholeBlock, blockLength, flagsOffset, maskOctet, registerLength, flagCount, discardFlag, purgeFlag, nothingFlag, sentOctet, acceptedOctet, discardedOctet}
-use Rattle.register_block.specs.Fields.{wordAt, flagAt, bitOf, withFlag}
-use Rattle.register_block.proofs.BlockLaws.{length-flag, word-raised, word-raised-apart, word-flag, word-zeroed, flag-zeroed, flag-flag, flag-other, flag-raised}
+use Rattle.register_block.specs.Fields.{wordAt, flagAt, bitOf}
+use Rattle.register_block.specs.Events.{raised}
+use Rattle.register_block.proofs.BlockLaws.{length-raised, word-raised, word-raised-apart, word-flag, word-zeroed, flag-zeroed, flag-flag, flag-other, flag-raised}
 use Rattle.register_block.proofs.WrittenLaws.{word-written, flag-written}
 use Rattle.steps.specs.Call.{Call}
 use Rattle.register_laws.specs.Happenings.{Happening, replied, written, note, notedAll}
@@ -34,7 +35,7 @@ pub accepted-counter : Counter acceptedOctet acceptance
 accepted-counter (replied c r) b whole =
     acceptance-told (λ l. wordAt l acceptedOctet) b 0 ((wordAt b acceptedOctet + 1) % 2 ^ 32) (word-zeroed b acceptedOctet whole (omega arith))
     (word-raised b acceptedOctet (omega (arith, whole)))
-    (word-raised-apart (withFlag b discardFlag) acceptedOctet discardedOctet (λ k w x y z. omega arith) ∙ word-flag b acceptedOctet discardFlag (omega arith))
+    (word-flag (raised b discardedOctet) acceptedOctet discardFlag (omega arith) ∙ word-raised-apart b acceptedOctet discardedOctet (λ k w x y z. omega arith))
     (word-flag b acceptedOctet purgeFlag (omega arith))
     (word-raised-apart b acceptedOctet sentOctet (λ k w x y z. omega arith))
     (word-flag b acceptedOctet nothingFlag (omega arith)) c r
@@ -44,8 +45,7 @@ pub discarded-counter : Counter discardedOctet discard
 discarded-counter (replied c r) b whole =
     discard-told (λ l. wordAt l discardedOctet) b 0 ((wordAt b discardedOctet + 1) % 2 ^ 32) (word-zeroed b discardedOctet whole (omega arith))
     (word-raised-apart b discardedOctet acceptedOctet (λ k w x y z. omega arith))
-    (word-raised (withFlag b discardFlag) discardedOctet (omega (arith, whole, length-flag b discardFlag))
-    ∙ ap (λ (n : ℕ). (n + 1) % 2 ^ 32) (word-flag b discardedOctet discardFlag (omega arith)))
+    (word-flag (raised b discardedOctet) discardedOctet discardFlag (omega arith) ∙ word-raised b discardedOctet (omega (arith, whole)))
     (word-flag b discardedOctet purgeFlag (omega arith))
     (word-raised-apart b discardedOctet sentOctet (λ k w x y z. omega arith))
     (word-flag b discardedOctet nothingFlag (omega arith)) c r
@@ -55,7 +55,7 @@ pub sent-counter : Counter sentOctet sending
 sent-counter (replied c r) b whole =
     sending-told (λ l. wordAt l sentOctet) b 0 ((wordAt b sentOctet + 1) % 2 ^ 32) (word-zeroed b sentOctet whole (omega arith))
     (word-raised-apart b sentOctet acceptedOctet (λ k w x y z. omega arith))
-    (word-raised-apart (withFlag b discardFlag) sentOctet discardedOctet (λ k w x y z. omega arith) ∙ word-flag b sentOctet discardFlag (omega arith))
+    (word-flag (raised b discardedOctet) sentOctet discardFlag (omega arith) ∙ word-raised-apart b sentOctet discardedOctet (λ k w x y z. omega arith))
     (word-flag b sentOctet purgeFlag (omega arith))
     (word-raised b sentOctet (omega (arith, whole)))
     (word-flag b sentOctet nothingFlag (omega arith)) c r
@@ -66,7 +66,7 @@ pub discard-flag : Flag discardFlag discard
 discard-flag (replied c r) b whole =
     discard-told (λ l. flagAt l discardFlag) b false true (flag-zeroed b discardFlag whole (omega arith))
     (flag-raised b discardFlag acceptedOctet (omega arith))
-    (flag-raised (withFlag b discardFlag) discardFlag discardedOctet (omega arith) ∙ flag-flag b discardFlag (omega (arith, whole)))
+    (flag-flag (raised b discardedOctet) discardFlag (omega (arith, whole, length-raised b discardedOctet)))
     (flag-other b discardFlag purgeFlag (λ e. omega arith))
     (flag-raised b discardFlag sentOctet (omega arith))
     (flag-other b discardFlag nothingFlag (λ e. omega arith)) c r
@@ -76,7 +76,7 @@ pub purge-flag : Flag purgeFlag purge
 purge-flag (replied c r) b whole =
     purge-told (λ l. flagAt l purgeFlag) b false true (flag-zeroed b purgeFlag whole (omega arith))
     (flag-raised b purgeFlag acceptedOctet (omega arith))
-    (flag-raised (withFlag b discardFlag) purgeFlag discardedOctet (omega arith) ∙ flag-other b purgeFlag discardFlag (λ e. omega arith))
+    (flag-other (raised b discardedOctet) purgeFlag discardFlag (λ e. omega arith) ∙ flag-raised b purgeFlag discardedOctet (omega arith))
     (flag-flag b purgeFlag (omega (arith, whole)))
     (flag-raised b purgeFlag sentOctet (omega arith))
     (flag-other b purgeFlag nothingFlag (λ e. omega arith)) c r
@@ -86,7 +86,7 @@ pub nothing-flag : Flag nothingFlag nothingSent
 nothing-flag (replied c r) b whole =
     nothing-told (λ l. flagAt l nothingFlag) b false true (flag-zeroed b nothingFlag whole (omega arith))
     (flag-raised b nothingFlag acceptedOctet (omega arith))
-    (flag-raised (withFlag b discardFlag) nothingFlag discardedOctet (omega arith) ∙ flag-other b nothingFlag discardFlag (λ e. omega arith))
+    (flag-other (raised b discardedOctet) nothingFlag discardFlag (λ e. omega arith) ∙ flag-raised b nothingFlag discardedOctet (omega arith))
     (flag-other b nothingFlag purgeFlag (λ e. omega arith))
     (flag-raised b nothingFlag sentOctet (omega arith))
     (flag-flag b nothingFlag (omega (arith, whole))) c r

@@ -9,8 +9,7 @@ use Rattle.stream.specs.declared.Reply.{Reply}
 use Rattle.steps.specs.Call.{Call, opening, reserving, withdrawing, arriving, ticking, transmitting, joiningBestEffort, binding, framing}
 use Rattle.sending.specs.Sending.{nothing}
 use Rattle.register_block.specs.Layout.{sentOctet, acceptedOctet, discardedOctet, discardFlag, purgeFlag, nothingFlag}
-use Rattle.register_block.specs.Fields.{withFlag}
-use Rattle.register_block.specs.Events.{accepted, discarded, purged, sent, sentNothing, zeroed}
+use Rattle.register_block.specs.Events.{raised, accepted, discarded, purged, sent, sentNothing, zeroed}
 use Rattle.register_block.proofs.BlockLaws.{length-flag, length-raised, length-zeroed}
 use Rattle.register_block.proofs.WrittenLaws.{length-written}
 use Rattle.registers.specs.Notes.{openNoted, frameNoted, tickNoted, transmitNoted, noted}
@@ -38,7 +37,7 @@ module _ (G : List ℕ → Type 0) (b : List ℕ) (same : G b) where
 pub length-noted : (c : Call) (r : Reply) (b : List ℕ) → length (noted c r b) ≡ length b
 length-noted c r b =
     by-note (λ l. length l ≡ length b) b refl c r (length-zeroed b) (length-raised b acceptedOctet)
-    (length-raised (withFlag b discardFlag) discardedOctet ∙ length-flag b discardFlag)
+    (length-flag (raised b discardedOctet) discardFlag ∙ length-raised b discardedOctet)
     (length-flag b purgeFlag) (length-raised b sentOctet) (length-flag b nothingFlag)
 
 -- every happening, and a list of them

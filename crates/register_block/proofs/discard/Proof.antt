@@ -1,6 +1,6 @@
 use mathlib.Core.Path.{_∙_, ap}
-use Rattle.register_block.specs.Events.{raised}
-use Rattle.register_block.specs.Layout.{discardedOctet}
+use Rattle.register_block.specs.Fields.{withFlag}
+use Rattle.register_block.specs.Layout.{discardFlag}
 use mathlib.Core.List.{List}
 use Prim.Native.Nat.{ℕ}
 use borrow.Author.Needs.{needs}
@@ -11,21 +11,21 @@ use Rattle.register_block.proofs.discard.Lts as lts
 use Rattle.register_block.proofs.put_flag.Reads as put-flag-reads
 use Rattle.register_block.proofs.raise.Reads as raise-reads
 
--- src/lib.rt:133:5
-put-flag-requires : tie.Need-put-flag-requires
-put-flag-requires c κs = search needs
-
--- src/lib.rt:134:5
+-- src/lib.rt:138:5
 raise-requires : tie.Need-raise-requires
 raise-requires c κs = search needs
 
--- src/lib.rt:129:1
+-- src/lib.rt:139:5
+put-flag-requires : tie.Need-put-flag-requires
+put-flag-requires c κs = search needs
+
+-- src/lib.rt:134:1
 same-length : tie.Need-same-length
 same-length c = search needs
 
--- src/lib.rt:129:1
+-- src/lib.rt:134:1
 returns : tie.Need-returns
-returns c = c .before .before .raise .ensures ∙ ap (λ (b : List ℕ). raised b discardedOctet) (c .before .before .before .before .before .before .put-flag .ensures)
+returns c = c .before .before .put-flag .ensures ∙ ap (λ (b : List ℕ). withFlag b discardFlag) (c .before .before .before .before .before .before .raise .ensures)
 
 pub discard-spec : {M : Type 1} → statement M
-discard-spec = tie.close (tie.spec put-flag-requires raise-requires same-length returns)
+discard-spec = tie.close (tie.spec raise-requires put-flag-requires same-length returns)
