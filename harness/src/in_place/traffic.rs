@@ -69,7 +69,8 @@ pub fn tick(record: &mut Record, memory: &mut Memory) -> Result<Reply, u8> {
         }
         if record[at + PLACE] <= CURRENT {
             record[at + PLACE] = CURRENT;
-            record.copy_within(at + PERMITTED..at + PERMITTED + 2, at + LEFT);
+            let permitted = two(record, at + PERMITTED);
+            put_two(record, at + LEFT, permitted);
         } else {
             record[at + PLACE] -= 1;
         }
