@@ -29,7 +29,8 @@ mod wrapping;
 ///   every list of calls the quick calls reply as the calls do (`quick-replies`, `crates/port_laws/proofs/StayLaws.antt`);
 /// - on a fit record the quick register accesses equal the accesses (`quick-read`, `quick-write`,
 ///   `crates/register_laws/proofs/QuickRegisters.antt`);
-/// - any list of control writes does to the port what the calls do that they name (`crates/register_laws`).
+/// - any list of control writes does to the port what the calls do that they name (`controls-named`,
+///   `crates/register_laws/proofs/ControlLaws.antt`).
 ///
 /// What these ask of the host is that nobody else writes the port's octets or the memory, and that the two are always lent together. Here they are
 /// private fields of one value, so no safe program can do otherwise.

@@ -176,7 +176,7 @@ impl Both {
         self.assert_same_octets(run, call);
         run.count_call(call, &reply, &self.octets.record, prior_waited);
         self.freed.follow(&mut run.coverage, call, &reply, &ending);
-        before.count_changes(&mut run.coverage, &self.held());
+        before.count_changes(&mut run.coverage, call, &self.held());
     }
 
     /// What the register block holds.

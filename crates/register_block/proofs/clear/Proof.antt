@@ -1,3 +1,4 @@
+-- `register_block::clear` meets its contract. The loop's invariant: the block is what the turns done so far make of it. Assumes nothing.
 use Prim.Native.Nat.{_≤_, _-_}
 use mathlib.Core.Path.{_≡_, ap}
 use Rattle.register_block.specs.Events.{zeroed}
@@ -21,33 +22,26 @@ Inv-loop block₀ octet₀ block octet = (octet ≤ blockLength) × ((length blo
 abbrev μ-loop : tie.MeasureT-loop
 μ-loop block₀ octet₀ block octet = blockLength - octet
 
--- src/lib.rt:167:5
 loop-holds : tie.Need-loop-holds Inv-loop μ-loop
 unfolding iterate
 loop-holds c = search needs
 
--- src/lib.rt:168:9
 slice-write-block : tie.Need-slice-write-block Inv-loop μ-loop
 slice-write-block c = search needs
 
--- src/lib.rt:169:9
 add-octet : tie.Need-add-octet Inv-loop μ-loop
 add-octet c = search needs
 
--- src/lib.rt:167:5
 loop-less : tie.Need-loop-less Inv-loop μ-loop
 loop-less c = search needs
 
--- src/lib.rt:167:5
 loop-again : tie.Need-loop-again Inv-loop μ-loop
 unfolding iterate
 loop-again c = let l = c .before .loop in (omega arith, (simp length-set (l .inv .1 .0), rw (add-one (l .octet)) (ap (λ (x : List ℕ). put x (l .octet) (0 ∷ [])) (l .inv .1 .1))))
 
--- src/lib.rt:162:1
 same-length : tie.Need-same-length Inv-loop μ-loop
 same-length c = search needs
 
--- src/lib.rt:162:1
 returns : tie.Need-returns Inv-loop μ-loop
 unfolding zeroed
 returns c = let l = c .before .loop in let all : l .octet ≡ blockLength = omega arith in rw all at (l .inv .1 .1)

@@ -1,3 +1,4 @@
+-- `register_block::clear_by` meets its contract. By the test of its bit. Assumes nothing.
 use mathlib.Core.Path.{_∙_}
 use Rattle.register_block.specs.Written.{clearedBy}
 use Rattle.register_block.proofs.TestLaws.{first-of, second-of}
@@ -9,24 +10,19 @@ use Rattle.register_block.proofs.clear_by.Lts as lts
 use Rattle.register_block.proofs.bit_of.Reads as bit-of-reads
 use Rattle.register_block.proofs.drop_flag.Reads as drop-flag-reads
 
--- src/lib.rt:255:8
 bit-of-requires : tie.Need-bit-of-requires
 bit-of-requires c κs = search needs
 
--- src/lib.rt:256:9
 drop-flag-requires : tie.Need-drop-flag-requires
 drop-flag-requires c κs = search needs
 
--- src/lib.rt:256:9
 same-length : tie.Need-same-length
 same-length c = search needs
 
--- src/lib.rt:256:9
 returns : tie.Need-returns
 unfolding clearedBy
 returns c = c .before .before .drop-flag .ensures ∙ first-of _ _ (c .before .before .before .before .before .bit-of .ensures) _ _ (c .before .before .before .before .if1 .taken)
 
--- src/lib.rt:251:1
 returns-2 : tie.Need-returns-2
 unfolding clearedBy
 returns-2 c = second-of _ _ (c .before .bit-of .ensures) _ _ (c .if1 .left)

@@ -1,3 +1,4 @@
+-- `register_block::clear_flags` meets its contract. Flag after flag. Assumes nothing.
 use mathlib.Core.Path.{_∙_, ap}
 use Rattle.register_block.specs.Fields.{bit1, bit2}
 use Rattle.register_block.specs.Written.{clearedBy}
@@ -9,23 +10,18 @@ use Rattle.register_block.proofs.clear_flags.Reads as reads
 use Rattle.register_block.proofs.clear_flags.Lts as lts
 use Rattle.register_block.proofs.clear_by.Reads as clear-by-reads
 
--- src/lib.rt:253:5
 clear-by-requires : tie.Need-clear-by-requires
 clear-by-requires c κs = search needs
 
--- src/lib.rt:254:5
 clear-by-requires-2 : tie.Need-clear-by-requires-2
 clear-by-requires-2 c κs = search needs
 
--- src/lib.rt:255:5
 clear-by-requires-3 : tie.Need-clear-by-requires-3
 clear-by-requires-3 c κs = search needs
 
--- src/lib.rt:249:1
 same-length : tie.Need-same-length
 same-length c = search needs
 
--- src/lib.rt:249:1
 returns : tie.Need-returns
 returns c = c .before .before .clear-by3 .ensures ∙ ap (clearedBy nothingFlag bit2 _) (c .before .before .before .before .before .before .clear-by2 .ensures ∙ ap (clearedBy purgeFlag bit1 _) (c .before .before .before .before .before .before .before .before .before .before .clear-by .ensures))
 

@@ -1,3 +1,4 @@
+-- `register_block::discard` meets its contract. The count, then the flag. Assumes nothing.
 use mathlib.Core.Path.{_∙_, ap}
 use Rattle.register_block.specs.Fields.{withFlag}
 use Rattle.register_block.specs.Layout.{discardFlag}
@@ -11,19 +12,15 @@ use Rattle.register_block.proofs.discard.Lts as lts
 use Rattle.register_block.proofs.put_flag.Reads as put-flag-reads
 use Rattle.register_block.proofs.raise.Reads as raise-reads
 
--- src/lib.rt:138:5
 raise-requires : tie.Need-raise-requires
 raise-requires c κs = search needs
 
--- src/lib.rt:139:5
 put-flag-requires : tie.Need-put-flag-requires
 put-flag-requires c κs = search needs
 
--- src/lib.rt:134:1
 same-length : tie.Need-same-length
 same-length c = search needs
 
--- src/lib.rt:134:1
 returns : tie.Need-returns
 returns c = c .before .before .put-flag .ensures ∙ ap (λ (b : List ℕ). withFlag b discardFlag) (c .before .before .before .before .before .before .raise .ensures)
 

@@ -1,3 +1,4 @@
+-- `register_block::drop_flag` meets its contract. The field by its octets. Assumes nothing.
 use Rattle.register_block.specs.Fields.{withoutFlag}
 use borrow.Author.Needs.{needs}
 use Rattle.register_block.proofs.drop_flag.Statement.{statement}
@@ -5,15 +6,12 @@ use Rattle.register_block.proofs.drop_flag.Tie as tie
 use Rattle.register_block.proofs.drop_flag.Reads as reads
 use Rattle.register_block.proofs.drop_flag.Lts as lts
 
--- src/lib.rt:85:5
 slice-write-block : tie.Need-slice-write-block
 slice-write-block c = search needs
 
--- src/lib.rt:81:1
 same-length : tie.Need-same-length
 same-length c = search needs
 
--- src/lib.rt:81:1
 returns : tie.Need-returns
 unfolding withoutFlag
 returns c = search needs

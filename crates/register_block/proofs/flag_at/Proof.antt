@@ -1,3 +1,4 @@
+-- `register_block::flag_at` meets its contract. The field by its octets. Assumes nothing.
 use Rattle.register_block.specs.Fields.{flagAt}
 use borrow.Author.Needs.{needs}
 use Rattle.register_block.proofs.flag_at.Statement.{statement}
@@ -5,11 +6,9 @@ use Rattle.register_block.proofs.flag_at.Tie as tie
 use Rattle.register_block.proofs.flag_at.Reads as reads
 use Rattle.register_block.proofs.flag_at.Lts as lts
 
--- src/lib.rt:69:5
 shared-slice-read-result : tie.Need-shared-slice-read-result
 shared-slice-read-result c = search needs
 
--- src/lib.rt:65:1
 returns : tie.Need-returns
 unfolding flagAt
 returns c = search needs

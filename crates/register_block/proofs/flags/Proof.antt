@@ -1,3 +1,4 @@
+-- `register_block::flags` meets its contract. Bit after bit. Assumes nothing.
 use Prim.Native.Nat.{_+_}
 use mathlib.Core.Path.{_∙_, ap, ap₂}
 use Rattle.register_block.specs.Fields.{bit0, bit1, bit2}
@@ -11,39 +12,30 @@ use Rattle.register_block.proofs.flags.Lts as lts
 use Rattle.register_block.proofs.flag_at.Reads as flag-at-reads
 use Rattle.register_block.proofs.weighted.Reads as weighted-reads
 
--- src/lib.rt:188:14
 flag-at-requires : tie.Need-flag-at-requires
 flag-at-requires c κs = search needs
 
--- src/lib.rt:188:5
 weighted-requires : tie.Need-weighted-requires
 weighted-requires c κs = search needs
 
--- src/lib.rt:188:62
 flag-at-requires-2 : tie.Need-flag-at-requires-2
 flag-at-requires-2 c κs = search needs
 
--- src/lib.rt:188:53
 weighted-requires-2 : tie.Need-weighted-requires-2
 weighted-requires-2 c κs = search needs
 
--- src/lib.rt:188:5
 add-result : tie.Need-add-result
 add-result c = search needs
 
--- src/lib.rt:188:108
 flag-at-requires-3 : tie.Need-flag-at-requires-3
 flag-at-requires-3 c κs = search needs
 
--- src/lib.rt:188:99
 weighted-requires-3 : tie.Need-weighted-requires-3
 weighted-requires-3 c κs = search needs
 
--- src/lib.rt:188:5
 add-result-2 : tie.Need-add-result-2
 add-result-2 c = search needs
 
--- src/lib.rt:184:1
 returns : tie.Need-returns
 unfolding flagsOf
 returns c = ap₂ _+_ (ap₂ _+_ (c .before .before .before .before .weighted .ensures .0 ∙ ap (λ (b : Bool). cond b bit0 0) (c .before .before .before .before .before .flag-at .ensures)) (c .before .before .weighted2 .ensures .0 ∙ ap (λ (b : Bool). cond b bit1 0) (c .before .before .before .flag-at2 .ensures))) (c .weighted3 .ensures .0 ∙ ap (λ (b : Bool). cond b bit2 0) (c .before .flag-at3 .ensures))

@@ -1,3 +1,4 @@
+-- `register_block::line_up` meets its contract. Flag after flag. Assumes nothing.
 use mathlib.Core.Path.{_∙_}
 use Rattle.register_block.specs.Shown.{lineUp}
 use Rattle.register_block.proofs.TestLaws.{or-true, or-second}
@@ -8,29 +9,23 @@ use Rattle.register_block.proofs.line_up.Reads as reads
 use Rattle.register_block.proofs.line_up.Lts as lts
 use Rattle.register_block.proofs.shares_one.Reads as shares-one-reads
 
--- src/lib.rt:207:8
 shares-one-requires : tie.Need-shares-one-requires
 shares-one-requires c κs = search needs
 
--- src/lib.rt:208:9
 returns : tie.Need-returns
 unfolding lineUp
 returns c = or-true _ _ (c .before .shares-one .ensures) _ (c .if1 .taken)
 
--- src/lib.rt:210:8
 shares-one-requires-2 : tie.Need-shares-one-requires-2
 shares-one-requires-2 c κs = search needs
 
--- src/lib.rt:211:9
 returns-2 : tie.Need-returns-2
 unfolding lineUp
 returns-2 c = or-true _ _ (c .before .shares-one2 .ensures) _ (c .if2 .taken) ∙ or-second _ _ (c .before .before .before .shares-one .ensures) _ (c .before .before .if1 .left)
 
--- src/lib.rt:213:5
 shares-one-requires-3 : tie.Need-shares-one-requires-3
 shares-one-requires-3 c κs = search needs
 
--- src/lib.rt:203:1
 returns-3 : tie.Need-returns-3
 unfolding lineUp
 returns-3 c = c .shares-one3 .ensures ∙ or-second _ _ (c .before .before .shares-one2 .ensures) _ (c .before .if2 .left) ∙ or-second _ _ (c .before .before .before .before .shares-one .ensures) _ (c .before .before .before .if1 .left)

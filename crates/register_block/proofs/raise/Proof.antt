@@ -1,3 +1,4 @@
+-- `register_block::raise` meets its contract. The word read, raised and written. Assumes nothing.
 use Prim.Native.Nat.{_+_, _%_}
 use mathlib.Core.Path.{_∙_, ap}
 use Rattle.register_block.specs.Fields.{withWord}
@@ -12,23 +13,18 @@ use Rattle.register_block.proofs.put_word.Reads as put-word-reads
 use Rattle.register_block.proofs.word_at.Reads as word-at-reads
 use Rattle.std.proofs.num.wrapping_add_u32.Reads as wrapping-add-u32-reads
 
--- src/lib.rt:117:55
 word-at-requires : tie.Need-word-at-requires
 word-at-requires c κs = search needs
 
--- src/lib.rt:117:28
 wrapping-add-u32-requires : tie.Need-wrapping-add-u32-requires
 wrapping-add-u32-requires c κs = search needs
 
--- src/lib.rt:117:5
 put-word-requires : tie.Need-put-word-requires
 put-word-requires c κs = search needs
 
--- src/lib.rt:113:1
 same-length : tie.Need-same-length
 same-length c = search needs
 
--- src/lib.rt:113:1
 returns : tie.Need-returns
 unfolding raised
 returns c = c .before .before .put-word .ensures ∙ ap (withWord _ _) (c .before .before .before .wrapping-add-u32 .ensures ∙ ap (λ (n : ℕ). (n + 1) % 2 ^ 32) (c .before .before .before .before .word-at .ensures))

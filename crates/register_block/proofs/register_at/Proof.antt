@@ -1,3 +1,4 @@
+-- `register_block::register_at` meets its contract. Offset after offset. Assumes nothing.
 use Rattle.register_block.specs.Shown.{registerAt}
 use borrow.Author.Tests.{eq-eqb, ne-eqb}
 use borrow.Author.Needs.{needs}
@@ -9,61 +10,48 @@ use Rattle.register_block.proofs.flags.Reads as flags-reads
 use Rattle.register_block.proofs.status.Reads as status-reads
 use Rattle.register_block.proofs.word_at.Reads as word-at-reads
 
--- src/lib.rt:217:9
 status-requires : tie.Need-status-requires
 status-requires c κs = search needs
 
--- src/lib.rt:217:9
 returns : tie.Need-returns
 unfolding registerAt
 returns c = simp (eq-eqb _ _ (c .before .if1 .taken)) (c .status .ensures)
 
--- src/lib.rt:220:9
 flags-requires : tie.Need-flags-requires
 flags-requires c κs = search needs
 
--- src/lib.rt:220:9
 returns-2 : tie.Need-returns-2
 unfolding registerAt
 returns-2 c = simp (eq-eqb _ _ (c .before .if2 .taken), ne-eqb _ _ (c .before .before .if1 .left)) (c .flags .ensures)
 
--- src/lib.rt:223:9
 word-at-requires : tie.Need-word-at-requires
 word-at-requires c κs = search needs
 
--- src/lib.rt:223:9
 returns-3 : tie.Need-returns-3
 unfolding registerAt
 returns-3 c = simp (eq-eqb _ _ (c .before .if3 .taken), ne-eqb _ _ (c .before .before .if2 .left), ne-eqb _ _ (c .before .before .before .if1 .left)) (c .word-at .ensures)
 
--- src/lib.rt:226:9
 word-at-requires-2 : tie.Need-word-at-requires-2
 word-at-requires-2 c κs = search needs
 
--- src/lib.rt:226:9
 returns-4 : tie.Need-returns-4
 unfolding registerAt
 returns-4 c = simp (eq-eqb _ _ (c .before .if4 .taken), ne-eqb _ _ (c .before .before .if3 .left), ne-eqb _ _ (c .before .before .before .if2 .left), ne-eqb _ _ (c .before .before .before .before .if1 .left)) (c .word-at2 .ensures)
 
--- src/lib.rt:229:9
 word-at-requires-3 : tie.Need-word-at-requires-3
 word-at-requires-3 c κs = search needs
 
--- src/lib.rt:229:9
 returns-5 : tie.Need-returns-5
 unfolding registerAt
 returns-5 c = simp (eq-eqb _ _ (c .before .if5 .taken), ne-eqb _ _ (c .before .before .if4 .left), ne-eqb _ _ (c .before .before .before .if3 .left), ne-eqb _ _ (c .before .before .before .before .if2 .left), ne-eqb _ _ (c .before .before .before .before .before .if1 .left)) (c .word-at3 .ensures)
 
--- src/lib.rt:232:9
 word-at-requires-4 : tie.Need-word-at-requires-4
 word-at-requires-4 c κs = search needs
 
--- src/lib.rt:232:9
 returns-6 : tie.Need-returns-6
 unfolding registerAt
 returns-6 c = simp (eq-eqb _ _ (c .before .if6 .taken), ne-eqb _ _ (c .before .before .if5 .left), ne-eqb _ _ (c .before .before .before .if4 .left), ne-eqb _ _ (c .before .before .before .before .if3 .left), ne-eqb _ _ (c .before .before .before .before .before .if2 .left), ne-eqb _ _ (c .before .before .before .before .before .before .if1 .left)) (c .word-at4 .ensures)
 
--- src/lib.rt:212:1
 returns-7 : tie.Need-returns-7
 unfolding registerAt
 returns-7 c = simp (ne-eqb _ _ (c .if6 .left), ne-eqb _ _ (c .before .if5 .left), ne-eqb _ _ (c .before .before .if4 .left), ne-eqb _ _ (c .before .before .before .if3 .left), ne-eqb _ _ (c .before .before .before .before .if2 .left), ne-eqb _ _ (c .before .before .before .before .before .if1 .left))

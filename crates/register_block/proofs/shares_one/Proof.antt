@@ -1,3 +1,4 @@
+-- `register_block::shares_one` meets its contract. By the flag, then the bit of the mask. Assumes nothing.
 use mathlib.Core.Path.{_∙_, ap}
 use Rattle.register_block.specs.Fields.{bitOf}
 use Rattle.register_block.specs.Shown.{sharesOne}
@@ -12,24 +13,19 @@ use Rattle.register_block.proofs.bit_of.Reads as bit-of-reads
 use Rattle.register_block.proofs.flag_at.Reads as flag-at-reads
 use Rattle.register_block.proofs.word_at.Reads as word-at-reads
 
--- src/lib.rt:196:8
 flag-at-requires : tie.Need-flag-at-requires
 flag-at-requires c κs = search needs
 
--- src/lib.rt:197:23
 word-at-requires : tie.Need-word-at-requires
 word-at-requires c κs = search needs
 
--- src/lib.rt:197:9
 bit-of-requires : tie.Need-bit-of-requires
 bit-of-requires c κs = search needs
 
--- src/lib.rt:197:9
 returns : tie.Need-returns
 unfolding sharesOne
 returns c = c .bit-of .ensures ∙ ap (λ (n : ℕ). bitOf n (c .before .before .before .before .before .args .weight)) (c .before .word-at .ensures) ∙ and-second _ _ (c .before .before .before .flag-at .ensures) _ (c .before .before .if1 .taken)
 
--- src/lib.rt:192:1
 returns-2 : tie.Need-returns-2
 unfolding sharesOne
 returns-2 c = and-false _ _ (c .before .flag-at .ensures) _ (c .if1 .left)

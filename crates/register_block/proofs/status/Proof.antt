@@ -1,3 +1,4 @@
+-- `register_block::status` meets its contract. By its two bits. Assumes nothing.
 use Prim.Native.Nat.{_+_}
 use mathlib.Core.Path.{_∙_, ap, ap₂}
 use Rattle.register_block.specs.Fields.{bit1}
@@ -11,23 +12,18 @@ use Rattle.register_block.proofs.status.Lts as lts
 use Rattle.register_block.proofs.line_up.Reads as line-up-reads
 use Rattle.register_block.proofs.weighted.Reads as weighted-reads
 
--- src/lib.rt:208:5
 weighted-requires : tie.Need-weighted-requires
 weighted-requires c κs = search needs
 
--- src/lib.rt:208:40
 line-up-requires : tie.Need-line-up-requires
 line-up-requires c κs = search needs
 
--- src/lib.rt:208:31
 weighted-requires-2 : tie.Need-weighted-requires-2
 weighted-requires-2 c κs = search needs
 
--- src/lib.rt:208:5
 add-result : tie.Need-add-result
 add-result c = search needs
 
--- src/lib.rt:204:1
 returns : tie.Need-returns
 unfolding statusOf
 returns c = ap₂ _+_ (c .before .before .weighted .ensures .0) (c .weighted2 .ensures .0 ∙ ap (λ (b : Bool). cond b bit1 0) (c .before .line-up .ensures))

@@ -1,3 +1,4 @@
+-- `register_block::word_at` meets its contract. The field by its octets. Assumes nothing.
 use Rattle.register_block.specs.Fields.{wordAt}
 use borrow.Author.Needs.{needs}
 use Rattle.register_block.proofs.word_at.Statement.{statement}
@@ -6,11 +7,9 @@ use Rattle.register_block.proofs.word_at.Reads as reads
 use Rattle.register_block.proofs.word_at.Lts as lts
 use Rattle.octets.proofs.four_at.Reads as four-at-reads
 
--- src/lib.rt:93:5
 four-at-requires : tie.Need-four-at-requires
 four-at-requires c κs = search needs
 
--- src/lib.rt:89:1
 returns : tie.Need-returns
 unfolding wordAt
 returns c = search needs

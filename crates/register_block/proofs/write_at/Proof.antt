@@ -1,3 +1,4 @@
+-- `register_block::write_at` meets its contract. Offset after offset. Assumes nothing.
 use Rattle.register_block.specs.Written.{writtenAt}
 use borrow.Author.Tests.{eq-eqb, ne-eqb}
 use borrow.Author.Needs.{needs}
@@ -8,33 +9,26 @@ use Rattle.register_block.proofs.write_at.Lts as lts
 use Rattle.register_block.proofs.clear_flags.Reads as clear-flags-reads
 use Rattle.register_block.proofs.put_word.Reads as put-word-reads
 
--- src/lib.rt:264:9
 clear-flags-requires : tie.Need-clear-flags-requires
 clear-flags-requires c κs = search needs
 
--- src/lib.rt:264:9
 same-length : tie.Need-same-length
 same-length c = search needs
 
--- src/lib.rt:264:9
 returns : tie.Need-returns
 unfolding writtenAt
 returns c = simp (eq-eqb _ _ (c .before .before .before .before .if1 .taken)) (c .before .before .clear-flags .ensures)
 
--- src/lib.rt:267:9
 put-word-requires : tie.Need-put-word-requires
 put-word-requires c κs = search needs
 
--- src/lib.rt:267:9
 same-length-2 : tie.Need-same-length-2
 same-length-2 c = search needs
 
--- src/lib.rt:267:9
 returns-2 : tie.Need-returns-2
 unfolding writtenAt
 returns-2 c = simp (eq-eqb _ _ (c .before .before .before .before .if2 .taken), ne-eqb _ _ (c .before .before .before .before .before .if1 .left)) (c .before .before .put-word .ensures)
 
--- src/lib.rt:259:1
 returns-3 : tie.Need-returns-3
 unfolding writtenAt
 returns-3 c = simp (ne-eqb _ _ (c .if2 .left), ne-eqb _ _ (c .before .if1 .left))

@@ -1,3 +1,4 @@
+-- `registers::arrive` meets its contract. The call on the record; then its note in the block. Assumes nothing.
 use native.Mathlib.Omega.{arith}
 use mathlib.Core.Path.{_∙_}
 use Rattle.registers.specs.Notes.{frameNoted}
@@ -13,51 +14,39 @@ use Rattle.registers.proofs.lengths.Reads as lengths-reads
 use Rattle.registers.proofs.notes.frame.Reads as frame-reads
 use Rattle.steps.proofs.refused.Reads as refused-reads
 
--- src/lib.rt:70:9
 lengths-requires : tie.Need-lengths-requires
 lengths-requires c κs = search needs
 
--- src/lib.rt:72:9
 refused-requires : tie.Need-refused-requires
 refused-requires c κs = search needs
 
--- src/lib.rt:72:9
 same-length : tie.Need-same-length
 same-length c = search needs
 
--- src/lib.rt:72:9
 same-length-2 : tie.Need-same-length-2
 same-length-2 c = search needs
 
--- src/lib.rt:72:9
 returns : tie.Need-returns
 returns c = short called _ _ _ _ _ (c .refused .ensures) (c .before .if1 .taken) (c .before .before .lengths .ensures)
 
--- src/lib.rt:74:30
 slice-relend-prefix-arrive : tie.Need-slice-relend-prefix-arrive
 slice-relend-prefix-arrive c = let long = whole-port _ _ _ (c .if1 .left) (c .before .lengths .ensures) in omega (arith, long)
 
--- src/lib.rt:74:30
 slice-aggregate-arrive : tie.Need-slice-aggregate-arrive
 slice-aggregate-arrive c = part-long _ _ _ (c .before .if1 .left) (c .before .before .lengths .ensures)
 
--- src/lib.rt:74:9
 arrive-requires : tie.Need-arrive-requires
 arrive-requires c κs = search needs
 
--- src/lib.rt:75:5
 frame-requires : tie.Need-frame-requires
 frame-requires c κs = replaced-long _ _ _ (c .before .before .before .before .before .before .before .before .if1 .left) (c .before .before .before .before .before .before .before .before .before .lengths .ensures) (c .before .before .before .before .before .arrive .last .0) (c .before .before .before .before .before .arrive .kept .0)
 
--- src/lib.rt:67:1
 same-length-3 : tie.Need-same-length-3
 same-length-3 c = search needs
 
--- src/lib.rt:67:1
 same-length-4 : tie.Need-same-length-4
 same-length-4 c = search needs
 
--- src/lib.rt:67:1
 returns-2 : tie.Need-returns-2
 returns-2 c = done called _ _ _ _ _ _ _ _ (c .before .before .before .before .before .before .before .before .before .before .before .if1 .left) (c .before .before .before .before .before .before .before .before .before .before .before .before .lengths .ensures) (c .before .before .before .before .before .before .before .before .arrive .ensures) (c .before .before .frame .ensures ∙ replaced-in _ _ _ (c .before .before .before .before .before .before .before .before .before .before .before .if1 .left) (c .before .before .before .before .before .before .before .before .before .before .before .before .lengths .ensures) (c .before .before .before .before .before .before .before .before .arrive .last .0) (c .before .before .before .before .before .before .before .before .arrive .kept .0) (frameNoted _))
 

@@ -1,3 +1,4 @@
+-- `registers::bind` meets its contract. The call on the record. Assumes nothing.
 use native.Mathlib.Omega.{arith}
 use mathlib.Core.Path.{refl}
 use Rattle.registers.proofs.PartLaws.{whole-port, part-long, short, done}
@@ -11,39 +12,30 @@ use Rattle.port.proofs.bind.Reads as bind-reads
 use Rattle.registers.proofs.lengths.Reads as lengths-reads
 use Rattle.steps.proofs.refused.Reads as refused-reads
 
--- src/lib.rt:122:9
 lengths-requires : tie.Need-lengths-requires
 lengths-requires c κs = search needs
 
--- src/lib.rt:124:9
 refused-requires : tie.Need-refused-requires
 refused-requires c κs = search needs
 
--- src/lib.rt:124:9
 same-length : tie.Need-same-length
 same-length c = search needs
 
--- src/lib.rt:124:9
 returns : tie.Need-returns
 returns c = short called _ _ _ _ _ (c .refused .ensures) (c .before .if1 .taken) (c .before .before .lengths .ensures)
 
--- src/lib.rt:126:16
 slice-relend-prefix-bind : tie.Need-slice-relend-prefix-bind
 slice-relend-prefix-bind c = let long = whole-port _ _ _ (c .if1 .left) (c .before .lengths .ensures) in omega (arith, long)
 
--- src/lib.rt:126:16
 slice-aggregate-bind : tie.Need-slice-aggregate-bind
 slice-aggregate-bind c = part-long _ _ _ (c .before .if1 .left) (c .before .before .lengths .ensures)
 
--- src/lib.rt:126:5
 bind-requires : tie.Need-bind-requires
 bind-requires c κs = search needs
 
--- src/lib.rt:119:1
 same-length-2 : tie.Need-same-length-2
 same-length-2 c = search needs
 
--- src/lib.rt:119:1
 returns-2 : tie.Need-returns-2
 returns-2 c = done called _ _ _ _ _ _ _ _ (c .before .before .before .before .if1 .left) (c .before .before .before .before .before .lengths .ensures) (c .before .before .bind .ensures) refl
 

@@ -1,3 +1,4 @@
+-- `registers::lengths` meets its contract. Test after test. Assumes nothing.
 use lib.ListN.{length}
 use mathlib.Core.Path.{_≡_}
 use Rattle.registers.specs.Lent.{portLength, shortRefusal}
@@ -13,21 +14,17 @@ use Rattle.registers.proofs.lengths.Reads as reads
 use Rattle.registers.proofs.lengths.Lts as lts
 use Rattle.record.proofs.head.memory_length.Reads as memory-length-reads
 
--- src/lib.rt:23:9
 returns : tie.Need-returns
 unfolding shortRefusal
 returns c = simp (le-ltb _ _ (c .if1 .taken))
 
--- src/lib.rt:25:23
 memory-length-requires : tie.Need-memory-length-requires
 memory-length-requires c κs = search needs
 
--- src/lib.rt:26:9
 returns-2 : tie.Need-returns-2
 unfolding shortRefusal
 returns-2 c = let a = c .before .before .before .before .before .args in let less : ltb (length (a .port .now)) portLength ≡ true = lt-ltb _ portLength (c .before .before .if1 .left) in let little : ltb (length (a .memory .now)) (memoryLength (queuesAt (a .port .now))) ≡ true = lt-ltb _ _ (rw (c .before .memory-length .ensures) at (c .if2 .taken)) in simp (less, little)
 
--- src/lib.rt:19:1
 returns-3 : tie.Need-returns-3
 unfolding shortRefusal
 returns-3 c = let a = c .before .before .before .before .before .args in let less : ltb (length (a .port .now)) portLength ≡ true = lt-ltb _ portLength (c .before .before .if1 .left) in let room : ltb (length (a .memory .now)) (memoryLength (queuesAt (a .port .now))) ≡ false = le-ltb _ _ (rw (c .before .memory-length .ensures) at (c .if2 .left)) in simp (less, room)

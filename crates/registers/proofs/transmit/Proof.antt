@@ -1,3 +1,4 @@
+-- `registers::transmit` meets its contract. The call on the record; then its note in the block. Assumes nothing.
 use native.Mathlib.Omega.{arith}
 use mathlib.Core.Path.{_∙_}
 use Rattle.registers.specs.Notes.{transmitNoted}
@@ -13,43 +14,33 @@ use Rattle.registers.proofs.lengths.Reads as lengths-reads
 use Rattle.registers.proofs.notes.transmit.Reads as notes-transmit-reads
 use Rattle.steps.proofs.refused.Reads as refused-reads
 
--- src/lib.rt:96:9
 lengths-requires : tie.Need-lengths-requires
 lengths-requires c κs = search needs
 
--- src/lib.rt:98:9
 refused-requires : tie.Need-refused-requires
 refused-requires c κs = search needs
 
--- src/lib.rt:98:9
 same-length : tie.Need-same-length
 same-length c = search needs
 
--- src/lib.rt:98:9
 returns : tie.Need-returns
 returns c = short called _ _ _ _ _ (c .refused .ensures) (c .before .if1 .taken) (c .before .before .lengths .ensures)
 
--- src/lib.rt:100:32
 slice-relend-prefix-transmit : tie.Need-slice-relend-prefix-transmit
 slice-relend-prefix-transmit c = let long = whole-port _ _ _ (c .if1 .left) (c .before .lengths .ensures) in omega (arith, long)
 
--- src/lib.rt:100:32
 slice-aggregate-transmit : tie.Need-slice-aggregate-transmit
 slice-aggregate-transmit c = part-long _ _ _ (c .before .if1 .left) (c .before .before .lengths .ensures)
 
--- src/lib.rt:100:9
 transmit-requires : tie.Need-transmit-requires
 transmit-requires c κs = search needs
 
--- src/lib.rt:101:5
 transmit-requires-2 : tie.Need-transmit-requires-2
 transmit-requires-2 c κs = replaced-long _ _ _ (c .before .before .before .before .before .if1 .left) (c .before .before .before .before .before .before .lengths .ensures) (c .before .before .before .transmit .last .0) (c .before .before .before .transmit .kept .0)
 
--- src/lib.rt:93:1
 same-length-2 : tie.Need-same-length-2
 same-length-2 c = search needs
 
--- src/lib.rt:93:1
 returns-2 : tie.Need-returns-2
 returns-2 c = done called _ _ _ _ _ _ _ _ (c .before .before .before .before .before .before .before .before .if1 .left) (c .before .before .before .before .before .before .before .before .before .lengths .ensures) (c .before .before .before .before .before .before .transmit .ensures) (c .before .before .transmit2 .ensures ∙ replaced-in _ _ _ (c .before .before .before .before .before .before .before .before .if1 .left) (c .before .before .before .before .before .before .before .before .before .lengths .ensures) (c .before .before .before .before .before .before .transmit .last .0) (c .before .before .before .before .before .before .transmit .kept .0) (transmitNoted _ _))
 

@@ -1,3 +1,4 @@
+-- `registers::accesses::control` meets its contract. By its two bits. Assumes nothing.
 use Rattle.registers.proofs.AccessLaws.{named-bits, written-named, written-both}
 use Rattle.port.specs.Calls.{called}
 use Rattle.fitness.specs.Fit.{lentRefusal}
@@ -12,59 +13,45 @@ use Rattle.registers.proofs.accesses.put.Reads as put-reads
 use Rattle.registers.proofs.tick.Reads as tick-reads
 use Rattle.registers.proofs.transmit.Reads as transmit-reads
 
--- src/accesses.rt:120:9
 bit-of-requires : tie.Need-bit-of-requires
 bit-of-requires c κs = search needs
 
--- src/accesses.rt:121:8
 bit-of-requires-2 : tie.Need-bit-of-requires-2
 bit-of-requires-2 c κs = search needs
 
--- src/accesses.rt:122:13
 tick-requires : tie.Need-tick-requires
 tick-requires c κs = search needs
 
--- src/accesses.rt:124:13
 transmit-requires : tie.Need-transmit-requires
 transmit-requires c κs = search needs
 
--- src/accesses.rt:124:13
 same-length : tie.Need-same-length
 same-length c = search needs
 
--- src/accesses.rt:124:13
 returns : tie.Need-returns
 returns c = written-named called lentRefusal _ _ _ _ _ _ (named-bits _ _ _ true true (c .before .before .before .before .before .before .before .before .before .before .bit-of2 .ensures) (c .before .before .before .before .before .before .before .before .before .before .before .bit-of .ensures) (c .before .before .before .before .before .before .before .before .before .if1 .taken) (c .before .before .before .before .if2 .taken)) (written-both called lentRefusal (c .before .before .before .before .before .before .before .before .before .before .before .before .before .before .args .number) _ _ _ _ _ _ _ _ (c .before .before .before .before .before .before .before .tick .ensures) (c .before .before .transmit .ensures))
 
--- src/accesses.rt:126:9
 same-length-2 : tie.Need-same-length-2
 same-length-2 c = search needs
 
--- src/accesses.rt:126:9
 returns-2 : tie.Need-returns-2
 returns-2 c = written-named called lentRefusal _ _ _ _ _ _ (named-bits _ _ _ true false (c .before .before .before .before .before .before .bit-of2 .ensures) (c .before .before .before .before .before .before .before .bit-of .ensures) (c .before .before .before .before .before .if1 .taken) (c .if2 .left)) (c .before .before .before .tick .ensures)
 
--- src/accesses.rt:129:9
 transmit-requires-2 : tie.Need-transmit-requires-2
 transmit-requires-2 c κs = search needs
 
--- src/accesses.rt:129:9
 same-length-3 : tie.Need-same-length-3
 same-length-3 c = search needs
 
--- src/accesses.rt:129:9
 returns-3 : tie.Need-returns-3
 returns-3 c = written-named called lentRefusal _ _ _ _ _ _ (named-bits _ _ _ false true (c .before .before .before .before .before .before .bit-of2 .ensures) (c .before .before .before .before .before .before .before .bit-of .ensures) (c .before .before .before .before .before .if1 .left) (c .before .before .before .before .if3 .taken)) (c .before .before .transmit2 .ensures)
 
--- src/accesses.rt:131:5
 put-requires : tie.Need-put-requires
 put-requires c κs = search needs
 
--- src/accesses.rt:117:1
 same-length-4 : tie.Need-same-length-4
 same-length-4 c = search needs
 
--- src/accesses.rt:117:1
 returns-4 : tie.Need-returns-4
 returns-4 c = written-named called lentRefusal _ _ _ _ _ _ (named-bits _ _ _ false false (c .before .before .before .before .before .before .bit-of2 .ensures) (c .before .before .before .before .before .before .before .bit-of .ensures) (c .before .before .before .before .before .if1 .left) (c .before .before .before .before .if3 .left)) (c .before .before .put .ensures)
 

@@ -1,3 +1,4 @@
+-- `registers::accesses::lent_lengths` meets its contract. By the length of the slice; then the two lengths. Assumes nothing.
 use Rattle.registers.proofs.PartLaws.{part-long, lent-short, lent-else}
 use Rattle.port.specs.Quick.{lengthRefusal}
 use borrow.Author.Needs.{needs}
@@ -8,23 +9,18 @@ use Rattle.registers.proofs.accesses.lent_lengths.Lts as lts
 use Rattle.port.proofs.quick.lengths.Reads as quick-lengths-reads
 use Rattle.registers.proofs.lengths.Reads as lengths-reads
 
--- src/accesses.rt:46:9
 lengths-requires : tie.Need-lengths-requires
 lengths-requires c κs = search needs
 
--- src/accesses.rt:48:9
 returns : tie.Need-returns
 returns c = lent-short lengthRefusal _ _ _ (c .if1 .taken) (c .before .lengths .ensures)
 
--- src/accesses.rt:50:26
 slice-aggregate-lengths : tie.Need-slice-aggregate-lengths
 slice-aggregate-lengths c = part-long _ _ _ (c .before .if1 .left) (c .before .before .lengths .ensures)
 
--- src/accesses.rt:50:5
 lengths-requires-2 : tie.Need-lengths-requires-2
 lengths-requires-2 c κs = search needs
 
--- src/accesses.rt:43:1
 returns-2 : tie.Need-returns-2
 returns-2 c = lent-else lengthRefusal _ _ _ _ (c .before .before .if1 .left) (c .before .before .before .lengths .ensures) (c .lengths2 .ensures)
 

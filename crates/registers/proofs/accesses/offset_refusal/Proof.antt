@@ -1,3 +1,4 @@
+-- `registers::accesses::offset_refusal` meets its contract. Test after test. Assumes nothing.
 use Rattle.registers.specs.Accesses.{offsetRefusal}
 use borrow.Author.Tests.{eq-eqb, ne-eqb, lt-ltb, le-ltb}
 use Rattle.registers.proofs.accesses.offset_refusal.Statement.{statement}
@@ -5,17 +6,14 @@ use Rattle.registers.proofs.accesses.offset_refusal.Tie as tie
 use Rattle.registers.proofs.accesses.offset_refusal.Reads as reads
 use Rattle.registers.proofs.accesses.offset_refusal.Lts as lts
 
--- src/accesses.rt:23:9
 returns : tie.Need-returns
 unfolding offsetRefusal
 returns c = simp (ne-eqb _ _ (c .if1 .taken))
 
--- src/accesses.rt:26:9
 returns-2 : tie.Need-returns-2
 unfolding offsetRefusal
 returns-2 c = simp (eq-eqb _ _ (c .before .if1 .left), lt-ltb _ _ (c .if2 .taken))
 
--- src/accesses.rt:19:1
 returns-3 : tie.Need-returns-3
 unfolding offsetRefusal
 returns-3 c = simp (eq-eqb _ _ (c .before .if1 .left), le-ltb _ _ (c .if2 .left))

@@ -1,3 +1,4 @@
+-- `registers::accesses::quick_put` meets its contract. By the lengths; then the block. Assumes nothing.
 use mathlib.Core.Path.{refl}
 use Rattle.registers.proofs.PartLaws.{lent-enough}
 use Rattle.steps.proofs.OutcomeLaws.{same-outcome, stopped, passed}
@@ -12,35 +13,27 @@ use Rattle.registers.proofs.notes.write.Reads as write-reads
 use Rattle.steps.proofs.granted.Reads as granted-reads
 use Rattle.steps.proofs.refused.Reads as refused-reads
 
--- src/accesses.rt:108:9
 lent-lengths-requires : tie.Need-lent-lengths-requires
 lent-lengths-requires c κs = search needs
 
--- src/accesses.rt:110:9
 refused-requires : tie.Need-refused-requires
 refused-requires c κs = search needs
 
--- src/accesses.rt:110:9
 same-length : tie.Need-same-length
 same-length c = search needs
 
--- src/accesses.rt:110:9
 returns : tie.Need-returns
 returns c = stopped _ _ _ _ _ _ (c .refused .ensures) (c .before .if1 .taken) (c .before .before .lent-lengths .ensures)
 
--- src/accesses.rt:112:5
 write-requires : tie.Need-write-requires
 write-requires c κs = lent-enough lengthRefusal _ _ _ (c .before .if1 .left) (c .before .before .lent-lengths .ensures)
 
--- src/accesses.rt:113:5
 granted-requires : tie.Need-granted-requires
 granted-requires c κs = search needs
 
--- src/accesses.rt:105:1
 same-length-2 : tie.Need-same-length-2
 same-length-2 c = search needs
 
--- src/accesses.rt:105:1
 returns-2 : tie.Need-returns-2
 returns-2 c = passed _ _ _ _ _ _ (same-outcome _ _ _ _ _ _ (c .granted .ensures) (c .before .before .before .write .ensures) refl) (c .before .before .before .before .before .if1 .left) (c .before .before .before .before .before .before .lent-lengths .ensures)
 

@@ -1,3 +1,4 @@
+-- `registers::accesses::quick_read` meets its contract. Check after check; then the register. Assumes nothing.
 use mathlib.Core.Path.{refl, _∙_, ap}
 use Rattle.registers.specs.Accesses.{readBy}
 use Rattle.registers.proofs.PartLaws.{lent-enough}
@@ -16,41 +17,32 @@ use Rattle.registers.proofs.accesses.register_at.Reads as register-at-r
 use Rattle.steps.proofs.granted.Reads as granted-reads
 use Rattle.steps.proofs.refused.Reads as refused-reads
 
--- src/accesses.rt:81:9
 offset-refusal-requires : tie.Need-offset-refusal-requires
 offset-refusal-requires c κs = search needs
 
--- src/accesses.rt:83:9
 refused-requires : tie.Need-refused-requires
 refused-requires c κs = search needs
 
--- src/accesses.rt:83:9
 returns : tie.Need-returns
 unfolding readBy
 returns c = stopped _ _ _ _ _ _ (c .refused .ensures) (c .before .if1 .taken) (c .before .before .offset-refusal .ensures)
 
--- src/accesses.rt:85:9
 lent-lengths-requires : tie.Need-lent-lengths-requires
 lent-lengths-requires c κs = search needs
 
--- src/accesses.rt:87:9
 refused-requires-2 : tie.Need-refused-requires-2
 refused-requires-2 c κs = search needs
 
--- src/accesses.rt:87:9
 returns-2 : tie.Need-returns-2
 unfolding readBy
 returns-2 c = passed _ _ _ _ _ _ (stopped _ _ _ _ _ _ (c .refused2 .ensures) (c .before .if2 .taken) (c .before .before .lent-lengths .ensures)) (c .before .before .before .if1 .left) (c .before .before .before .before .offset-refusal .ensures)
 
--- src/accesses.rt:89:20
 register-at-requires : tie.Need-register-at-requires
 register-at-requires c κs = lent-enough lengthRefusal _ _ _ (c .if2 .left) (c .before .lent-lengths .ensures)
 
--- src/accesses.rt:89:5
 granted-requires : tie.Need-granted-requires
 granted-requires c κs = search needs
 
--- src/accesses.rt:78:1
 returns-3 : tie.Need-returns-3
 unfolding readBy
 returns-3 c = passed _ _ _ _ _ _ (passed _ _ _ _ _ _ (same-outcome _ _ _ _ _ _ (c .granted .ensures ∙ ap (λ (n : ℕ). granted n 0) (c .before .register-at .ensures)) refl refl) (c .before .before .if2 .left) (c .before .before .before .lent-lengths .ensures)) (c .before .before .before .before .if1 .left) (c .before .before .before .before .before .offset-refusal .ensures)

@@ -1,3 +1,4 @@
+-- `registers::accesses::register_at` meets its contract. The block lent out of the slice. Assumes nothing.
 use mathlib.Core.Path.{_∙_, ap₂}
 use Rattle.registers.proofs.PartLaws.{block-mid}
 use mathlib.Core.List.{List}
@@ -12,27 +13,21 @@ use Rattle.registers.proofs.accesses.register_at.Lts as lts
 use Rattle.record.proofs.head.is_open.Reads as is-open-reads
 use Rattle.register_block.proofs.register_at.Reads as register-at-reads
 
--- src/accesses.rt:58:9
 is-open-requires : tie.Need-is-open-requires
 is-open-requires c κs = search needs
 
--- src/accesses.rt:59:41
 sub-register-at : tie.Need-sub-register-at
 sub-register-at c = search needs
 
--- src/accesses.rt:59:41
 part-register-at-start : tie.Need-part-register-at-start
 part-register-at-start c = search needs
 
--- src/accesses.rt:59:41
 part-register-at-end : tie.Need-part-register-at-end
 part-register-at-end c = search needs
 
--- src/accesses.rt:59:5
 register-at-requires : tie.Need-register-at-requires
 register-at-requires c κs = search needs
 
--- src/accesses.rt:54:1
 returns : tie.Need-returns
 returns c = c .register-at .ensures ∙ ap₂ (λ (o : Bool) (b : List ℕ). registerAt o b (c .before .before .before .before .args .offset)) (c .before .before .is-open .ensures) (block-mid (c .before .before .before .before .args .port .now))
 

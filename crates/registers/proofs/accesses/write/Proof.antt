@@ -1,3 +1,4 @@
+-- `registers::accesses::write` meets its contract. By the offset. Assumes nothing.
 use Rattle.registers.specs.Accesses.{writeBy}
 use Rattle.registers.proofs.AccessLaws.{written-control, written-other}
 use Rattle.steps.proofs.OutcomeLaws.{stopped, passed}
@@ -13,41 +14,32 @@ use Rattle.registers.proofs.accesses.offset_refusal.Reads as offset-ref
 use Rattle.registers.proofs.accesses.put.Reads as put-reads
 use Rattle.steps.proofs.refused.Reads as refused-reads
 
--- src/accesses.rt:156:9
 offset-refusal-requires : tie.Need-offset-refusal-requires
 offset-refusal-requires c κs = search needs
 
--- src/accesses.rt:158:9
 refused-requires : tie.Need-refused-requires
 refused-requires c κs = search needs
 
--- src/accesses.rt:158:9
 returns : tie.Need-returns
 unfolding writeBy
 returns c = stopped _ _ _ _ _ _ (c .refused .ensures) (c .before .if1 .taken) (c .before .before .offset-refusal .ensures)
 
--- src/accesses.rt:161:9
 control-requires : tie.Need-control-requires
 control-requires c κs = search needs
 
--- src/accesses.rt:161:9
 same-length : tie.Need-same-length
 same-length c = search needs
 
--- src/accesses.rt:161:9
 returns-2 : tie.Need-returns-2
 unfolding writeBy
 returns-2 c = passed _ _ _ _ _ _ (written-control called lentRefusal _ _ _ _ _ (c .before .before .before .before .if2 .taken) (c .before .before .control .ensures)) (c .before .before .before .before .before .if1 .left) (c .before .before .before .before .before .before .offset-refusal .ensures)
 
--- src/accesses.rt:163:5
 put-requires : tie.Need-put-requires
 put-requires c κs = search needs
 
--- src/accesses.rt:153:1
 same-length-2 : tie.Need-same-length-2
 same-length-2 c = search needs
 
--- src/accesses.rt:153:1
 returns-3 : tie.Need-returns-3
 unfolding writeBy
 returns-3 c = passed _ _ _ _ _ _ (written-other called lentRefusal _ _ _ _ _ (c .before .before .before .before .if2 .left) (c .before .before .put .ensures)) (c .before .before .before .before .before .if1 .left) (c .before .before .before .before .before .before .offset-refusal .ensures)

@@ -1,3 +1,4 @@
+-- `registers::notes::frame` meets its contract. The block lent out of the slice, and put back. Assumes nothing.
 use Rattle.registers.proofs.PartLaws.{block-back}
 use borrow.Author.Needs.{needs}
 use Rattle.registers.proofs.notes.frame.Statement.{statement}
@@ -6,27 +7,21 @@ use Rattle.registers.proofs.notes.frame.Reads as reads
 use Rattle.registers.proofs.notes.frame.Lts as lts
 use Rattle.registers.proofs.notes.frame_in.Reads as frame-in-reads
 
--- src/notes.rt:72:14
 sub-frame-in : tie.Need-sub-frame-in
 sub-frame-in c = search needs
 
--- src/notes.rt:72:14
 part-frame-in-start : tie.Need-part-frame-in-start
 part-frame-in-start c = search needs
 
--- src/notes.rt:72:14
 part-frame-in-end : tie.Need-part-frame-in-end
 part-frame-in-end c = search needs
 
--- src/notes.rt:72:5
 frame-in-requires : tie.Need-frame-in-requires
 frame-in-requires c κs = search needs
 
--- src/notes.rt:68:1
 same-length : tie.Need-same-length
 same-length c = search needs
 
--- src/notes.rt:68:1
 returns : tie.Need-returns
 returns c = block-back _ _ _ (c .before .before .frame-in .ensures)
 

@@ -1,3 +1,4 @@
+-- `registers::notes::frame_in` meets its contract. Test after test. Assumes nothing.
 use Rattle.registers.specs.Notes.{frameNoted}
 use borrow.Author.Tests.{eq-eqb, ne-eqb}
 use borrow.Author.Needs.{needs}
@@ -8,33 +9,26 @@ use Rattle.registers.proofs.notes.frame_in.Lts as lts
 use Rattle.register_block.proofs.accept.Reads as accept-reads
 use Rattle.register_block.proofs.discard.Reads as discard-reads
 
--- src/notes.rt:25:9
 accept-requires : tie.Need-accept-requires
 accept-requires c κs = search needs
 
--- src/notes.rt:25:9
 same-length : tie.Need-same-length
 same-length c = search needs
 
--- src/notes.rt:25:9
 returns : tie.Need-returns
 unfolding frameNoted
 returns c = simp (eq-eqb _ _ (c .before .before .before .before .if1 .taken)) (c .before .before .accept .ensures)
 
--- src/notes.rt:28:9
 discard-requires : tie.Need-discard-requires
 discard-requires c κs = search needs
 
--- src/notes.rt:28:9
 same-length-2 : tie.Need-same-length-2
 same-length-2 c = search needs
 
--- src/notes.rt:28:9
 returns-2 : tie.Need-returns-2
 unfolding frameNoted
 returns-2 c = simp (eq-eqb _ _ (c .before .before .before .before .if2 .taken), ne-eqb _ _ (c .before .before .before .before .before .if1 .left)) (c .before .before .discard .ensures)
 
--- src/notes.rt:20:1
 returns-3 : tie.Need-returns-3
 unfolding frameNoted
 returns-3 c = simp (ne-eqb _ _ (c .if2 .left), ne-eqb _ _ (c .before .if1 .left))

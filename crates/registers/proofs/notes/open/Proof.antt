@@ -1,3 +1,4 @@
+-- `registers::notes::open` meets its contract. The block lent out of the slice, and put back. Assumes nothing.
 use Rattle.registers.proofs.PartLaws.{block-back}
 use borrow.Author.Needs.{needs}
 use Rattle.registers.proofs.notes.open.Statement.{statement}
@@ -6,27 +7,21 @@ use Rattle.registers.proofs.notes.open.Reads as reads
 use Rattle.registers.proofs.notes.open.Lts as lts
 use Rattle.registers.proofs.notes.open_in.Reads as open-in-reads
 
--- src/notes.rt:64:13
 sub-open-in : tie.Need-sub-open-in
 sub-open-in c = search needs
 
--- src/notes.rt:64:13
 part-open-in-start : tie.Need-part-open-in-start
 part-open-in-start c = search needs
 
--- src/notes.rt:64:13
 part-open-in-end : tie.Need-part-open-in-end
 part-open-in-end c = search needs
 
--- src/notes.rt:64:5
 open-in-requires : tie.Need-open-in-requires
 open-in-requires c κs = search needs
 
--- src/notes.rt:60:1
 same-length : tie.Need-same-length
 same-length c = search needs
 
--- src/notes.rt:60:1
 returns : tie.Need-returns
 returns c = block-back _ _ _ (c .before .before .open-in .ensures)
 

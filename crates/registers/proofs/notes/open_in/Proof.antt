@@ -1,3 +1,4 @@
+-- `registers::notes::open_in` meets its contract. By the refusal. Assumes nothing.
 use Rattle.registers.specs.Notes.{openNoted}
 use borrow.Author.Tests.{eq-eqb, ne-eqb}
 use borrow.Author.Needs.{needs}
@@ -7,20 +8,16 @@ use Rattle.registers.proofs.notes.open_in.Reads as reads
 use Rattle.registers.proofs.notes.open_in.Lts as lts
 use Rattle.register_block.proofs.clear.Reads as clear-reads
 
--- src/notes.rt:15:9
 clear-requires : tie.Need-clear-requires
 clear-requires c κs = search needs
 
--- src/notes.rt:15:9
 same-length : tie.Need-same-length
 same-length c = search needs
 
--- src/notes.rt:15:9
 returns : tie.Need-returns
 unfolding openNoted
 returns c = simp (eq-eqb _ _ (c .before .before .before .before .if1 .taken)) (c .before .before .clear .ensures)
 
--- src/notes.rt:10:1
 returns-2 : tie.Need-returns-2
 unfolding openNoted
 returns-2 c = simp (ne-eqb _ _ (c .if1 .left))

@@ -1,3 +1,4 @@
+-- `registers::notes::tick_in` meets its contract. Test after test. Assumes nothing.
 use Rattle.registers.specs.Notes.{tickNoted}
 use borrow.Author.Tests.{eq-eqb, ne-eqb}
 use borrow.Author.Needs.{needs}
@@ -7,25 +8,20 @@ use Rattle.registers.proofs.notes.tick_in.Reads as reads
 use Rattle.registers.proofs.notes.tick_in.Lts as lts
 use Rattle.register_block.proofs.purge.Reads as purge-reads
 
--- src/notes.rt:38:9
 returns : tie.Need-returns
 unfolding tickNoted
 returns c = simp (ne-eqb _ _ (c .if1 .taken))
 
--- src/notes.rt:41:9
 purge-requires : tie.Need-purge-requires
 purge-requires c κs = search needs
 
--- src/notes.rt:41:9
 same-length : tie.Need-same-length
 same-length c = search needs
 
--- src/notes.rt:41:9
 returns-2 : tie.Need-returns-2
 unfolding tickNoted
 returns-2 c = simp (ne-eqb _ _ (c .before .before .before .before .if2 .taken), eq-eqb _ _ (c .before .before .before .before .before .if1 .left)) (c .before .before .purge .ensures)
 
--- src/notes.rt:33:1
 returns-3 : tie.Need-returns-3
 unfolding tickNoted
 returns-3 c = simp (eq-eqb _ _ (c .if2 .left), eq-eqb _ _ (c .before .if1 .left))

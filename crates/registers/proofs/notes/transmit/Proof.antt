@@ -1,3 +1,4 @@
+-- `registers::notes::transmit` meets its contract. The block lent out of the slice, and put back. Assumes nothing.
 use Rattle.registers.proofs.PartLaws.{block-back}
 use borrow.Author.Needs.{needs}
 use Rattle.registers.proofs.notes.transmit.Statement.{statement}
@@ -6,27 +7,21 @@ use Rattle.registers.proofs.notes.transmit.Reads as reads
 use Rattle.registers.proofs.notes.transmit.Lts as lts
 use Rattle.registers.proofs.notes.transmit_in.Reads as transmit-in-reads
 
--- src/notes.rt:88:17
 sub-transmit-in : tie.Need-sub-transmit-in
 sub-transmit-in c = search needs
 
--- src/notes.rt:88:17
 part-transmit-in-start : tie.Need-part-transmit-in-start
 part-transmit-in-start c = search needs
 
--- src/notes.rt:88:17
 part-transmit-in-end : tie.Need-part-transmit-in-end
 part-transmit-in-end c = search needs
 
--- src/notes.rt:88:5
 transmit-in-requires : tie.Need-transmit-in-requires
 transmit-in-requires c κs = search needs
 
--- src/notes.rt:84:1
 same-length : tie.Need-same-length
 same-length c = search needs
 
--- src/notes.rt:84:1
 returns : tie.Need-returns
 returns c = block-back _ _ _ (c .before .before .transmit-in .ensures)
 

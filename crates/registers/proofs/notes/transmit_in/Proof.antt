@@ -1,3 +1,4 @@
+-- `registers::notes::transmit_in` meets its contract. Test after test. Assumes nothing.
 use Rattle.registers.specs.Notes.{transmitNoted}
 use borrow.Author.Tests.{eq-eqb, ne-eqb}
 use borrow.Author.Needs.{needs}
@@ -8,33 +9,26 @@ use Rattle.registers.proofs.notes.transmit_in.Lts as lts
 use Rattle.register_block.proofs.send.Reads as send-reads
 use Rattle.register_block.proofs.send_nothing.Reads as send-nothing-reads
 
--- src/notes.rt:51:9
 returns : tie.Need-returns
 unfolding transmitNoted
 returns c = simp (ne-eqb _ _ (c .if1 .taken))
 
--- src/notes.rt:54:9
 send-nothing-requires : tie.Need-send-nothing-requires
 send-nothing-requires c κs = search needs
 
--- src/notes.rt:54:9
 same-length : tie.Need-same-length
 same-length c = search needs
 
--- src/notes.rt:54:9
 returns-2 : tie.Need-returns-2
 unfolding transmitNoted
 returns-2 c = simp (eq-eqb _ _ (c .before .before .before .before .if2 .taken), eq-eqb _ _ (c .before .before .before .before .before .if1 .left)) (c .before .before .send-nothing .ensures)
 
--- src/notes.rt:56:5
 send-requires : tie.Need-send-requires
 send-requires c κs = search needs
 
--- src/notes.rt:46:1
 same-length-2 : tie.Need-same-length-2
 same-length-2 c = search needs
 
--- src/notes.rt:46:1
 returns-3 : tie.Need-returns-3
 unfolding transmitNoted
 returns-3 c = simp (ne-eqb _ _ (c .before .before .before .before .if2 .left), eq-eqb _ _ (c .before .before .before .before .before .if1 .left)) (c .before .before .send .ensures)

@@ -1,3 +1,4 @@
+-- `registers::notes::write` meets its contract. The block lent out of the slice, and put back. Assumes nothing.
 use Rattle.registers.proofs.PartLaws.{block-back}
 use borrow.Author.Needs.{needs}
 use Rattle.registers.proofs.notes.write.Statement.{statement}
@@ -6,27 +7,21 @@ use Rattle.registers.proofs.notes.write.Reads as reads
 use Rattle.registers.proofs.notes.write.Lts as lts
 use Rattle.register_block.proofs.write_at.Reads as write-at-reads
 
--- src/notes.rt:96:30
 sub-write-at : tie.Need-sub-write-at
 sub-write-at c = search needs
 
--- src/notes.rt:96:30
 part-write-at-start : tie.Need-part-write-at-start
 part-write-at-start c = search needs
 
--- src/notes.rt:96:30
 part-write-at-end : tie.Need-part-write-at-end
 part-write-at-end c = search needs
 
--- src/notes.rt:96:5
 write-at-requires : tie.Need-write-at-requires
 write-at-requires c κs = search needs
 
--- src/notes.rt:92:1
 same-length : tie.Need-same-length
 same-length c = search needs
 
--- src/notes.rt:92:1
 returns : tie.Need-returns
 returns c = block-back _ _ _ (c .before .before .write-at .ensures)
 

@@ -1,3 +1,4 @@
+-- `registers::quick::best_effort` meets its contract. The call on the record; then its note in the block. Assumes nothing.
 use native.Mathlib.Omega.{arith}
 use mathlib.Core.Path.{_∙_}
 use Rattle.registers.specs.Notes.{frameNoted}
@@ -13,51 +14,39 @@ use Rattle.registers.proofs.lengths.Reads as lengths-reads
 use Rattle.registers.proofs.notes.frame.Reads as frame-reads
 use Rattle.steps.proofs.refused.Reads as refused-reads
 
--- src/quick.rt:87:9
 lengths-requires : tie.Need-lengths-requires
 lengths-requires c κs = search needs
 
--- src/quick.rt:89:9
 refused-requires : tie.Need-refused-requires
 refused-requires c κs = search needs
 
--- src/quick.rt:89:9
 same-length : tie.Need-same-length
 same-length c = search needs
 
--- src/quick.rt:89:9
 same-length-2 : tie.Need-same-length-2
 same-length-2 c = search needs
 
--- src/quick.rt:89:9
 returns : tie.Need-returns
 returns c = short quicklyCalled _ _ _ _ _ (c .refused .ensures) (c .before .if1 .taken) (c .before .before .lengths .ensures)
 
--- src/quick.rt:91:42
 slice-relend-prefix-best-effort : tie.Need-slice-relend-prefix-best-effort
 slice-relend-prefix-best-effort c = let long = whole-port _ _ _ (c .if1 .left) (c .before .lengths .ensures) in omega (arith, long)
 
--- src/quick.rt:91:42
 slice-aggregate-best-effort : tie.Need-slice-aggregate-best-effort
 slice-aggregate-best-effort c = part-long _ _ _ (c .before .if1 .left) (c .before .before .lengths .ensures)
 
--- src/quick.rt:91:9
 best-effort-requires : tie.Need-best-effort-requires
 best-effort-requires c κs = search needs
 
--- src/quick.rt:92:5
 frame-requires : tie.Need-frame-requires
 frame-requires c κs = replaced-long _ _ _ (c .before .before .before .before .before .before .before .before .if1 .left) (c .before .before .before .before .before .before .before .before .before .lengths .ensures) (c .before .before .before .before .before .best-effort .last .0) (c .before .before .before .before .before .best-effort .kept .0)
 
--- src/quick.rt:84:1
 same-length-3 : tie.Need-same-length-3
 same-length-3 c = search needs
 
--- src/quick.rt:84:1
 same-length-4 : tie.Need-same-length-4
 same-length-4 c = search needs
 
--- src/quick.rt:84:1
 returns-2 : tie.Need-returns-2
 returns-2 c = done quicklyCalled _ _ _ _ _ _ _ _ (c .before .before .before .before .before .before .before .before .before .before .before .if1 .left) (c .before .before .before .before .before .before .before .before .before .before .before .before .lengths .ensures) (c .before .before .before .before .before .before .before .before .best-effort .ensures) (c .before .before .frame .ensures ∙ replaced-in _ _ _ (c .before .before .before .before .before .before .before .before .before .before .before .if1 .left) (c .before .before .before .before .before .before .before .before .before .before .before .before .lengths .ensures) (c .before .before .before .before .before .before .before .before .best-effort .last .0) (c .before .before .before .before .before .before .before .before .best-effort .kept .0) (frameNoted _))
 

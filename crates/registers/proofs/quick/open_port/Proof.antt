@@ -1,3 +1,4 @@
+-- `registers::quick::open_port` meets its contract. The call on the record; then its note in the block. Assumes nothing.
 use native.Mathlib.Omega.{arith}
 use mathlib.Core.Path.{_∙_}
 use Rattle.registers.specs.Notes.{openNoted}
@@ -13,43 +14,33 @@ use Rattle.registers.proofs.lengths.Reads as lengths-reads
 use Rattle.registers.proofs.notes.open.Reads as open-reads
 use Rattle.steps.proofs.refused.Reads as refused-reads
 
--- src/quick.rt:13:9
 lengths-requires : tie.Need-lengths-requires
 lengths-requires c κs = search needs
 
--- src/quick.rt:15:9
 refused-requires : tie.Need-refused-requires
 refused-requires c κs = search needs
 
--- src/quick.rt:15:9
 same-length : tie.Need-same-length
 same-length c = search needs
 
--- src/quick.rt:15:9
 returns : tie.Need-returns
 returns c = short quicklyCalled _ _ _ _ _ (c .refused .ensures) (c .before .if1 .taken) (c .before .before .lengths .ensures)
 
--- src/quick.rt:17:40
 slice-relend-prefix-open-port : tie.Need-slice-relend-prefix-open-port
 slice-relend-prefix-open-port c = let long = whole-port _ _ _ (c .if1 .left) (c .before .lengths .ensures) in omega (arith, long)
 
--- src/quick.rt:17:40
 slice-aggregate-open-port : tie.Need-slice-aggregate-open-port
 slice-aggregate-open-port c = part-long _ _ _ (c .before .if1 .left) (c .before .before .lengths .ensures)
 
--- src/quick.rt:17:9
 open-port-requires : tie.Need-open-port-requires
 open-port-requires c κs = search needs
 
--- src/quick.rt:18:5
 open-requires : tie.Need-open-requires
 open-requires c κs = replaced-long _ _ _ (c .before .before .before .before .before .if1 .left) (c .before .before .before .before .before .before .lengths .ensures) (c .before .before .before .open-port .last .0) (c .before .before .before .open-port .kept .0)
 
--- src/quick.rt:10:1
 same-length-2 : tie.Need-same-length-2
 same-length-2 c = search needs
 
--- src/quick.rt:10:1
 returns-2 : tie.Need-returns-2
 returns-2 c = done quicklyCalled _ _ _ _ _ _ _ _ (c .before .before .before .before .before .before .before .before .if1 .left) (c .before .before .before .before .before .before .before .before .before .lengths .ensures) (c .before .before .before .before .before .before .open-port .ensures) (c .before .before .open .ensures ∙ replaced-in _ _ _ (c .before .before .before .before .before .before .before .before .if1 .left) (c .before .before .before .before .before .before .before .before .before .lengths .ensures) (c .before .before .before .before .before .before .open-port .last .0) (c .before .before .before .before .before .before .open-port .kept .0) (openNoted _))
 

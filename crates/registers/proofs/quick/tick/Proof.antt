@@ -1,3 +1,4 @@
+-- `registers::quick::tick` meets its contract. The call on the record; then its note in the block. Assumes nothing.
 use native.Mathlib.Omega.{arith}
 use mathlib.Core.Path.{_∙_}
 use Rattle.registers.specs.Notes.{tickNoted}
@@ -13,43 +14,33 @@ use Rattle.registers.proofs.lengths.Reads as lengths-reads
 use Rattle.registers.proofs.notes.tick.Reads as notes-tick-reads
 use Rattle.steps.proofs.refused.Reads as refused-reads
 
--- src/quick.rt:61:9
 lengths-requires : tie.Need-lengths-requires
 lengths-requires c κs = search needs
 
--- src/quick.rt:63:9
 refused-requires : tie.Need-refused-requires
 refused-requires c κs = search needs
 
--- src/quick.rt:63:9
 same-length : tie.Need-same-length
 same-length c = search needs
 
--- src/quick.rt:63:9
 returns : tie.Need-returns
 returns c = short quicklyCalled _ _ _ _ _ (c .refused .ensures) (c .before .if1 .taken) (c .before .before .lengths .ensures)
 
--- src/quick.rt:65:35
 slice-relend-prefix-tick : tie.Need-slice-relend-prefix-tick
 slice-relend-prefix-tick c = let long = whole-port _ _ _ (c .if1 .left) (c .before .lengths .ensures) in omega (arith, long)
 
--- src/quick.rt:65:35
 slice-aggregate-tick : tie.Need-slice-aggregate-tick
 slice-aggregate-tick c = part-long _ _ _ (c .before .if1 .left) (c .before .before .lengths .ensures)
 
--- src/quick.rt:65:9
 tick-requires : tie.Need-tick-requires
 tick-requires c κs = search needs
 
--- src/quick.rt:66:5
 tick-requires-2 : tie.Need-tick-requires-2
 tick-requires-2 c κs = replaced-long _ _ _ (c .before .before .before .before .before .if1 .left) (c .before .before .before .before .before .before .lengths .ensures) (c .before .before .before .tick .last .0) (c .before .before .before .tick .kept .0)
 
--- src/quick.rt:58:1
 same-length-2 : tie.Need-same-length-2
 same-length-2 c = search needs
 
--- src/quick.rt:58:1
 returns-2 : tie.Need-returns-2
 returns-2 c = done quicklyCalled _ _ _ _ _ _ _ _ (c .before .before .before .before .before .before .before .before .if1 .left) (c .before .before .before .before .before .before .before .before .before .lengths .ensures) (c .before .before .before .before .before .before .tick .ensures) (c .before .before .tick2 .ensures ∙ replaced-in _ _ _ (c .before .before .before .before .before .before .before .before .if1 .left) (c .before .before .before .before .before .before .before .before .before .lengths .ensures) (c .before .before .before .before .before .before .tick .last .0) (c .before .before .before .before .before .before .tick .kept .0) (tickNoted _ _))
 

@@ -1,3 +1,4 @@
+-- `registers::quick::withdraw` meets its contract. The call on the record. Assumes nothing.
 use native.Mathlib.Omega.{arith}
 use mathlib.Core.Path.{refl}
 use Rattle.registers.proofs.PartLaws.{whole-port, part-long, short, done}
@@ -11,39 +12,30 @@ use Rattle.port.proofs.quick.withdraw.Reads as withdraw-reads
 use Rattle.registers.proofs.lengths.Reads as lengths-reads
 use Rattle.steps.proofs.refused.Reads as refused-reads
 
--- src/quick.rt:37:9
 lengths-requires : tie.Need-lengths-requires
 lengths-requires c κs = search needs
 
--- src/quick.rt:39:9
 refused-requires : tie.Need-refused-requires
 refused-requires c κs = search needs
 
--- src/quick.rt:39:9
 same-length : tie.Need-same-length
 same-length c = search needs
 
--- src/quick.rt:39:9
 returns : tie.Need-returns
 returns c = short quicklyCalled _ _ _ _ _ (c .refused .ensures) (c .before .if1 .taken) (c .before .before .lengths .ensures)
 
--- src/quick.rt:41:27
 slice-relend-prefix-withdraw : tie.Need-slice-relend-prefix-withdraw
 slice-relend-prefix-withdraw c = let long = whole-port _ _ _ (c .if1 .left) (c .before .lengths .ensures) in omega (arith, long)
 
--- src/quick.rt:41:27
 slice-aggregate-withdraw : tie.Need-slice-aggregate-withdraw
 slice-aggregate-withdraw c = part-long _ _ _ (c .before .if1 .left) (c .before .before .lengths .ensures)
 
--- src/quick.rt:41:5
 withdraw-requires : tie.Need-withdraw-requires
 withdraw-requires c κs = search needs
 
--- src/quick.rt:34:1
 same-length-2 : tie.Need-same-length-2
 same-length-2 c = search needs
 
--- src/quick.rt:34:1
 returns-2 : tie.Need-returns-2
 returns-2 c = done quicklyCalled _ _ _ _ _ _ _ _ (c .before .before .before .before .if1 .left) (c .before .before .before .before .before .lengths .ensures) (c .before .before .withdraw .ensures) refl
 
