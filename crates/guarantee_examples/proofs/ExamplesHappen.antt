@@ -1,5 +1,4 @@
 -- The examples are the events of lists of calls. Assumes nothing.
-use Prim.Native.Nat.{ℕ}
 use mathlib.Core.Path.{_≡_, refl}
 use mathlib.Core.List.{List, [], _∷_}
 use Rattle.lists.specs.Turns.{allTo, sumTo, listTo, iterate}

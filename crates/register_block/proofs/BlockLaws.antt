@@ -1,23 +1,22 @@
 -- What each change of the block does to each of its fields: every change keeps the length, a counter is raised by one modulo 4,294,967,296, and fields that
 -- lie apart keep what they hold. Assumes nothing.
 use Prim.Native.Nat.{ℕ, _+_, _%_, _^_, _≤_, _<_}
-use mathlib.Core.Path.{_≡_, refl, sym, ap, ap₂, _∙_}
+use mathlib.Core.Path.{_≡_, refl, ap, _∙_}
 use mathlib.Core.Bool.{Bool, true, false, cond}
 use mathlib.Core.List.{List, [], _∷_}
 use native.Mathlib.Omega.{arith}
 use lib.ListN.{length, getD, length-set}
 use lib.Seq.{getD-set-same}
 use lib.Dec.{eqb}
-use Rattle.lists.specs.Window.{put, get, Apart}
-use Rattle.lists.specs.Turns.{iterate}
+use Rattle.lists.specs.Window.{put, Apart}
 use Rattle.lists.proofs.WindowLaws.{length-put, getD-put, get-apart, get-put}
 use Rattle.lists.proofs.TurnLaws.{iterate-keeps, iterate-each}
 use Rattle.octets.specs.Numbers.{fourOf, fourOctets, twoOf}
 use Rattle.octets.proofs.NumberLaws.{four-octets}
-use Rattle.register_block.specs.Layout.{blockLength, WholeBlock, flagsOffset, maskOffset, discardFlag, purgeFlag, nothingFlag, flagCount, maskOctet}
+use Rattle.register_block.specs.Layout.{blockLength, WholeBlock}
 use Rattle.register_block.specs.Fields.{flagAt, withFlag, withoutFlag, wordAt, withWord, bitOf}
 use Rattle.register_block.specs.Events.{raised, zeroed}
-use Rattle.register_block.specs.Written.{clearedBy, writtenAt}
+use Rattle.register_block.specs.Written.{clearedBy}
 
 -- no change is one of the length
 module _ (b : List ℕ) where

@@ -1,7 +1,7 @@
 -- What a write to a register does to each field of the block, and when the interrupt line is up. Assumes nothing.
-use Prim.Native.Nat.{ℕ, zero, suc, _+_, _/_, _%_, _^_, _≤_, _<_}
-use mathlib.Core.Path.{_≡_, refl, sym, ap, ap₂, _∙_}
-use mathlib.Core.Bool.{Bool, true, false, cond, _&&_, _||_}
+use Prim.Native.Nat.{ℕ, zero, suc, _+_, _^_, _≤_, _<_}
+use mathlib.Core.Path.{_≡_, refl, ap, _∙_}
+use mathlib.Core.Bool.{Bool, true, false, cond, _&&_}
 use mathlib.Core.List.{List}
 use native.Mathlib.Omega.{arith}
 use lib.ListN.{length}
@@ -9,7 +9,7 @@ use lib.Dec.{eqb}
 use Rattle.register_block.specs.Layout.{WholeBlock, flagsOffset, maskOffset, discardFlag, purgeFlag, nothingFlag, flagCount, maskOctet, registerLength}
 use Rattle.register_block.specs.Fields.{flagAt, withoutFlag, wordAt, withWord, bitOf, bit0, bit1, bit2}
 use Rattle.register_block.specs.Written.{clearedBy, flagsCleared, writtenAt}
-use Rattle.register_block.proofs.BlockLaws.{length-unflag, length-word, length-cleared, word-word, word-apart, word-unflag, flag-word, flag-cleared, flag-cleared-other}
+use Rattle.register_block.proofs.BlockLaws.{length-word, length-cleared, word-word, word-apart, word-unflag, flag-word, flag-cleared, flag-cleared-other}
 
 -- the flags cleared: as long as before,
 length-flags : (number : ℕ) (b : List ℕ) → length (flagsCleared number b) ≡ length b

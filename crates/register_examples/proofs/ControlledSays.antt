@@ -1,8 +1,6 @@
 -- What demand 3 says of a list of control writes. Assumes nothing.
-use Prim.Native.Nat.{ℕ}
-use mathlib.Core.Path.{_≡_, refl, sym, ap, subst, _∙_}
-use mathlib.Core.List.{List, [], _∷_, _++_}
-use Rattle.lists.specs.Each.{All}
+use mathlib.Core.Path.{_≡_, refl, sym, subst, _∙_}
+use mathlib.Core.List.{List, [], _∷_}
 use Rattle.lists.specs.Turns.{allTo, sumTo, listTo, iterate}
 use Rattle.octets.specs.Numbers.{twoOf, fourOf}
 use Rattle.stream.specs.declared.Reply.{Reply}
@@ -30,7 +28,7 @@ use Rattle.registers.specs.Lent.{shortRefusal}
 use Rattle.registers.specs.Calls.{registered}
 use Rattle.registers.specs.Accesses.{named}
 use Rattle.guarantee.specs.Events.{Sent, none, Event, events}
-use Rattle.guarantee.specs.Claims.{PurgesNothing, LinkCondition, Prompt}
+use Rattle.guarantee.specs.Claims.{LinkCondition, Prompt}
 use Rattle.guarantee.specs.Demand3.{CallList, eventsIn, Promised}
 use Rattle.guarantee.specs.Instances.{quietTick, sentEvent}
 use Rattle.guarantee.proofs.Theorem.{quick-events}

@@ -1,13 +1,12 @@
 -- A port whose controller ticks and transmits by control writes, and what demand 3 says of it: each line follows from the theorem that its comment names, and
 -- would be lost with it.
-use Prim.Native.Nat.{ℕ}
 use mathlib.Core.Path.{_≡_}
 use mathlib.Core.List.{List, [], _∷_, _++_}
 use Rattle.lists.specs.Each.{All}
 use Rattle.stream.specs.declared.Reply.{Reply}
 use Rattle.stream.specs.State.{currentPlace}
 use Rattle.stream.specs.Replies.{granted}
-use Rattle.steps.specs.Call.{terms, opening, reserving, arriving, transmitting}
+use Rattle.steps.specs.Call.{terms, opening, reserving, arriving}
 use Rattle.port_laws.specs.Lists.{freshMemory}
 use Rattle.guarantee.specs.Events.{Marked, Sent, reservedSent, none, Event}
 use Rattle.guarantee.specs.Claims.{PurgesNothing, LinkCondition}

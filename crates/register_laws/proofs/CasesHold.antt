@@ -1,6 +1,6 @@
 -- The request's cases hold of the definitions. Assumes nothing.
 use mathlib.Core.Path.{_≡_, refl, sym, ap₂, _∙_}
-use mathlib.Core.List.{map, [], _∷_}
+use mathlib.Core.List.{map, _∷_}
 use Rattle.lists.specs.Turns.{allTo, sumTo, listTo, iterate}
 use Rattle.octets.specs.Numbers.{twoOf, fourOf}
 use Rattle.stream.specs.Steps.{attempt, arriveOf, tickOf}

@@ -1,10 +1,10 @@
 -- What the definitions of the claims say of happenings in hand, each by itself. Assumes nothing.
-use Prim.Native.Nat.{ℕ, _%_, _^_}
+use Prim.Native.Nat.{_%_, _^_}
 use mathlib.Core.Path.{_≡_, refl, sym, ap, subst, _∙_}
-use mathlib.Core.Bool.{true, false}
-use mathlib.Core.List.{List, [], _∷_, _++_}
+use mathlib.Core.Bool.{false}
+use mathlib.Core.List.{List, [], _∷_}
 use Rattle.stream.specs.Replies.{granted, refusedBy}
-use Rattle.steps.specs.Call.{terms, Call, opening, reserving, arriving, ticking, transmitting, joiningBestEffort, framing}
+use Rattle.steps.specs.Call.{terms, opening, reserving, arriving, ticking, transmitting, joiningBestEffort, framing}
 use Rattle.register_block.specs.Layout.{acceptedOctet, discardFlag, purgeFlag}
 use Rattle.register_block.specs.Fields.{wordAt, flagAt}
 use Rattle.port.specs.Calls.{called}
@@ -12,8 +12,8 @@ use Rattle.port_laws.specs.Lists.{replies}
 use Rattle.registers.specs.Lent.{recordPart, blockPart}
 use Rattle.registers.specs.Accesses.{named}
 use Rattle.register_laws.specs.Uses.{calling, reading, writing, callsOf, allCalls, openedBy, leftBy}
-use Rattle.register_laws.specs.Happenings.{Happening, replied, written, repliesIn, happeningsIn}
-use Rattle.register_laws.specs.History.{grantedOpen, acceptance, discard, purge, sending, nothingSent, isReply, clears, howMany, isThere, Counts, Flags, Reads, ReadsTell}
+use Rattle.register_laws.specs.Happenings.{Happening, replied, written, repliesIn}
+use Rattle.register_laws.specs.History.{acceptance, discard, purge, sending, nothingSent, isReply, clears, howMany, isThere, Counts, Flags, Reads, ReadsTell}
 use Rattle.register_laws.specs.Controls.{namedIn}
 use Rattle.register_laws.specs.Guaranteed.{Guaranteed}
 use Rattle.register_laws.specs.Cases.{controlUses}

@@ -21,8 +21,8 @@ use Rattle.register_block.specs.Written.{writtenAt}
 use Rattle.registers.specs.Lent.{inBlock, portRefusal}
 use Rattle.registers.specs.Calls.{portCall}
 use Rattle.registers.specs.Accesses.{offsetRefusal, named, inTurn, writtenBy, writeBy, registerWrite}
-use Rattle.register_laws.specs.Uses.{writing, used, lent, ran, callsOf}
-use Rattle.register_laws.specs.Happenings.{Happening, written, repliedTo, writeHappens, happenings, repliesIn}
+use Rattle.register_laws.specs.Uses.{used, lent}
+use Rattle.register_laws.specs.Happenings.{written, repliedTo, writeHappens, happenings, repliesIn}
 use Rattle.register_laws.specs.Controls.{controlWrites, namedIn, ControlNamed, ControlsNamed}
 use Rattle.register_laws.proofs.FollowLaws.{replies-after, in-turn-both, replies-both, control-calls, same-after}
 

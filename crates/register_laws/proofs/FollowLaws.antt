@@ -1,14 +1,14 @@
 -- In a list of calls and register accesses the record and the memory follow the calls alone, and the block follows what happens. Assumes nothing.
-use Prim.Native.Nat.{ℕ, _+_, _-_, _≤_}
+use Prim.Native.Nat.{ℕ, _+_, _-_}
 use mathlib.Core.Path.{_≡_, refl, sym, ap, ap₂, subst, _∙_}
-use mathlib.Core.Bool.{Bool, true, false, cond}
+use mathlib.Core.Bool.{Bool, cond}
 use mathlib.Core.Logic.{⊎-elim}
 use mathlib.Core.List.{List, [], _∷_, _++_}
 use native.Mathlib.Omega.{arith}
-use lib.ListN.{length, length-append, take-append-drop}
+use lib.ListN.{length, length-append}
 use lib.Seq.{take-at, drop-at}
 use lib.Dec.{eqb, ltb}
-use borrow.Author.Tests.{le-ltb, eq-eqb, ne-eqb}
+use borrow.Author.Tests.{le-ltb, ne-eqb}
 use Rattle.lists.proofs.Order.{eq-or-not}
 use Rattle.lists.proofs.EachLaws.{some-not-none}
 use Rattle.stream.specs.declared.Reply.{Reply}
@@ -16,7 +16,7 @@ use Rattle.stream.specs.Replies.{granted}
 use Rattle.record.specs.Layout.{recordLength, memoryLength}
 use Rattle.record.specs.Queues.{queuesAt}
 use Rattle.fitness.specs.Fit.{lentRefusal}
-use Rattle.steps.specs.Call.{Call, opening, reserving, withdrawing, arriving, ticking, transmitting, joiningBestEffort, binding, framing}
+use Rattle.steps.specs.Call.{Call}
 use Rattle.steps.specs.Outcome.{Outcome, outcome, gated, refused}
 use Rattle.steps.proofs.OutcomeLaws.{grants, refuses}
 use Rattle.port.specs.Calls.{called}

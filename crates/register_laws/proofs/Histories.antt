@@ -1,10 +1,9 @@
 -- The theorems of the counters and the flags over every list of uses from a granted Open. Assumes nothing.
 use Prim.Native.Nat.{ℕ, _+_, _%_, _^_, _≤_, _<_}
-use mathlib.Core.Path.{_≡_, refl, sym, ap, _∙_}
-use mathlib.Core.Bool.{Bool, false, _||_}
-use mathlib.Core.List.{List, _∷_, _++_}
+use mathlib.Core.Path.{ap, _∙_}
+use mathlib.Core.Bool.{Bool, _||_}
+use mathlib.Core.List.{List}
 use native.Mathlib.Omega.{arith}
-use lib.ListN.{length}
 use Rattle.stream.specs.declared.Reply.{Reply}
 use Rattle.register_block.specs.Layout.{WholeBlock, blockLength, flagCount, discardFlag, purgeFlag, nothingFlag, sentOctet, acceptedOctet, discardedOctet}
 use Rattle.register_block.specs.Fields.{wordAt, flagAt}

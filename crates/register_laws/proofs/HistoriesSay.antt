@@ -1,8 +1,8 @@
 -- What the theorems say of lists in hand. Assumes nothing.
 use Prim.Native.Nat.{ℕ, _%_, _^_}
 use mathlib.Core.Path.{_≡_, refl, sym, ap, subst, _∙_}
-use mathlib.Core.Bool.{Bool, true, false}
-use mathlib.Core.List.{List, map, [], _∷_, _++_}
+use mathlib.Core.Bool.{false}
+use mathlib.Core.List.{List, [], _∷_, _++_}
 use Rattle.lists.specs.Turns.{allTo, sumTo, listTo, iterate}
 use Rattle.octets.specs.Numbers.{twoOf, fourOf}
 use Rattle.stream.specs.Steps.{attempt, arriveOf, tickOf}
@@ -29,19 +29,16 @@ use Rattle.registers.specs.Lent.{inBlock, shortRefusal}
 use Rattle.registers.specs.Notes.{openNoted, frameNoted, tickNoted, transmitNoted}
 use Rattle.registers.specs.Calls.{registered}
 use Rattle.registers.specs.Accesses.{inTurn, offsetRefusal, readBy, named, writeBy}
-use Rattle.steps.specs.Call.{terms, opening}
-use Rattle.port_laws.specs.Lists.{freshMemory}
 use Rattle.lists.specs.Each.{All}
-use Rattle.stream.specs.declared.Reply.{Reply}
 use Rattle.stream.specs.Replies.{granted, refusedBy}
 use Rattle.steps.specs.Call.{Call, reserving, arriving, ticking, transmitting}
 use Rattle.registers.specs.Calls.{portCall}
 use Rattle.register_block.specs.Layout.{discardFlag, purgeFlag, nothingFlag}
 use Rattle.register_laws.specs.Uses.{lent}
 use Rattle.register_laws.specs.Happenings.{Happening, replied, written, happeningsIn}
-use Rattle.register_laws.specs.History.{Sort, acceptance, discard, purge, sending, nothingSent, isReply, howMany, isThere, clears, Reads}
-use Rattle.register_laws.specs.Controls.{controlWrites, namedIn}
-use Rattle.register_laws.specs.Cases.{freshPort, controlUses}
+use Rattle.register_laws.specs.History.{acceptance, discard, purge, sending, nothingSent, isReply, howMany, isThere, clears, Reads}
+use Rattle.register_laws.specs.Controls.{namedIn}
+use Rattle.register_laws.specs.Cases.{controlUses}
 use Rattle.register_laws.specs.Says.{Opens, listOf, clearedUses, HistoriesSay}
 use Rattle.register_laws.proofs.Histories.{discard-flags, purge-flags, nothing-flags}
 use Rattle.register_laws.proofs.ReadLaws.{reads-tell}

@@ -1,22 +1,18 @@
 -- Counters and flags tell the replies so far. Assumes nothing.
-use Prim.Native.Nat.{ℕ, _+_, _%_, _^_, _≤_, _<_}
-use mathlib.Core.Path.{_≡_, refl, sym, ap, ap₂, subst, _∙_}
-use mathlib.Core.Bool.{Bool, true, false, not, cond, _&&_, _||_}
+use Prim.Native.Nat.{ℕ, _+_, _%_, _^_}
+use mathlib.Core.Path.{_≡_, refl, ap, ap₂, _∙_}
+use mathlib.Core.Bool.{Bool, true, false, cond, _||_}
 use mathlib.Core.List.{List, [], _∷_, _++_}
 use native.Mathlib.Omega.{arith}
-use lib.ListN.{length}
-use lib.Dec.{eqb}
-use borrow.Author.Tests.{eq-eqb, ne-eqb}
 use Rattle.lists.specs.Each.{All}
 use Rattle.stream.specs.declared.Reply.{Reply}
-use Rattle.register_block.specs.Layout.{WholeBlock, blockLength, flagsOffset, maskOctet, registerLength, flagCount, discardFlag, purgeFlag, nothingFlag, sentOctet, acceptedOctet, discardedOctet}
-use Rattle.register_block.specs.Fields.{wordAt, flagAt, bitOf}
+use Rattle.register_block.specs.Layout.{WholeBlock, discardFlag, purgeFlag, nothingFlag, sentOctet, acceptedOctet, discardedOctet}
+use Rattle.register_block.specs.Fields.{wordAt, flagAt}
 use Rattle.register_block.specs.Events.{raised}
 use Rattle.register_block.proofs.BlockLaws.{length-raised, word-raised, word-raised-apart, word-flag, word-zeroed, flag-zeroed, flag-flag, flag-other, flag-raised}
 use Rattle.register_block.proofs.WrittenLaws.{word-written, flag-written}
-use Rattle.steps.specs.Call.{Call}
 use Rattle.register_laws.specs.Happenings.{Happening, replied, written, note, notedAll}
-use Rattle.register_laws.specs.History.{Sort, sortOf, grantedOpen, acceptance, discard, purge, sending, nothingSent, isReply, clears, howMany, isThere}
+use Rattle.register_laws.specs.History.{Sort, grantedOpen, acceptance, discard, purge, sending, nothingSent, isReply, clears, howMany, isThere}
 use Rattle.register_laws.proofs.NoteLaws.{length-note}
 use Rattle.register_laws.proofs.RuleLaws.{acceptance-told, discard-told, purge-told, sending-told, nothing-told}
 

@@ -1,23 +1,21 @@
 -- A list of uses from a granted Open: the block begins with zeros, and no later Open is granted. Assumes nothing.
 use Prim.Native.Nat.{ℕ}
-use mathlib.Core.Path.{_≡_, refl, sym, ap, ap₂, subst, _∙_}
+use mathlib.Core.Path.{_≡_, refl, sym, ap, ap₂, _∙_}
 use mathlib.Core.Bool.{Bool, true, false, cond}
-use mathlib.Core.Logic.{⊎-elim}
 use mathlib.Core.List.{List, [], _∷_, _++_}
 use native.Mathlib.Omega.{arith}
 use lib.ListN.{length}
 use lib.Dec.{eqb}
 use borrow.Author.Tests.{eq-eqb, ne-eqb}
-use Rattle.lists.proofs.Order.{eq-or-not}
 use Rattle.lists.specs.Each.{All}
 use Rattle.stream.specs.declared.Reply.{Reply}
-use Rattle.record.specs.Layout.{Whole, recordLength}
+use Rattle.record.specs.Layout.{Whole}
 use Rattle.record.specs.Head.{openAt}
 use Rattle.record.specs.Queues.{queuesAt, HasMemory}
 use Rattle.fitness.specs.Fit.{recordFits, lentRefusal}
 use Rattle.fitness.proofs.FitLaws.{fit-record, lent-fit}
 use Rattle.steps.specs.Call.{Terms, Call, opening, reserving, withdrawing, arriving, ticking, transmitting, joiningBestEffort, binding, framing}
-use Rattle.steps.specs.Outcome.{Outcome, outcome, gated}
+use Rattle.steps.specs.Outcome.{Outcome, gated}
 use Rattle.steps.proofs.OutcomeLaws.{grants, let-through}
 use Rattle.opening.specs.Opening.{openedRecord, openStep}
 use Rattle.gates.specs.Refusals.{openRefusal}
@@ -29,12 +27,12 @@ use Rattle.port_laws.proofs.OpenLaws.{opened-open, opened-queues}
 use Rattle.register_block.specs.Layout.{WholeBlock}
 use Rattle.register_block.specs.Events.{zeroed}
 use Rattle.registers.specs.Lent.{WholePort, recordPart, blockPart, shortRefusal}
-use Rattle.registers.specs.Notes.{openNoted, noted}
-use Rattle.registers.specs.Calls.{withNote, registered, portCall}
+use Rattle.registers.specs.Notes.{openNoted}
+use Rattle.registers.specs.Calls.{registered, portCall}
 use Rattle.registers.specs.Accesses.{inTurn, registerWrite}
-use Rattle.registers.proofs.PartLaws.{enough, record-long, block-long}
-use Rattle.register_laws.specs.Uses.{Use, calling, reading, writing, used, lent, ran, callsOf, allCalls, UseList, openedBy, leftBy}
-use Rattle.register_laws.specs.Happenings.{Happening, replied, written, repliedTo, writeHappens, happens, happenings, happeningsIn, notedAll}
+use Rattle.registers.proofs.PartLaws.{enough, block-long}
+use Rattle.register_laws.specs.Uses.{Use, calling, reading, writing, used, lent, callsOf, UseList, openedBy, leftBy}
+use Rattle.register_laws.specs.Happenings.{Happening, written, repliedTo, writeHappens, happens, happenings, happeningsIn, notedAll}
 use Rattle.register_laws.specs.History.{sortOf, grantedOpen, isReply}
 use Rattle.register_laws.proofs.FollowLaws.{Follows, call-follows, use-follows, list-follows}
 

@@ -7,12 +7,11 @@ use Rattle.octets.specs.Numbers.{fourOctets}
 use Rattle.stream.specs.declared.Reply.{Reply}
 use Rattle.stream.specs.Replies.{granted, refusedBy}
 use Rattle.record.specs.Layout.{recordLength}
-use Rattle.steps.specs.Call.{terms, opening, reserving, arriving, ticking, transmitting, joiningBestEffort}
+use Rattle.steps.specs.Call.{terms, opening, reserving, arriving, joiningBestEffort}
 use Rattle.steps.specs.Outcome.{Outcome}
-use Rattle.port_laws.specs.Lists.{freshMemory}
 use Rattle.register_block.specs.Layout.{acceptedOctet}
 use Rattle.registers.specs.Lent.{portLength}
-use Rattle.register_laws.specs.Uses.{Use, calling, reading, writing, quicklyUsed, used}
+use Rattle.register_laws.specs.Uses.{Use, calling, reading, writing}
 
 -- the slice of a port never opened, record and block
 abbrev pub freshPort : List ℕ

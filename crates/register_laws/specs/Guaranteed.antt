@@ -1,8 +1,6 @@
 -- Demand 3 over lists that hold register accesses: "a control write counts as the tick and the transmit that it makes".
-use Prim.Native.Nat.{ℕ}
 use mathlib.Core.Path.{_≡_}
-use mathlib.Core.List.{List, [], _∷_}
-use Rattle.steps.specs.Call.{Call, opening}
+use Rattle.steps.specs.Call.{opening}
 use Rattle.port.specs.Calls.{called}
 use Rattle.port_laws.specs.Lists.{replies}
 use Rattle.guarantee.specs.Demand3.{CallList, Demand3}

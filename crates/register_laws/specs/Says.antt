@@ -10,7 +10,7 @@ use Rattle.register_block.specs.Fields.{flagAt}
 use Rattle.registers.specs.Lent.{blockPart}
 use Rattle.registers.specs.Calls.{portCall}
 use Rattle.registers.specs.Accesses.{inTurn}
-use Rattle.register_laws.specs.Uses.{Use, calling, writing, lent, ran, UseList, leftBy}
+use Rattle.register_laws.specs.Uses.{Use, writing, lent, ran, UseList, leftBy}
 use Rattle.register_laws.specs.History.{Reads}
 use Rattle.register_laws.specs.Controls.{controlWrites}
 use Rattle.register_laws.specs.Cases.{freshPort, controlUses}

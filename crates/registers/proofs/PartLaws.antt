@@ -1,12 +1,12 @@
 -- The two parts of what the host lends for a port, the record and the register block: their lengths, and what is left of the slice when a part comes back.
 -- And what carries every call of both sorts: a refused one, and one that is made on the record and then noted in the block. Assumes nothing.
-use Prim.Native.Nat.{ℕ, _+_, _-_, _≤_}
+use Prim.Native.Nat.{ℕ, _+_, _-_}
 use mathlib.Core.Path.{_≡_, refl, sym, ap, ap₂, _∙_}
 use mathlib.Core.Bool.{Bool, true, false, cond}
 use mathlib.Core.Logic.{⊎-elim}
 use mathlib.Core.List.{List, [], _++_, append-nil}
 use native.Mathlib.Omega.{arith}
-use lib.ListN.{length, take, drop, length-append, length-drop, take-append-drop, drop-of-length-le}
+use lib.ListN.{length, length-append, length-drop, take-append-drop, drop-of-length-le}
 use lib.Seq.{length-take-le, take-at, drop-at}
 use lib.Dec.{ltb}
 use Rattle.lists.proofs.Order.{eq-or-not}

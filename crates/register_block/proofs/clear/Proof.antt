@@ -13,8 +13,6 @@ use Rattle.lists.specs.Window.{put}
 use native.Mathlib.Numerals.{add-one}
 use Rattle.register_block.proofs.clear.Statement.{statement}
 use Rattle.register_block.proofs.clear.Tie as tie
-use Rattle.register_block.proofs.clear.Reads as reads
-use Rattle.register_block.proofs.clear.Lts as lts
 
 abbrev Inv-loop : tie.InvT-loop
 Inv-loop block₀ octet₀ block octet = (octet ≤ blockLength) × ((length block ≡ length block₀) × (block ≡ iterate (λ i l. put l i (0 ∷ [])) octet block₀))

@@ -5,10 +5,6 @@ use Rattle.register_block.proofs.TestLaws.{first-of, second-of}
 use borrow.Author.Needs.{needs}
 use Rattle.register_block.proofs.clear_by.Statement.{statement}
 use Rattle.register_block.proofs.clear_by.Tie as tie
-use Rattle.register_block.proofs.clear_by.Reads as reads
-use Rattle.register_block.proofs.clear_by.Lts as lts
-use Rattle.register_block.proofs.bit_of.Reads as bit-of-reads
-use Rattle.register_block.proofs.drop_flag.Reads as drop-flag-reads
 
 bit-of-requires : tie.Need-bit-of-requires
 bit-of-requires c κs = search needs

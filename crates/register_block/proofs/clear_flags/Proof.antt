@@ -6,9 +6,6 @@ use Rattle.register_block.specs.Layout.{purgeFlag, nothingFlag}
 use borrow.Author.Needs.{needs}
 use Rattle.register_block.proofs.clear_flags.Statement.{statement}
 use Rattle.register_block.proofs.clear_flags.Tie as tie
-use Rattle.register_block.proofs.clear_flags.Reads as reads
-use Rattle.register_block.proofs.clear_flags.Lts as lts
-use Rattle.register_block.proofs.clear_by.Reads as clear-by-reads
 
 clear-by-requires : tie.Need-clear-by-requires
 clear-by-requires c κs = search needs

@@ -7,10 +7,6 @@ use Prim.Native.Nat.{ℕ}
 use borrow.Author.Needs.{needs}
 use Rattle.register_block.proofs.discard.Statement.{statement}
 use Rattle.register_block.proofs.discard.Tie as tie
-use Rattle.register_block.proofs.discard.Reads as reads
-use Rattle.register_block.proofs.discard.Lts as lts
-use Rattle.register_block.proofs.put_flag.Reads as put-flag-reads
-use Rattle.register_block.proofs.raise.Reads as raise-reads
 
 raise-requires : tie.Need-raise-requires
 raise-requires c κs = search needs

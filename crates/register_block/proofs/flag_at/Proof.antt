@@ -3,8 +3,6 @@ use Rattle.register_block.specs.Fields.{flagAt}
 use borrow.Author.Needs.{needs}
 use Rattle.register_block.proofs.flag_at.Statement.{statement}
 use Rattle.register_block.proofs.flag_at.Tie as tie
-use Rattle.register_block.proofs.flag_at.Reads as reads
-use Rattle.register_block.proofs.flag_at.Lts as lts
 
 shared-slice-read-result : tie.Need-shared-slice-read-result
 shared-slice-read-result c = search needs

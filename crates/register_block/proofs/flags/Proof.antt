@@ -7,10 +7,6 @@ use mathlib.Core.Bool.{Bool, cond}
 use borrow.Author.Needs.{needs}
 use Rattle.register_block.proofs.flags.Statement.{statement}
 use Rattle.register_block.proofs.flags.Tie as tie
-use Rattle.register_block.proofs.flags.Reads as reads
-use Rattle.register_block.proofs.flags.Lts as lts
-use Rattle.register_block.proofs.flag_at.Reads as flag-at-reads
-use Rattle.register_block.proofs.weighted.Reads as weighted-reads
 
 flag-at-requires : tie.Need-flag-at-requires
 flag-at-requires c κs = search needs

@@ -5,9 +5,6 @@ use Rattle.register_block.proofs.TestLaws.{or-true, or-second}
 use borrow.Author.Needs.{needs}
 use Rattle.register_block.proofs.line_up.Statement.{statement}
 use Rattle.register_block.proofs.line_up.Tie as tie
-use Rattle.register_block.proofs.line_up.Reads as reads
-use Rattle.register_block.proofs.line_up.Lts as lts
-use Rattle.register_block.proofs.shares_one.Reads as shares-one-reads
 
 shares-one-requires : tie.Need-shares-one-requires
 shares-one-requires c κs = search needs

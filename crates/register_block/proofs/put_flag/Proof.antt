@@ -3,8 +3,6 @@ use Rattle.register_block.specs.Fields.{withFlag}
 use borrow.Author.Needs.{needs}
 use Rattle.register_block.proofs.put_flag.Statement.{statement}
 use Rattle.register_block.proofs.put_flag.Tie as tie
-use Rattle.register_block.proofs.put_flag.Reads as reads
-use Rattle.register_block.proofs.put_flag.Lts as lts
 
 slice-write-block : tie.Need-slice-write-block
 slice-write-block c = search needs

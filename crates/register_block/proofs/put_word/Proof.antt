@@ -3,9 +3,6 @@ use Rattle.register_block.specs.Fields.{withWord}
 use borrow.Author.Needs.{needs}
 use Rattle.register_block.proofs.put_word.Statement.{statement}
 use Rattle.register_block.proofs.put_word.Tie as tie
-use Rattle.register_block.proofs.put_word.Reads as reads
-use Rattle.register_block.proofs.put_word.Lts as lts
-use Rattle.octets.proofs.put_four.Reads as put-four-reads
 
 put-four-requires : tie.Need-put-four-requires
 put-four-requires c κs = search needs

@@ -7,11 +7,6 @@ use Prim.Native.Nat.{ℕ, _^_}
 use borrow.Author.Needs.{needs}
 use Rattle.register_block.proofs.raise.Statement.{statement}
 use Rattle.register_block.proofs.raise.Tie as tie
-use Rattle.register_block.proofs.raise.Reads as reads
-use Rattle.register_block.proofs.raise.Lts as lts
-use Rattle.register_block.proofs.put_word.Reads as put-word-reads
-use Rattle.register_block.proofs.word_at.Reads as word-at-reads
-use Rattle.std.proofs.num.wrapping_add_u32.Reads as wrapping-add-u32-reads
 
 word-at-requires : tie.Need-word-at-requires
 word-at-requires c κs = search needs

@@ -4,11 +4,6 @@ use borrow.Author.Tests.{eq-eqb, ne-eqb}
 use borrow.Author.Needs.{needs}
 use Rattle.register_block.proofs.register_at.Statement.{statement}
 use Rattle.register_block.proofs.register_at.Tie as tie
-use Rattle.register_block.proofs.register_at.Reads as reads
-use Rattle.register_block.proofs.register_at.Lts as lts
-use Rattle.register_block.proofs.flags.Reads as flags-reads
-use Rattle.register_block.proofs.status.Reads as status-reads
-use Rattle.register_block.proofs.word_at.Reads as word-at-reads
 
 status-requires : tie.Need-status-requires
 status-requires c κs = search needs

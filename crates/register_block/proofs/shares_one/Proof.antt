@@ -7,11 +7,6 @@ use Rattle.register_block.proofs.TestLaws.{and-second, and-false}
 use borrow.Author.Needs.{needs}
 use Rattle.register_block.proofs.shares_one.Statement.{statement}
 use Rattle.register_block.proofs.shares_one.Tie as tie
-use Rattle.register_block.proofs.shares_one.Reads as reads
-use Rattle.register_block.proofs.shares_one.Lts as lts
-use Rattle.register_block.proofs.bit_of.Reads as bit-of-reads
-use Rattle.register_block.proofs.flag_at.Reads as flag-at-reads
-use Rattle.register_block.proofs.word_at.Reads as word-at-reads
 
 flag-at-requires : tie.Need-flag-at-requires
 flag-at-requires c κs = search needs

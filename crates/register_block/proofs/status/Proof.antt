@@ -7,10 +7,6 @@ use mathlib.Core.Bool.{Bool, cond}
 use borrow.Author.Needs.{needs}
 use Rattle.register_block.proofs.status.Statement.{statement}
 use Rattle.register_block.proofs.status.Tie as tie
-use Rattle.register_block.proofs.status.Reads as reads
-use Rattle.register_block.proofs.status.Lts as lts
-use Rattle.register_block.proofs.line_up.Reads as line-up-reads
-use Rattle.register_block.proofs.weighted.Reads as weighted-reads
 
 weighted-requires : tie.Need-weighted-requires
 weighted-requires c κs = search needs

@@ -3,9 +3,6 @@ use Rattle.register_block.specs.Fields.{wordAt}
 use borrow.Author.Needs.{needs}
 use Rattle.register_block.proofs.word_at.Statement.{statement}
 use Rattle.register_block.proofs.word_at.Tie as tie
-use Rattle.register_block.proofs.word_at.Reads as reads
-use Rattle.register_block.proofs.word_at.Lts as lts
-use Rattle.octets.proofs.four_at.Reads as four-at-reads
 
 four-at-requires : tie.Need-four-at-requires
 four-at-requires c κs = search needs

@@ -4,10 +4,6 @@ use borrow.Author.Tests.{eq-eqb, ne-eqb}
 use borrow.Author.Needs.{needs}
 use Rattle.register_block.proofs.write_at.Statement.{statement}
 use Rattle.register_block.proofs.write_at.Tie as tie
-use Rattle.register_block.proofs.write_at.Reads as reads
-use Rattle.register_block.proofs.write_at.Lts as lts
-use Rattle.register_block.proofs.clear_flags.Reads as clear-flags-reads
-use Rattle.register_block.proofs.put_word.Reads as put-word-reads
 
 clear-flags-requires : tie.Need-clear-flags-requires
 clear-flags-requires c κs = search needs

@@ -7,12 +7,6 @@ use Rattle.port.specs.Calls.{called}
 use borrow.Author.Needs.{needs}
 use Rattle.registers.proofs.arrive.Statement.{statement}
 use Rattle.registers.proofs.arrive.Tie as tie
-use Rattle.registers.proofs.arrive.Reads as reads
-use Rattle.registers.proofs.arrive.Lts as lts
-use Rattle.port.proofs.arrive.Reads as arrive-reads
-use Rattle.registers.proofs.lengths.Reads as lengths-reads
-use Rattle.registers.proofs.notes.frame.Reads as frame-reads
-use Rattle.steps.proofs.refused.Reads as refused-reads
 
 lengths-requires : tie.Need-lengths-requires
 lengths-requires c κs = search needs

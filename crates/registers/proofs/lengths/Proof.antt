@@ -10,9 +10,6 @@ use lib.Dec.{ltb}
 use borrow.Author.Needs.{needs}
 use Rattle.registers.proofs.lengths.Statement.{statement}
 use Rattle.registers.proofs.lengths.Tie as tie
-use Rattle.registers.proofs.lengths.Reads as reads
-use Rattle.registers.proofs.lengths.Lts as lts
-use Rattle.record.proofs.head.memory_length.Reads as memory-length-reads
 
 returns : tie.Need-returns
 unfolding shortRefusal

@@ -7,12 +7,6 @@ use Rattle.port.specs.Calls.{called}
 use borrow.Author.Needs.{needs}
 use Rattle.registers.proofs.open_port.Statement.{statement}
 use Rattle.registers.proofs.open_port.Tie as tie
-use Rattle.registers.proofs.open_port.Reads as reads
-use Rattle.registers.proofs.open_port.Lts as lts
-use Rattle.port.proofs.open_port.Reads as open-port-reads
-use Rattle.registers.proofs.lengths.Reads as lengths-reads
-use Rattle.registers.proofs.notes.open.Reads as open-reads
-use Rattle.steps.proofs.refused.Reads as refused-reads
 
 lengths-requires : tie.Need-lengths-requires
 lengths-requires c κs = search needs

@@ -7,12 +7,6 @@ use Rattle.port.specs.Calls.{called}
 use borrow.Author.Needs.{needs}
 use Rattle.registers.proofs.tick.Statement.{statement}
 use Rattle.registers.proofs.tick.Tie as tie
-use Rattle.registers.proofs.tick.Reads as reads
-use Rattle.registers.proofs.tick.Lts as lts
-use Rattle.port.proofs.tick.Reads as tick-reads
-use Rattle.registers.proofs.lengths.Reads as lengths-reads
-use Rattle.registers.proofs.notes.tick.Reads as notes-tick-reads
-use Rattle.steps.proofs.refused.Reads as refused-reads
 
 lengths-requires : tie.Need-lengths-requires
 lengths-requires c κs = search needs

@@ -7,12 +7,6 @@ use Rattle.port.specs.Calls.{called}
 use borrow.Author.Needs.{needs}
 use Rattle.registers.proofs.transmit.Statement.{statement}
 use Rattle.registers.proofs.transmit.Tie as tie
-use Rattle.registers.proofs.transmit.Reads as reads
-use Rattle.registers.proofs.transmit.Lts as lts
-use Rattle.port.proofs.transmit.Reads as transmit-reads
-use Rattle.registers.proofs.lengths.Reads as lengths-reads
-use Rattle.registers.proofs.notes.transmit.Reads as notes-transmit-reads
-use Rattle.steps.proofs.refused.Reads as refused-reads
 
 lengths-requires : tie.Need-lengths-requires
 lengths-requires c κs = search needs

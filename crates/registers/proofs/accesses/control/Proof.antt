@@ -6,12 +6,6 @@ use mathlib.Core.Bool.{true, false}
 use borrow.Author.Needs.{needs}
 use Rattle.registers.proofs.accesses.control.Statement.{statement}
 use Rattle.registers.proofs.accesses.control.Tie as tie
-use Rattle.registers.proofs.accesses.control.Reads as reads
-use Rattle.registers.proofs.accesses.control.Lts as lts
-use Rattle.register_block.proofs.bit_of.Reads as bit-of-reads
-use Rattle.registers.proofs.accesses.put.Reads as put-reads
-use Rattle.registers.proofs.tick.Reads as tick-reads
-use Rattle.registers.proofs.transmit.Reads as transmit-reads
 
 bit-of-requires : tie.Need-bit-of-requires
 bit-of-requires c κs = search needs

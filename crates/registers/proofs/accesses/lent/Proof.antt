@@ -4,10 +4,6 @@ use Rattle.fitness.specs.Fit.{lentRefusal}
 use borrow.Author.Needs.{needs}
 use Rattle.registers.proofs.accesses.lent.Statement.{statement}
 use Rattle.registers.proofs.accesses.lent.Tie as tie
-use Rattle.registers.proofs.accesses.lent.Reads as reads
-use Rattle.registers.proofs.accesses.lent.Lts as lts
-use Rattle.fitness.proofs.refusal.Reads as refusal-reads
-use Rattle.registers.proofs.lengths.Reads as lengths-reads
 
 lengths-requires : tie.Need-lengths-requires
 lengths-requires c κs = search needs

@@ -4,10 +4,6 @@ use Rattle.port.specs.Quick.{lengthRefusal}
 use borrow.Author.Needs.{needs}
 use Rattle.registers.proofs.accesses.lent_lengths.Statement.{statement}
 use Rattle.registers.proofs.accesses.lent_lengths.Tie as tie
-use Rattle.registers.proofs.accesses.lent_lengths.Reads as reads
-use Rattle.registers.proofs.accesses.lent_lengths.Lts as lts
-use Rattle.port.proofs.quick.lengths.Reads as quick-lengths-reads
-use Rattle.registers.proofs.lengths.Reads as lengths-reads
 
 lengths-requires : tie.Need-lengths-requires
 lengths-requires c κs = search needs

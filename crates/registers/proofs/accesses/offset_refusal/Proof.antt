@@ -3,8 +3,6 @@ use Rattle.registers.specs.Accesses.{offsetRefusal}
 use borrow.Author.Tests.{eq-eqb, ne-eqb, lt-ltb, le-ltb}
 use Rattle.registers.proofs.accesses.offset_refusal.Statement.{statement}
 use Rattle.registers.proofs.accesses.offset_refusal.Tie as tie
-use Rattle.registers.proofs.accesses.offset_refusal.Reads as reads
-use Rattle.registers.proofs.accesses.offset_refusal.Lts as lts
 
 returns : tie.Need-returns
 unfolding offsetRefusal

@@ -6,12 +6,6 @@ use Rattle.fitness.specs.Fit.{lentRefusal}
 use borrow.Author.Needs.{needs}
 use Rattle.registers.proofs.accesses.put.Statement.{statement}
 use Rattle.registers.proofs.accesses.put.Tie as tie
-use Rattle.registers.proofs.accesses.put.Reads as reads
-use Rattle.registers.proofs.accesses.put.Lts as lts
-use Rattle.registers.proofs.accesses.lent.Reads as lent-reads
-use Rattle.registers.proofs.notes.write.Reads as write-reads
-use Rattle.steps.proofs.granted.Reads as granted-reads
-use Rattle.steps.proofs.refused.Reads as refused-reads
 
 lent-requires : tie.Need-lent-requires
 lent-requires c κs = search needs

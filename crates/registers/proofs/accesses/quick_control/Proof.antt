@@ -5,12 +5,6 @@ use mathlib.Core.Bool.{true, false}
 use borrow.Author.Needs.{needs}
 use Rattle.registers.proofs.accesses.quick_control.Statement.{statement}
 use Rattle.registers.proofs.accesses.quick_control.Tie as tie
-use Rattle.registers.proofs.accesses.quick_control.Reads as reads
-use Rattle.registers.proofs.accesses.quick_control.Lts as lts
-use Rattle.register_block.proofs.bit_of.Reads as bit-of-reads
-use Rattle.registers.proofs.accesses.quick_put.Reads as quick-put-reads
-use Rattle.registers.proofs.quick.tick.Reads as tick-reads
-use Rattle.registers.proofs.quick.transmit.Reads as transmit-reads
 
 bit-of-requires : tie.Need-bit-of-requires
 bit-of-requires c κs = search needs

@@ -6,12 +6,6 @@ use Rattle.port.specs.Quick.{lengthRefusal}
 use borrow.Author.Needs.{needs}
 use Rattle.registers.proofs.accesses.quick_put.Statement.{statement}
 use Rattle.registers.proofs.accesses.quick_put.Tie as tie
-use Rattle.registers.proofs.accesses.quick_put.Reads as reads
-use Rattle.registers.proofs.accesses.quick_put.Lts as lts
-use Rattle.registers.proofs.accesses.lent_lengths.Reads as lent-lengths-reads
-use Rattle.registers.proofs.notes.write.Reads as write-reads
-use Rattle.steps.proofs.granted.Reads as granted-reads
-use Rattle.steps.proofs.refused.Reads as refused-reads
 
 lent-lengths-requires : tie.Need-lent-lengths-requires
 lent-lengths-requires c κs = search needs

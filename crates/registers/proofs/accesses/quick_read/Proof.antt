@@ -9,13 +9,6 @@ use Prim.Native.Nat.{ℕ}
 use borrow.Author.Needs.{needs}
 use Rattle.registers.proofs.accesses.quick_read.Statement.{statement}
 use Rattle.registers.proofs.accesses.quick_read.Tie as tie
-use Rattle.registers.proofs.accesses.quick_read.Reads as reads
-use Rattle.registers.proofs.accesses.quick_read.Lts as lts
-use Rattle.registers.proofs.accesses.lent_lengths.Reads as lent-lengths-reads
-use Rattle.registers.proofs.accesses.offset_refusal.Reads as offset-refusal-reads
-use Rattle.registers.proofs.accesses.register_at.Reads as register-at-reads
-use Rattle.steps.proofs.granted.Reads as granted-reads
-use Rattle.steps.proofs.refused.Reads as refused-reads
 
 offset-refusal-requires : tie.Need-offset-refusal-requires
 offset-refusal-requires c κs = search needs

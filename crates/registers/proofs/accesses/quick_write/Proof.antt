@@ -6,12 +6,6 @@ use Rattle.port.specs.Quick.{quicklyCalled, lengthRefusal}
 use borrow.Author.Needs.{needs}
 use Rattle.registers.proofs.accesses.quick_write.Statement.{statement}
 use Rattle.registers.proofs.accesses.quick_write.Tie as tie
-use Rattle.registers.proofs.accesses.quick_write.Reads as reads
-use Rattle.registers.proofs.accesses.quick_write.Lts as lts
-use Rattle.registers.proofs.accesses.offset_refusal.Reads as offset-refusal-reads
-use Rattle.registers.proofs.accesses.quick_control.Reads as quick-control-reads
-use Rattle.registers.proofs.accesses.quick_put.Reads as quick-put-reads
-use Rattle.steps.proofs.refused.Reads as refused-reads
 
 offset-refusal-requires : tie.Need-offset-refusal-requires
 offset-refusal-requires c κs = search needs

@@ -8,10 +8,6 @@ use Rattle.register_block.specs.Shown.{registerAt}
 use borrow.Author.Needs.{needs}
 use Rattle.registers.proofs.accesses.register_at.Statement.{statement}
 use Rattle.registers.proofs.accesses.register_at.Tie as tie
-use Rattle.registers.proofs.accesses.register_at.Reads as reads
-use Rattle.registers.proofs.accesses.register_at.Lts as lts
-use Rattle.record.proofs.head.is_open.Reads as is-open-reads
-use Rattle.register_block.proofs.register_at.Reads as register-at-reads
 
 is-open-requires : tie.Need-is-open-requires
 is-open-requires c κs = search needs

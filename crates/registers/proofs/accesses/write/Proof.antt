@@ -7,12 +7,6 @@ use Rattle.fitness.specs.Fit.{lentRefusal}
 use borrow.Author.Needs.{needs}
 use Rattle.registers.proofs.accesses.write.Statement.{statement}
 use Rattle.registers.proofs.accesses.write.Tie as tie
-use Rattle.registers.proofs.accesses.write.Reads as reads
-use Rattle.registers.proofs.accesses.write.Lts as lts
-use Rattle.registers.proofs.accesses.control.Reads as control-reads
-use Rattle.registers.proofs.accesses.offset_refusal.Reads as offset-refusal-reads
-use Rattle.registers.proofs.accesses.put.Reads as put-reads
-use Rattle.steps.proofs.refused.Reads as refused-reads
 
 offset-refusal-requires : tie.Need-offset-refusal-requires
 offset-refusal-requires c κs = search needs

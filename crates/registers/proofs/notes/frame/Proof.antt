@@ -3,9 +3,6 @@ use Rattle.registers.proofs.PartLaws.{block-back}
 use borrow.Author.Needs.{needs}
 use Rattle.registers.proofs.notes.frame.Statement.{statement}
 use Rattle.registers.proofs.notes.frame.Tie as tie
-use Rattle.registers.proofs.notes.frame.Reads as reads
-use Rattle.registers.proofs.notes.frame.Lts as lts
-use Rattle.registers.proofs.notes.frame_in.Reads as frame-in-reads
 
 sub-frame-in : tie.Need-sub-frame-in
 sub-frame-in c = search needs

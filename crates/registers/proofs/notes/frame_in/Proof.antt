@@ -4,10 +4,6 @@ use borrow.Author.Tests.{eq-eqb, ne-eqb}
 use borrow.Author.Needs.{needs}
 use Rattle.registers.proofs.notes.frame_in.Statement.{statement}
 use Rattle.registers.proofs.notes.frame_in.Tie as tie
-use Rattle.registers.proofs.notes.frame_in.Reads as reads
-use Rattle.registers.proofs.notes.frame_in.Lts as lts
-use Rattle.register_block.proofs.accept.Reads as accept-reads
-use Rattle.register_block.proofs.discard.Reads as discard-reads
 
 accept-requires : tie.Need-accept-requires
 accept-requires c κs = search needs

@@ -3,9 +3,6 @@ use Rattle.registers.proofs.PartLaws.{block-back}
 use borrow.Author.Needs.{needs}
 use Rattle.registers.proofs.notes.open.Statement.{statement}
 use Rattle.registers.proofs.notes.open.Tie as tie
-use Rattle.registers.proofs.notes.open.Reads as reads
-use Rattle.registers.proofs.notes.open.Lts as lts
-use Rattle.registers.proofs.notes.open_in.Reads as open-in-reads
 
 sub-open-in : tie.Need-sub-open-in
 sub-open-in c = search needs

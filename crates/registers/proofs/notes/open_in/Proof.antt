@@ -4,9 +4,6 @@ use borrow.Author.Tests.{eq-eqb, ne-eqb}
 use borrow.Author.Needs.{needs}
 use Rattle.registers.proofs.notes.open_in.Statement.{statement}
 use Rattle.registers.proofs.notes.open_in.Tie as tie
-use Rattle.registers.proofs.notes.open_in.Reads as reads
-use Rattle.registers.proofs.notes.open_in.Lts as lts
-use Rattle.register_block.proofs.clear.Reads as clear-reads
 
 clear-requires : tie.Need-clear-requires
 clear-requires c κs = search needs

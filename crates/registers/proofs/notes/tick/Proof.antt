@@ -3,9 +3,6 @@ use Rattle.registers.proofs.PartLaws.{block-back}
 use borrow.Author.Needs.{needs}
 use Rattle.registers.proofs.notes.tick.Statement.{statement}
 use Rattle.registers.proofs.notes.tick.Tie as tie
-use Rattle.registers.proofs.notes.tick.Reads as reads
-use Rattle.registers.proofs.notes.tick.Lts as lts
-use Rattle.registers.proofs.notes.tick_in.Reads as tick-in-reads
 
 sub-tick-in : tie.Need-sub-tick-in
 sub-tick-in c = search needs

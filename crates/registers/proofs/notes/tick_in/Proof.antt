@@ -4,9 +4,6 @@ use borrow.Author.Tests.{eq-eqb, ne-eqb}
 use borrow.Author.Needs.{needs}
 use Rattle.registers.proofs.notes.tick_in.Statement.{statement}
 use Rattle.registers.proofs.notes.tick_in.Tie as tie
-use Rattle.registers.proofs.notes.tick_in.Reads as reads
-use Rattle.registers.proofs.notes.tick_in.Lts as lts
-use Rattle.register_block.proofs.purge.Reads as purge-reads
 
 returns : tie.Need-returns
 unfolding tickNoted

@@ -3,9 +3,6 @@ use Rattle.registers.proofs.PartLaws.{block-back}
 use borrow.Author.Needs.{needs}
 use Rattle.registers.proofs.notes.transmit.Statement.{statement}
 use Rattle.registers.proofs.notes.transmit.Tie as tie
-use Rattle.registers.proofs.notes.transmit.Reads as reads
-use Rattle.registers.proofs.notes.transmit.Lts as lts
-use Rattle.registers.proofs.notes.transmit_in.Reads as transmit-in-reads
 
 sub-transmit-in : tie.Need-sub-transmit-in
 sub-transmit-in c = search needs

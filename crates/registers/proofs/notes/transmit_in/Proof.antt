@@ -4,10 +4,6 @@ use borrow.Author.Tests.{eq-eqb, ne-eqb}
 use borrow.Author.Needs.{needs}
 use Rattle.registers.proofs.notes.transmit_in.Statement.{statement}
 use Rattle.registers.proofs.notes.transmit_in.Tie as tie
-use Rattle.registers.proofs.notes.transmit_in.Reads as reads
-use Rattle.registers.proofs.notes.transmit_in.Lts as lts
-use Rattle.register_block.proofs.send.Reads as send-reads
-use Rattle.register_block.proofs.send_nothing.Reads as send-nothing-reads
 
 returns : tie.Need-returns
 unfolding transmitNoted

@@ -3,9 +3,6 @@ use Rattle.registers.proofs.PartLaws.{block-back}
 use borrow.Author.Needs.{needs}
 use Rattle.registers.proofs.notes.write.Statement.{statement}
 use Rattle.registers.proofs.notes.write.Tie as tie
-use Rattle.registers.proofs.notes.write.Reads as reads
-use Rattle.registers.proofs.notes.write.Lts as lts
-use Rattle.register_block.proofs.write_at.Reads as write-at-reads
 
 sub-write-at : tie.Need-sub-write-at
 sub-write-at c = search needs

@@ -7,12 +7,6 @@ use Rattle.port.specs.Quick.{quicklyCalled}
 use borrow.Author.Needs.{needs}
 use Rattle.registers.proofs.quick.best_effort.Statement.{statement}
 use Rattle.registers.proofs.quick.best_effort.Tie as tie
-use Rattle.registers.proofs.quick.best_effort.Reads as reads
-use Rattle.registers.proofs.quick.best_effort.Lts as lts
-use Rattle.port.proofs.quick.best_effort.Reads as best-effort-reads
-use Rattle.registers.proofs.lengths.Reads as lengths-reads
-use Rattle.registers.proofs.notes.frame.Reads as frame-reads
-use Rattle.steps.proofs.refused.Reads as refused-reads
 
 lengths-requires : tie.Need-lengths-requires
 lengths-requires c κs = search needs

@@ -6,11 +6,6 @@ use Rattle.port.specs.Quick.{quicklyCalled}
 use borrow.Author.Needs.{needs}
 use Rattle.registers.proofs.quick.bind.Statement.{statement}
 use Rattle.registers.proofs.quick.bind.Tie as tie
-use Rattle.registers.proofs.quick.bind.Reads as reads
-use Rattle.registers.proofs.quick.bind.Lts as lts
-use Rattle.port.proofs.quick.bind.Reads as bind-reads
-use Rattle.registers.proofs.lengths.Reads as lengths-reads
-use Rattle.steps.proofs.refused.Reads as refused-reads
 
 lengths-requires : tie.Need-lengths-requires
 lengths-requires c κs = search needs

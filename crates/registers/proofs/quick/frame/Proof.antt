@@ -7,12 +7,6 @@ use Rattle.port.specs.Quick.{quicklyCalled}
 use borrow.Author.Needs.{needs}
 use Rattle.registers.proofs.quick.frame.Statement.{statement}
 use Rattle.registers.proofs.quick.frame.Tie as tie
-use Rattle.registers.proofs.quick.frame.Reads as reads
-use Rattle.registers.proofs.quick.frame.Lts as lts
-use Rattle.port.proofs.quick.frame.Reads as quick-frame-reads
-use Rattle.registers.proofs.lengths.Reads as lengths-reads
-use Rattle.registers.proofs.notes.frame.Reads as notes-frame-reads
-use Rattle.steps.proofs.refused.Reads as refused-reads
 
 lengths-requires : tie.Need-lengths-requires
 lengths-requires c κs = search needs

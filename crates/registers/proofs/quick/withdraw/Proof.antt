@@ -6,11 +6,6 @@ use Rattle.port.specs.Quick.{quicklyCalled}
 use borrow.Author.Needs.{needs}
 use Rattle.registers.proofs.quick.withdraw.Statement.{statement}
 use Rattle.registers.proofs.quick.withdraw.Tie as tie
-use Rattle.registers.proofs.quick.withdraw.Reads as reads
-use Rattle.registers.proofs.quick.withdraw.Lts as lts
-use Rattle.port.proofs.quick.withdraw.Reads as withdraw-reads
-use Rattle.registers.proofs.lengths.Reads as lengths-reads
-use Rattle.steps.proofs.refused.Reads as refused-reads
 
 lengths-requires : tie.Need-lengths-requires
 lengths-requires c κs = search needs
