@@ -19,7 +19,7 @@ use Rattle.guarantee_examples.proofs.OffersTest.{within-holds}
 use Rattle.guarantee_examples.proofs.StaysTest.{stays-hold}
 use Rattle.guarantee_examples.proofs.AddUp.{crowded-six}
 use Rattle.guarantee_examples.proofs.Applied.{by-numbers, promised-of, alike-of, records-of, says-of, marks-of, not-by-host-of, only}
-use Rattle.guarantee_examples.proofs.OpenPartsHappen.{crowded-made, listOf}
+use Rattle.guarantee_examples.proofs.OpenPartsHappen.{crowded-made, listOf, happened}
 
 module _ (reply : Reply) (sent : Sent) (said shown : Reply) where
   abbrev third : Event
@@ -61,7 +61,7 @@ fourth-tick reply happens =
 
 -- `crowded` as it was made
 crowded-happens : Happens crowded
-crowded-happens = record { list = listOf crowded-made; so = crowded-made .so }
+crowded-happens = record { list = listOf crowded-made; so = happened crowded-made }
 
 -- the events of `crowded` before its third transmit
 abbrev beforeThird : List Event

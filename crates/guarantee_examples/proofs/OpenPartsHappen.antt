@@ -1,7 +1,7 @@
 -- The lists with open parts happen as they are written, on a port never opened. Assumes nothing.
 use Prim.Native.Nat.{ℕ}
 use mathlib.Core.Bool.{false}
-use mathlib.Core.Path.{_≡_, refl}
+use mathlib.Core.Path.{_≡_, refl, sym, _∙_}
 use mathlib.Core.List.{List, _∷_}
 use Rattle.lists.specs.Turns.{allTo, sumTo, listTo, iterate}
 use Rattle.lists.specs.Equal.{octetsEqual}
@@ -33,29 +33,33 @@ use Rattle.port_laws.specs.Lists.{freshRecord, freshMemory}
 use Rattle.guarantee.specs.Events.{Event, events}
 use Rattle.guarantee.specs.Demand3.{CallList}
 use Rattle.guarantee_examples.specs.Examples.{busy, permitted100}
+use Rattle.guarantee.proofs.Theorem.{quick-events}
+use Rattle.guarantee_examples.proofs.Quickly.{quickList}
 use Rattle.guarantee_examples.specs.Derived.{TagsKept}
 use Rattle.guarantee_examples.specs.LeftOpen.{laterCalls, crowded, busyWith, busySecond, busyThird, purgesNone, nearly, aloneCalls, alone, arrivedWith, discards, unfitRecord}
 
--- a list of calls that is made on a port never opened, and its events
+-- a list of calls that is made on a port never opened, and its events, by the quick calls
 pub record OnFresh (link delay : ℕ) (later : List Call) (es : List Event) : Type 0 where
-  pub opened : called (opening (terms link delay)) freshRecord freshMemory .reply .refusal ≡ 0
-  pub so : events called (opening (terms link delay) ∷ later) freshRecord freshMemory ≡ es
+  pub opened : quicklyCalled (opening (terms link delay)) freshRecord freshMemory .reply .refusal ≡ 0
+  pub so : events quicklyCalled (opening (terms link delay) ∷ later) freshRecord freshMemory ≡ es
 
--- as a list of calls
+-- as a list of calls, and its events by the calls
 abbrev pub listOf : {link delay : ℕ} {later : List Call} {es : List Event} → OnFresh link delay later es → CallList
-listOf {link} {delay} {later} made =
-    record { port = freshRecord; memory = freshMemory; terms = terms link delay; later = later; opened = made .opened }
+listOf {link} {delay} {later} made = quickList link delay (made .opened) later
+
+pub happened : {link delay : ℕ} {later : List Call} {es : List Event} (made : OnFresh link delay later es) → events called (opening (terms link delay) ∷ later) freshRecord freshMemory ≡ es
+happened made = sym (quick-events (listOf made)) ∙ made .so
 
 pub crowded-made : OnFresh (linkOf 600) 1 (laterCalls crowded) crowded
-unfolding allTo sumTo listTo iterate twoOf fourOf attempt arriveOf tickOf frameAt withFrame joinedMemory frontOf waiting openAt withOpen priorAt withPrior delayAt withDelay linkAt withLink waitsAt withWaits queueAt queuesAt withQueue streamAt withStream withPlace drainAt drainsAt boundAt vidAt addressAt withBinding dropped recordFits lentRefusal roleAt openedRecord arriveStep drainedAt tickedRecord tickStep transmitStep bestEffortStep openRefusal reserveRefusal arriveRefusal closedRefusal bestEffortRefusal bindRefusal frameRefusal lookupFrom lookup frameLookup octetsEqual chargeOf lengthFits taggedFrame vidOf
+unfolding allTo sumTo listTo iterate twoOf fourOf attempt arriveOf tickOf frameAt withFrame joinedMemory frontOf waiting openAt withOpen priorAt withPrior delayAt withDelay linkAt withLink waitsAt withWaits queueAt queuesAt withQueue streamAt withStream withPlace drainAt drainsAt boundAt vidAt addressAt withBinding dropped roleAt openedRecord arriveStep drainedAt tickedRecord tickStep transmitStep bestEffortStep openRefusal reserveRefusal arriveRefusal closedRefusal bestEffortRefusal bindRefusal frameRefusal lookupFrom lookup frameLookup octetsEqual chargeOf lengthFits taggedFrame vidOf lengthRefusal
 crowded-made = record { opened = refl; so = refl }
 
 pub nearly-made : OnFresh (linkOf 600) 1 (laterCalls nearly) nearly
-unfolding allTo sumTo listTo iterate twoOf fourOf attempt arriveOf tickOf frameAt withFrame joinedMemory frontOf waiting openAt withOpen priorAt withPrior delayAt withDelay linkAt withLink waitsAt withWaits queueAt queuesAt withQueue streamAt withStream withPlace drainAt drainsAt boundAt vidAt addressAt withBinding dropped recordFits lentRefusal roleAt openedRecord arriveStep drainedAt tickedRecord tickStep transmitStep bestEffortStep openRefusal reserveRefusal arriveRefusal closedRefusal bestEffortRefusal bindRefusal frameRefusal lookupFrom lookup frameLookup octetsEqual chargeOf lengthFits taggedFrame vidOf
+unfolding allTo sumTo listTo iterate twoOf fourOf attempt arriveOf tickOf frameAt withFrame joinedMemory frontOf waiting openAt withOpen priorAt withPrior delayAt withDelay linkAt withLink waitsAt withWaits queueAt queuesAt withQueue streamAt withStream withPlace drainAt drainsAt boundAt vidAt addressAt withBinding dropped roleAt openedRecord arriveStep drainedAt tickedRecord tickStep transmitStep bestEffortStep openRefusal reserveRefusal arriveRefusal closedRefusal bestEffortRefusal bindRefusal frameRefusal lookupFrom lookup frameLookup octetsEqual chargeOf lengthFits taggedFrame vidOf lengthRefusal
 nearly-made = record { opened = refl; so = refl }
 
 pub alone-made : OnFresh (linkOf 200) 3 aloneCalls alone
-unfolding allTo sumTo listTo iterate twoOf fourOf attempt arriveOf tickOf frameAt withFrame joinedMemory frontOf waiting openAt withOpen priorAt withPrior delayAt withDelay linkAt withLink waitsAt withWaits queueAt queuesAt withQueue streamAt withStream withPlace drainAt drainsAt boundAt vidAt addressAt withBinding dropped recordFits lentRefusal roleAt openedRecord arriveStep drainedAt tickedRecord tickStep transmitStep bestEffortStep openRefusal reserveRefusal arriveRefusal closedRefusal bestEffortRefusal bindRefusal frameRefusal lookupFrom lookup frameLookup octetsEqual chargeOf lengthFits taggedFrame vidOf
+unfolding allTo sumTo listTo iterate twoOf fourOf attempt arriveOf tickOf frameAt withFrame joinedMemory frontOf waiting openAt withOpen priorAt withPrior delayAt withDelay linkAt withLink waitsAt withWaits queueAt queuesAt withQueue streamAt withStream withPlace drainAt drainsAt boundAt vidAt addressAt withBinding dropped roleAt openedRecord arriveStep drainedAt tickedRecord tickStep transmitStep bestEffortStep openRefusal reserveRefusal arriveRefusal closedRefusal bestEffortRefusal bindRefusal frameRefusal lookupFrom lookup frameLookup octetsEqual chargeOf lengthFits taggedFrame vidOf lengthRefusal
 alone-made = record { opened = refl; so = refl }
 
 -- the lists that happen already, as their parts make them

@@ -19,7 +19,7 @@ use Rattle.guarantee_examples.specs.Examples.{Happens}
 
 module _ (link delay : ℕ) (is : quicklyCalled (opening (terms link delay)) freshRecord freshMemory .reply .refusal ≡ 0) (later : List Call) where
   -- the list of calls whose Open the quick one grants
-  abbrev quickList : CallList
+  abbrev pub quickList : CallList
   quickList =
       record {
         port = freshRecord;

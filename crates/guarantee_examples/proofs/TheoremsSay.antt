@@ -16,7 +16,7 @@ use Rattle.header.specs.Header.{chargeOf, lengthFits, taggedFrame}
 use Rattle.binding.specs.Finding.{frameLookup}
 use Rattle.lists.specs.Equal.{octetsEqual}
 use Rattle.lists.specs.Turns.{allTo}
-use Rattle.steps.specs.Call.{terms, Call, opening, reserving, arriving, ticking, joiningBestEffort, framing}
+use Rattle.steps.specs.Call.{terms, Call, opening, arriving, ticking, joiningBestEffort, framing}
 use Rattle.port.specs.Calls.{called}
 use Rattle.port.specs.Quick.{quicklyCalled}
 use Rattle.port_laws.specs.Lists.{replies, freshRecord, freshMemory}
@@ -38,7 +38,7 @@ use Rattle.guarantee_examples.proofs.LinkTest.{links, link-holds, none-
 use Rattle.guarantee_examples.proofs.StaysTest.{stays-hold}
 use Rattle.guarantee_examples.proofs.AddUp.{shortest-fits}
 use Rattle.guarantee_examples.proofs.Applied.{by-numbers, replied-alone-of, firstShare, first-share, link-of, none-sends, only}
-use Rattle.guarantee_examples.proofs.OpenPartsHappen.{listOf, crowded-made, nearly-made, alone-made, unfit-before, unfit-refused, unfit-opened, busy-made, arrived-made}
+use Rattle.guarantee_examples.proofs.OpenPartsHappen.{listOf, happened, crowded-made, nearly-made, alone-made, unfit-before, unfit-refused, unfit-opened, busy-made, arrived-made}
 
 module _ (sent : Sent) (said shown : Reply) where
   abbrev busyNext : Event
@@ -115,7 +115,7 @@ replies-of (c ∷ cs) earlier p m q k = ap (λ (rs : List Reply). called c p m .
 alone-quick : replies quicklyCalled (opening (terms (linkOf 200) 3) ∷ aloneCalls) freshRecord freshMemory ≡ map (λ (e : Event). e .reply) alone
 alone-quick =
     quick-replies (opening (terms (linkOf 200) 3) ∷ aloneCalls) freshRecord freshMemory fresh-fits
-    ∙ (sym (replies-of (opening (terms (linkOf 200) 3) ∷ aloneCalls) [] freshRecord freshMemory freshRecord freshMemory) ∙ ap (map (λ (e : Event). e .reply)) (alone-made .so))
+    ∙ (sym (replies-of (opening (terms (linkOf 200) 3) ∷ aloneCalls) [] freshRecord freshMemory freshRecord freshMemory) ∙ ap (map (λ (e : Event). e .reply)) (happened alone-made))
 
 -- from `frame-becomes`: without a VLAN tag no pair is looked up
 untagged-so : (p m : List ℕ) → called (framing (untagged shortestFrame) 9) p m ≡ called (joiningBestEffort 84 9) p m
@@ -135,7 +135,7 @@ theorems-say =
       frame-alone = six-alone;
       nearly-fails = fails;
       nearly-purges-none = second-tick;
-      quick-crowded = quick-events (listOf crowded-made) ∙ crowded-made .so;
+      quick-crowded = quick-events (listOf crowded-made) ∙ happened crowded-made;
       quick-alone = alone-quick;
       quick-second = λ c d. quick-call d _ _ (stays-fit c freshRecord freshMemory fresh-fits);
       unfit-before = unfit-before;
@@ -150,10 +150,10 @@ theorems-say =
 pub open-parts-happen : OpenPartsHappen
 open-parts-happen =
     record {
-      crowded-happens = crowded-made .so;
+      crowded-happens = happened crowded-made;
       crowded-links = link-holds 600 crowded refl;
       busy-happens = busy-made;
-      nearly-happens = nearly-made .so;
-      alone-happens = alone-made .so;
+      nearly-happens = happened nearly-made;
+      alone-happens = happened alone-made;
       arrived-happens = arrived-made;
     }
