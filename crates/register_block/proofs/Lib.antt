@@ -3,3 +3,4 @@ pub mod TestLaws
 pub mod BlockLaws
 pub mod WrittenLaws
 pub mod LineLaws
+pub mod BlockCases

@@ -11,14 +11,11 @@ use Rattle.port.specs.Calls.{called}
 use Rattle.port_laws.specs.Lists.{replies}
 use Rattle.registers.specs.Lent.{recordPart, blockPart}
 use Rattle.registers.specs.Accesses.{named}
-use Rattle.register_laws.specs.Uses.{calling, reading, writing, callsOf, allCalls, openedBy, leftBy}
-use Rattle.register_laws.specs.Happenings.{Happening, replied, written, repliesIn}
+use Rattle.register_laws.specs.Uses.{calling, reading, writing, callsOf, allCalls, UseList, openedBy, leftBy}
+use Rattle.register_laws.specs.Happenings.{Happening, replied, written, happeningsIn, repliesIn}
 use Rattle.register_laws.specs.History.{acceptance, discard, purge, sending, nothingSent, isReply, clears, howMany, isThere, Counts, Flags, Reads, ReadsTell}
 use Rattle.register_laws.specs.Controls.{namedIn}
 use Rattle.register_laws.specs.Guaranteed.{Guaranteed}
-use Rattle.register_laws.specs.Cases.{controlUses}
-use Rattle.register_laws.specs.Says.{listOf, clearedUses}
-use Rattle.register_laws.proofs.HistoriesSay.{it-opens, happened, it-happens, it-clears}
 
 -- frames of each call, accepted, refused and discarded
 abbrev frames : List Happening
@@ -75,19 +72,19 @@ named-in-order = refl
 calls-replied : repliesIn (written 8 1 ∷ replied ticking (granted 0 0) ∷ []) ≡ granted 0 0 ∷ []
 calls-replied = refl
 
--- by the claim of the counters the list in hand has three acceptances,
-count-claims-three : Counts acceptedOctet acceptance → wordAt (blockPart (leftBy (listOf controlUses it-opens) .port)) acceptedOctet ≡ 3
-count-claims-three counts = counts (listOf controlUses it-opens) ∙ ap (λ (hs : List Happening). howMany (isReply acceptance) hs % 2 ^ 32) it-happens
+-- by the claim of the counters a list in which these frames came has three acceptances,
+count-claims-three : Counts acceptedOctet acceptance → (l : UseList) → happeningsIn l ≡ frames → wordAt (blockPart (leftBy l .port)) acceptedOctet ≡ 3
+count-claims-three counts l so = counts l ∙ ap (λ (hs : List Happening). howMany (isReply acceptance) hs % 2 ^ 32) so
 
--- by that of the flags the discard flag is down once it was cleared,
-flag-claims-down : Flags discardFlag discard → flagAt (blockPart (leftBy (listOf clearedUses it-opens) .port)) discardFlag ≡ false
-flag-claims-down flags = flags .since-clear (listOf clearedUses it-opens) happened [] (written 8 1) it-clears refl tt
+-- by that of the flags the discard flag is down where it was cleared after them,
+flag-claims-down : Flags discardFlag discard → (l : UseList) → happeningsIn l ≡ frames ++ (written 8 1 ∷ []) → flagAt (blockPart (leftBy l .port)) discardFlag ≡ false
+flag-claims-down flags l so = flags .since-clear l frames [] (written 8 1) so refl tt
 
--- and by that of the reads offset 20 shows one discard
-read-claims-one : ReadsTell (listOf controlUses it-opens) → Reads (listOf controlUses it-opens) 20 1
-read-claims-one tell = subst (λ (hs : List Happening). Reads (listOf controlUses it-opens) 20 (howMany (isReply discard) hs % 2 ^ 32)) it-happens (tell .discarded)
+-- by that of the reads offset 20 shows one discard,
+read-claims-one : (l : UseList) → ReadsTell l → happeningsIn l ≡ frames → Reads l 20 1
+read-claims-one l tell so = subst (λ (hs : List Happening). Reads l 20 (howMany (isReply discard) hs % 2 ^ 32)) so (tell .discarded)
 
--- by that of demand 3 the list's calls on the record alone reply what was replied
-guarantee-claims-replies : Guaranteed (listOf controlUses it-opens)
-    → replies called (allCalls controlUses) (recordPart (openedBy (listOf controlUses it-opens) .port)) (openedBy (listOf controlUses it-opens) .memory) ≡ repliesIn happened
-guarantee-claims-replies g = sym (g .replied) ∙ ap repliesIn it-happens
+-- and by that of demand 3 the calls of a list reply on the record, as the Open left it, what was replied
+guarantee-claims-replies : (l : UseList) → Guaranteed l → happeningsIn l ≡ frames
+    → replies called (allCalls (l .later)) (recordPart (openedBy l .port)) (openedBy l .memory) ≡ repliesIn frames
+guarantee-claims-replies l g so = sym (g .replied) ∙ ap repliesIn so

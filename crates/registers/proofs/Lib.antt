@@ -1,3 +1,4 @@
 -- The laws of the port with its registers, cited by the crates above.
 pub mod PartLaws
 pub mod AccessLaws
+pub mod RegisterCases

@@ -1,0 +1,211 @@
+-- The definitions of the port with its registers in numbers: what replies do to the block, the calls, and the register accesses. Assumes nothing.
+use Prim.Native.Nat.{ℕ}
+use mathlib.Core.Path.{_≡_, refl}
+use mathlib.Core.Bool.{true, false}
+use mathlib.Core.List.{List, [], _∷_, _++_}
+use lib.ListN.{replicate}
+use Rattle.lists.specs.Turns.{iterate}
+use Rattle.octets.specs.Numbers.{twoOf, fourOf, fourOctets}
+use Rattle.stream.specs.Replies.{granted}
+use Rattle.record.specs.Layout.{recordLength}
+use Rattle.record.specs.Queues.{queuesAt}
+use Rattle.record.specs.Head.{openAt, priorAt}
+use Rattle.fitness.specs.Fit.{recordFits, lentRefusal}
+use Rattle.steps.specs.Call.{Call, opening, reserving, withdrawing, arriving, ticking, transmitting, joiningBestEffort, binding, framing}
+use Rattle.steps.specs.Outcome.{Outcome, outcome, refused}
+use Rattle.gates.specs.Refusals.{closedRefusal}
+use Rattle.port.specs.Quick.{lengthRefusal}
+use Rattle.register_block.specs.Layout.{statusOffset, maskOffset, discardFlag, purgeFlag, nothingFlag, maskOctet, sentOctet, acceptedOctet}
+use Rattle.register_block.specs.Fields.{flagAt, withFlag, wordAt, withWord}
+use Rattle.register_block.specs.Events.{raised, zeroed}
+use Rattle.register_block.specs.Written.{writtenAt}
+use Rattle.registers.specs.Lent.{blockPart, inBlock, shortRefusal, portRefusal}
+use Rattle.registers.specs.Notes.{openNoted, frameNoted, tickNoted, transmitNoted, noted}
+use Rattle.registers.specs.Calls.{registered, portCall, quickPortCall}
+use Rattle.registers.specs.Accesses.{offsetRefusal, readBy, named, inTurn, writtenBy, writeBy, registerRead, registerWrite, quickRegisterRead, quickRegisterWrite}
+
+-- the front of a block with no flag up, this mask, and no counts
+abbrev blockWith : ℕ → List ℕ
+blockWith mask = 0 ∷ 0 ∷ 0 ∷ 0 ∷ (fourOctets mask ++ replicate {A = ℕ} 16 0)
+
+abbrev quiet : List ℕ
+quiet = blockWith 0
+
+-- "a granted Open zeroes flags, mask and counts, a refused one nothing"
+refused-open : flagAt (openNoted 2 (1 ∷ [])) discardFlag ≡ true
+unfolding openNoted zeroed iterate flagAt
+refused-open = refl
+
+-- "Of refusals only 14 sets a flag or count"
+charge-refused : flagAt (frameNoted 13 quiet) discardFlag ≡ false
+unfolding frameNoted flagAt withFlag raised withWord wordAt fourOf twoOf
+charge-refused = refl
+
+-- "purge of at least one frame"
+no-frame-purged : flagAt (tickNoted 0 0 quiet) purgeFlag ≡ false
+unfolding tickNoted flagAt withFlag
+no-frame-purged = refl
+
+-- "Offsets 16, 20 and 24 count [..] frames of both sorts sent": nothing to send is no frame
+nothing-sent : wordAt (transmitNoted 0 254 quiet) sentOctet ≡ 0
+unfolding transmitNoted wordAt fourOf twoOf withFlag raised withWord
+nothing-sent = refl
+
+-- "Offsets 16, 20 and 24 count frames of both sorts accepted [..]": best effort's and Frame's too, and no reservation
+best-effort-counted : wordAt (noted (joiningBestEffort 84 7) (granted 84 0) quiet) acceptedOctet ≡ 1
+unfolding frameNoted wordAt fourOf twoOf raised withWord
+best-effort-counted = refl
+
+frame-counted : wordAt (noted (framing [] 7) (granted 84 0) quiet) acceptedOctet ≡ 1
+unfolding frameNoted wordAt fourOf twoOf raised withWord
+frame-counted = refl
+
+reservation-not-counted : wordAt (noted (reserving 5 200) (granted 400 0) quiet) acceptedOctet ≡ 0
+unfolding frameNoted wordAt fourOf twoOf raised withWord
+reservation-not-counted = refl
+
+-- "bit 2 nothing to send": it is told by the stream that Transmit replies, and not by the tag
+nothing-told : flagAt (noted transmitting (granted 254 0) quiet) nothingFlag ≡ true
+unfolding transmitNoted flagAt withFlag raised withWord wordAt fourOf twoOf
+nothing-told = refl
+
+-- what a host lends: a record of zeros, which is closed, and a block with this mask
+abbrev lentWith : ℕ → List ℕ
+lentWith mask = replicate {A = ℕ} recordLength 0 ++ (blockWith mask ++ replicate {A = ℕ} 504 0)
+
+abbrev lent : List ℕ
+lent = lentWith 0
+
+-- a slice whose record does not fit, since its prior is queue 9, and a memory that is long enough
+abbrev unfit : List ℕ
+unfit = 0 ∷ 9 ∷ replicate {A = ℕ} 1614 0
+
+abbrev memory : List ℕ
+memory = replicate {A = ℕ} 10240 0
+
+-- "19 port record unfit" is asked by the call; the quick call asks only the lengths, and then finds the port closed (the number stands first in these
+-- laws, so that the other side is computed once)
+call-of-unfit : 19 ≡ portCall ticking unfit memory .reply .refusal
+unfolding registered shortRefusal lentRefusal recordFits priorAt queuesAt lengthRefusal closedRefusal openAt
+call-of-unfit = refl
+
+quick-call-of-unfit : 1 ≡ quickPortCall ticking unfit memory .reply .refusal
+unfolding registered shortRefusal lentRefusal recordFits priorAt queuesAt lengthRefusal closedRefusal openAt
+quick-call-of-unfit = refl
+
+-- "refusals set nothing but 14's": an arrival that this call refuses with 13
+refused-not-counted : wordAt (blockPart (registered (λ c p m. refused 13 p m) (arriving 5 83 7) lent [] .port)) acceptedOctet ≡ 0
+unfolding registered shortRefusal queuesAt frameNoted wordAt fourOf twoOf raised withWord withFlag
+refused-not-counted = refl
+
+-- 18 is asked before 19 of a slice that is too short for record and block, by one octet or by all
+one-octet-short : shortRefusal (replicate {A = ℕ} 1615 0) [] ≡ 18
+unfolding shortRefusal queuesAt
+one-octet-short = refl
+
+memory-first : shortRefusal [] [] ≡ 18
+unfolding shortRefusal queuesAt
+memory-first = refl
+
+-- the register accesses ask the length of the slice too
+access-of-short : portRefusal (λ p m. 0) [] [] ≡ 18
+unfolding shortRefusal queuesAt
+access-of-short = refl
+
+-- a change of the block changes it
+block-changed : inBlock (λ b. 9 ∷ []) [] ≡ 9 ∷ []
+unfolding inBlock
+block-changed = refl
+
+-- "It refuses with 26 an offset that is no multiple of 4 or is above 60"
+no-multiple : offsetRefusal 2 ≡ 26
+unfolding offsetRefusal
+no-multiple = refl
+
+above-60 : offsetRefusal 64 ≡ 26
+unfolding offsetRefusal
+above-60 = refl
+
+-- "before 18": of a slice and a memory without octets
+read-outside : registerRead 2 [] [] .reply .refusal ≡ 26
+unfolding readBy offsetRefusal shortRefusal queuesAt
+read-outside = refl
+
+write-outside : registerWrite 2 0 [] [] .reply .refusal ≡ 26
+unfolding writeBy offsetRefusal shortRefusal queuesAt
+write-outside = refl
+
+-- a read changes nothing, the mask neither
+mask-after-read : wordAt (blockPart (readBy (λ p m. 0) maskOffset (lentWith 5) [] .port)) maskOctet ≡ 5
+unfolding readBy offsetRefusal shortRefusal queuesAt inBlock writtenAt wordAt withWord fourOf twoOf
+mask-after-read = refl
+
+-- the calls as numbers, and those of a list
+abbrev numberOf : Call → ℕ
+numberOf (opening t) = 1
+numberOf (reserving s permitted) = 2
+numberOf (withdrawing s) = 3
+numberOf (arriving s charge tag) = 4
+numberOf ticking = 5
+numberOf transmitting = 6
+numberOf (joiningBestEffort charge tag) = 7
+numberOf (binding s address vid) = 8
+numberOf (framing octets tag) = 9
+
+abbrev numbersOf : List Call → List ℕ
+numbersOf [] = []
+numbersOf (c ∷ cs) = numberOf c ∷ numbersOf cs
+
+-- "writing bit 0 ticks, then bit 1 transmits"
+tick-then-transmit : numbersOf (named 3) ≡ 5 ∷ 6 ∷ []
+unfolding named
+tick-then-transmit = refl
+
+-- "Control bits 2 to 31 are ignored"
+bit-2-ignored : numbersOf (named 4) ≡ []
+unfolding named
+bit-2-ignored = refl
+
+-- "a control write as its last call"
+last-reply : inTurn (λ (n : ℕ) p m. outcome (granted n 0) p m) (outcome (granted 5 0) [] []) (6 ∷ []) .reply .first ≡ 6
+last-reply = refl
+
+-- where each call replies its number twice, a control write with both bits replies the transmit's,
+abbrev told : Call → List ℕ → List ℕ → Outcome
+told c p m = outcome (granted (numberOf c) (numberOf c)) p m
+
+both-made : writtenBy told (λ p m. 0) 0 3 lent [] (ticking ∷ transmitting ∷ []) .reply .first ≡ 6
+unfolding registered shortRefusal queuesAt tickNoted transmitNoted withFlag raised withWord wordAt fourOf twoOf
+both-made = refl
+
+-- and a write to another register makes no call
+mask-calls-nothing : writeBy told (λ p m. 0) maskOffset 3 lent [] .reply .second ≡ 0
+unfolding writeBy offsetRefusal named registered shortRefusal queuesAt tickNoted transmitNoted withFlag raised withWord wordAt fourOf twoOf
+mask-calls-nothing = refl
+
+-- "1 stops only ticks and transmits": a closed port keeps mask writes
+mask-of-closed : writtenBy told (λ p m. 0) maskOffset 5 lent [] [] .reply .refusal ≡ 0
+unfolding shortRefusal queuesAt closedRefusal openAt
+mask-of-closed = refl
+
+-- "other writes [..] two zeros"
+mask-reply : writtenBy told (λ p m. 0) maskOffset 5 lent [] [] .reply .first ≡ 0
+unfolding shortRefusal queuesAt
+mask-reply = refl
+
+-- of an unfit record a read and a write are refused with 19, and the quick ones are not
+read-of-unfit : 19 ≡ registerRead statusOffset unfit memory .reply .refusal
+unfolding readBy offsetRefusal shortRefusal lentRefusal recordFits priorAt queuesAt lengthRefusal
+read-of-unfit = refl
+
+quick-read-of-unfit : 0 ≡ quickRegisterRead statusOffset unfit memory .reply .refusal
+unfolding readBy offsetRefusal shortRefusal lentRefusal recordFits priorAt queuesAt lengthRefusal
+quick-read-of-unfit = refl
+
+write-of-unfit : 19 ≡ registerWrite maskOffset 5 unfit memory .reply .refusal
+unfolding writeBy offsetRefusal shortRefusal lentRefusal recordFits priorAt queuesAt lengthRefusal
+write-of-unfit = refl
+
+quick-write-of-unfit : 0 ≡ quickRegisterWrite maskOffset 5 unfit memory .reply .refusal
+unfolding writeBy offsetRefusal shortRefusal lentRefusal recordFits priorAt queuesAt lengthRefusal
+quick-write-of-unfit = refl
