@@ -2,7 +2,7 @@
 use Prim.Native.Nat.{_%_, _^_}
 use mathlib.Core.Path.{_≡_, refl, sym, ap, subst, _∙_}
 use mathlib.Core.Bool.{false}
-use mathlib.Core.List.{List, [], _∷_}
+use mathlib.Core.List.{List, [], _∷_, _++_}
 use Rattle.stream.specs.Replies.{granted, refusedBy}
 use Rattle.steps.specs.Call.{terms, opening, reserving, arriving, ticking, transmitting, joiningBestEffort, framing}
 use Rattle.register_block.specs.Layout.{acceptedOctet, discardFlag, purgeFlag}
