@@ -15,14 +15,14 @@ use Rattle.steps.specs.Call.{Call, opening, reserving, withdrawing, arriving, t
 use Rattle.steps.specs.Outcome.{Outcome, outcome, refused}
 use Rattle.gates.specs.Refusals.{closedRefusal}
 use Rattle.port.specs.Quick.{lengthRefusal}
-use Rattle.register_block.specs.Layout.{statusOffset, maskOffset, discardFlag, purgeFlag, nothingFlag, maskOctet, sentOctet, acceptedOctet}
+use Rattle.register_block.specs.Layout.{maskOffset, discardFlag, purgeFlag, nothingFlag, maskOctet, sentOctet, acceptedOctet}
 use Rattle.register_block.specs.Fields.{flagAt, withFlag, wordAt, withWord}
 use Rattle.register_block.specs.Events.{raised, zeroed}
 use Rattle.register_block.specs.Written.{writtenAt}
 use Rattle.registers.specs.Lent.{blockPart, inBlock, shortRefusal, portRefusal}
 use Rattle.registers.specs.Notes.{openNoted, frameNoted, tickNoted, transmitNoted, noted}
 use Rattle.registers.specs.Calls.{registered, portCall, quickPortCall}
-use Rattle.registers.specs.Accesses.{offsetRefusal, readBy, named, inTurn, writtenBy, writeBy, registerRead, registerWrite, quickRegisterRead, quickRegisterWrite}
+use Rattle.registers.specs.Accesses.{offsetRefusal, readBy, named, inTurn, writtenBy, writeBy, registerRead, registerWrite}
 
 -- the front of a block with no flag up, this mask, and no counts
 abbrev blockWith : ℕ → List ℕ
@@ -192,20 +192,3 @@ mask-of-closed = refl
 mask-reply : writtenBy told (λ p m. 0) maskOffset 5 lent [] [] .reply .first ≡ 0
 unfolding shortRefusal queuesAt
 mask-reply = refl
-
--- of an unfit record a read and a write are refused with 19, and the quick ones are not
-read-of-unfit : 19 ≡ registerRead statusOffset unfit memory .reply .refusal
-unfolding readBy offsetRefusal shortRefusal lentRefusal recordFits priorAt queuesAt lengthRefusal
-read-of-unfit = refl
-
-quick-read-of-unfit : 0 ≡ quickRegisterRead statusOffset unfit memory .reply .refusal
-unfolding readBy offsetRefusal shortRefusal lentRefusal recordFits priorAt queuesAt lengthRefusal
-quick-read-of-unfit = refl
-
-write-of-unfit : 19 ≡ registerWrite maskOffset 5 unfit memory .reply .refusal
-unfolding writeBy offsetRefusal shortRefusal lentRefusal recordFits priorAt queuesAt lengthRefusal
-write-of-unfit = refl
-
-quick-write-of-unfit : 0 ≡ quickRegisterWrite maskOffset 5 unfit memory .reply .refusal
-unfolding writeBy offsetRefusal shortRefusal lentRefusal recordFits priorAt queuesAt lengthRefusal
-quick-write-of-unfit = refl
