@@ -1,21 +1,16 @@
 -- What the definitions of the claims say of happenings in hand, each by itself. Assumes nothing.
-use Prim.Native.Nat.{_%_, _^_}
-use mathlib.Core.Path.{_≡_, refl, sym, ap, subst, _∙_}
-use mathlib.Core.Bool.{false}
-use mathlib.Core.List.{List, [], _∷_, _++_}
+use Prim.Native.Nat.{ℕ}
+use mathlib.Core.Path.{_≡_, refl}
+use mathlib.Core.Bool.{true, false}
+use mathlib.Core.List.{List, [], _∷_}
 use Rattle.stream.specs.Replies.{granted, refusedBy}
-use Rattle.steps.specs.Call.{terms, opening, reserving, arriving, ticking, transmitting, joiningBestEffort, framing}
-use Rattle.register_block.specs.Layout.{acceptedOctet, discardFlag, purgeFlag}
-use Rattle.register_block.specs.Fields.{wordAt, flagAt}
-use Rattle.port.specs.Calls.{called}
-use Rattle.port_laws.specs.Lists.{replies}
-use Rattle.registers.specs.Lent.{recordPart, blockPart}
+use Rattle.steps.specs.Call.{terms, Call, opening, arriving, ticking, transmitting, joiningBestEffort, framing}
+use Rattle.register_block.specs.Layout.{discardFlag, purgeFlag}
 use Rattle.registers.specs.Accesses.{named}
-use Rattle.register_laws.specs.Uses.{calling, reading, writing, callsOf, allCalls, UseList, openedBy, leftBy}
-use Rattle.register_laws.specs.Happenings.{Happening, replied, written, happeningsIn, repliesIn}
-use Rattle.register_laws.specs.History.{acceptance, discard, purge, sending, nothingSent, isReply, clears, howMany, isThere, Counts, Flags, Reads, ReadsTell}
+use Rattle.register_laws.specs.Uses.{calling, reading, writing, callsOf, allCalls}
+use Rattle.register_laws.specs.Happenings.{Happening, replied, written, repliesIn}
+use Rattle.register_laws.specs.History.{Sort, opens, brings, ticks, transmits, others, sortOf, acceptance, discard, purge, sending, nothingSent, isReply, clears, howMany, isThere}
 use Rattle.register_laws.specs.Controls.{namedIn}
-use Rattle.register_laws.specs.Guaranteed.{Guaranteed}
 
 -- frames of each call, accepted, refused and discarded
 abbrev frames : List Happening
@@ -59,12 +54,24 @@ refused-open = refl
 mask-names-none : callsOf (writing 12 3) ≡ []
 mask-names-none = refl
 
+-- the calls of a list by what they are to the registers, as numbers
+abbrev numberOf : Sort → ℕ
+numberOf opens = 1
+numberOf brings = 2
+numberOf ticks = 3
+numberOf transmits = 4
+numberOf others = 5
+
+abbrev numbersOf : List Call → List ℕ
+numbersOf [] = []
+numbersOf (c ∷ cs) = numberOf (sortOf c) ∷ numbersOf cs
+
 -- calls stand in their order
-calls-in-order : allCalls (calling (reserving 5 84) ∷ reading 4 ∷ calling transmitting ∷ []) ≡ reserving 5 84 ∷ transmitting ∷ []
+calls-in-order : numbersOf (allCalls (calling ticking ∷ reading 4 ∷ calling transmitting ∷ [])) ≡ 3 ∷ 4 ∷ []
 calls-in-order = refl
 
 -- so do the calls that control writes name
-named-in-order : namedIn (1 ∷ 2 ∷ []) ≡ ticking ∷ transmitting ∷ []
+named-in-order : numbersOf (namedIn (1 ∷ 2 ∷ [])) ≡ 3 ∷ 4 ∷ []
 unfolding named
 named-in-order = refl
 
@@ -72,19 +79,6 @@ named-in-order = refl
 calls-replied : repliesIn (written 8 1 ∷ replied ticking (granted 0 0) ∷ []) ≡ granted 0 0 ∷ []
 calls-replied = refl
 
--- by the claim of the counters a list in which these frames came has three acceptances,
-count-claims-three : Counts acceptedOctet acceptance → (l : UseList) → happeningsIn l ≡ frames → wordAt (blockPart (leftBy l .port)) acceptedOctet ≡ 3
-count-claims-three counts l so = counts l ∙ ap (λ (hs : List Happening). howMany (isReply acceptance) hs % 2 ^ 32) so
-
--- by that of the flags the discard flag is down where it was cleared after them,
-flag-claims-down : Flags discardFlag discard → (l : UseList) → happeningsIn l ≡ frames ++ (written 8 1 ∷ []) → flagAt (blockPart (leftBy l .port)) discardFlag ≡ false
-flag-claims-down flags l so = flags .since-clear l frames [] (written 8 1) so refl tt
-
--- by that of the reads offset 20 shows one discard,
-read-claims-one : (l : UseList) → ReadsTell l → happeningsIn l ≡ frames → Reads l 20 1
-read-claims-one l tell so = subst (λ (hs : List Happening). Reads l 20 (howMany (isReply discard) hs % 2 ^ 32)) so (tell .discarded)
-
--- and by that of demand 3 the calls of a list reply on the record, as the Open left it, what was replied
-guarantee-claims-replies : (l : UseList) → Guaranteed l → happeningsIn l ≡ frames
-    → replies called (allCalls (l .later)) (recordPart (openedBy l .port)) (openedBy l .memory) ≡ repliesIn frames
-guarantee-claims-replies l g so = sym (g .replied) ∙ ap repliesIn so
+-- there was a discard among them
+one-is-there : isThere (isReply discard) frames ≡ true
+one-is-there = refl
