@@ -79,6 +79,7 @@ module _ (reply : Reply) (sent : Sent) (said shown : Reply) where
 pub controlled-says : ControlledSays
 controlled-says =
     let links = link-holds 84 controlled refl in
+    let g = guaranteed (controlledList controlled-opens) in
     record {
       opens = controlled-opens;
       opens-record = guaranteed (controlledList controlled-opens) .opens-record;
@@ -89,4 +90,10 @@ controlled-says =
       sends = λ reply sent said shown so link.
           only controlledFrame [] (quietTick ∷ sentEvent none (granted 254 0) (granted 254 0) ∷ []) (sentEvent sent said shown) refl refl
           (frame-prompt reply sent said shown so link .1 .1 (sentEvent sent said shown ∷ quietTick ∷ sentEvent none (granted 254 0) (granted 254 0) ∷ []) [] quietTick refl refl refl);
+      replies-follow = g .replied;
+      record-follows = g .record-left;
+      memory-follows = g .memory-left;
+      open-replies = g .opened-reply;
+      open-record = g .opened-record;
+      open-memory = g .opened-memory;
     }

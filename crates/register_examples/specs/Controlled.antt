@@ -7,13 +7,17 @@ use Rattle.stream.specs.declared.Reply.{Reply}
 use Rattle.stream.specs.State.{currentPlace}
 use Rattle.stream.specs.Replies.{granted}
 use Rattle.steps.specs.Call.{terms, opening, reserving, arriving}
-use Rattle.port_laws.specs.Lists.{freshMemory}
+use Rattle.port.specs.Calls.{called}
+use Rattle.port_laws.specs.Lists.{replies, freshMemory}
 use Rattle.guarantee.specs.Events.{Marked, Sent, reservedSent, none, Event}
 use Rattle.guarantee.specs.Claims.{PurgesNothing, LinkCondition}
 use Rattle.guarantee.specs.Demand3.{eventsIn}
 use Rattle.guarantee.specs.Instances.{replied, markedFrame, quietTick, sentEvent}
+use Rattle.registers.specs.Lent.{recordPart}
 use Rattle.registers.specs.Calls.{portCall}
-use Rattle.register_laws.specs.Uses.{Use, calling, reading, writing, UseList}
+use Rattle.registers.specs.Accesses.{inTurn}
+use Rattle.register_laws.specs.Uses.{Use, calling, reading, writing, lent, allCalls, UseList, openedBy, leftBy}
+use Rattle.register_laws.specs.Happenings.{repliesIn, happeningsIn}
 use Rattle.register_laws.specs.Guaranteed.{OpensRecord, callsIn}
 use Rattle.register_laws.specs.Cases.{freshPort}
 
@@ -72,3 +76,13 @@ pub record ControlledSays : Type 0 where
       → LinkCondition 84 (controlledWith reply (sentEvent sent said shown)) → (reply .refusal ≡ 0) × (reply .first ≡ currentPlace)
   pub sends : (reply : Reply) (sent : Sent) (said shown : Reply) → eventsIn (callsIn (controlledList opens) opens-record) ≡ controlledWith reply (sentEvent sent said shown)
       → LinkCondition 84 (controlledWith reply (sentEvent sent said shown)) → sent ≡ reservedSent controlledFrame
+  -- `guaranteed`: the calls of the list reply, and leave record and memory, as in the list of uses, and so does its Open
+  pub replies-follow : repliesIn (happeningsIn (controlledList opens))
+      ≡ replies called (allCalls controlledUses) (recordPart (openedBy (controlledList opens) .port)) (openedBy (controlledList opens) .memory)
+  pub record-follows : recordPart (leftBy (controlledList opens) .port)
+      ≡ inTurn called (lent (recordPart (openedBy (controlledList opens) .port)) (openedBy (controlledList opens) .memory)) (allCalls controlledUses) .port
+  pub memory-follows : leftBy (controlledList opens) .memory
+      ≡ inTurn called (lent (recordPart (openedBy (controlledList opens) .port)) (openedBy (controlledList opens) .memory)) (allCalls controlledUses) .memory
+  pub open-replies : openedBy (controlledList opens) .reply ≡ called (opening (terms 2104 1)) (recordPart freshPort) freshMemory .reply
+  pub open-record : recordPart (openedBy (controlledList opens) .port) ≡ called (opening (terms 2104 1)) (recordPart freshPort) freshMemory .port
+  pub open-memory : openedBy (controlledList opens) .memory ≡ called (opening (terms 2104 1)) (recordPart freshPort) freshMemory .memory

@@ -28,6 +28,7 @@ use Rattle.register_block.specs.Written.{clearedBy, writtenAt}
 use Rattle.registers.specs.Lent.{inBlock, shortRefusal}
 use Rattle.registers.specs.Notes.{openNoted, frameNoted, tickNoted, transmitNoted}
 use Rattle.registers.specs.Calls.{registered}
+use Rattle.port_laws.specs.Lists.{replies}
 use Rattle.registers.specs.Accesses.{inTurn, offsetRefusal, readBy, named, writeBy}
 use Rattle.lists.specs.Each.{All}
 use Rattle.stream.specs.Replies.{granted, refusedBy}
@@ -42,7 +43,10 @@ use Rattle.register_laws.specs.Cases.{controlUses}
 use Rattle.register_laws.specs.Says.{Opens, listOf, clearedUses, HistoriesSay}
 use Rattle.register_laws.proofs.Histories.{discard-flags, purge-flags, nothing-flags}
 use Rattle.register_laws.proofs.ReadLaws.{reads-tell}
-use Rattle.register_laws.proofs.ControlLaws.{controls-named}
+use Rattle.register_laws.proofs.ControlLaws.{control-named, controls-named}
+use Rattle.register_laws.proofs.QuickRegisters.{quick-list}
+use Rattle.register_block.proofs.LineLaws.{line-exactly}
+use Rattle.lists.proofs.EachLaws.{some-not-none}
 
 pub it-opens : Opens controlUses
 unfolding allTo sumTo listTo iterate twoOf fourOf attempt arriveOf tickOf frameAt withFrame joinedMemory frontOf waiting openAt withOpen priorAt withPrior delayAt withDelay linkAt withLink waitsAt withWaits queueAt queuesAt withQueue streamAt withStream withPlace drainAt withDrain drainsAt boundAt vidAt dropped recordFits lentRefusal roleAt openedRecord arriveStep drainedAt tickedRecord tickStep transmitStep bestEffortStep openRefusal reserveRefusal arriveRefusal closedRefusal bestEffortRefusal registered shortRefusal inBlock openNoted frameNoted tickNoted transmitNoted offsetRefusal readBy named writeBy flagAt withFlag withoutFlag wordAt withWord raised zeroed flagsOf sharesOne lineUp statusOf registerAt clearedBy writtenAt lengthRefusal
@@ -77,7 +81,11 @@ it-clears = refl
 uncleared : (flag : ℕ) → All (λ h. clears flag h ≡ false) happened
 uncleared flag = (refl, (refl, (refl, (refl, (refl, (refl, (refl, (refl, (refl, (refl, (refl, (refl, tt))))))))))))
 
--- what the numbers 3 and 1 name
+-- what the number 3 names, and what 3 and 1 do
+named-both : named 3 ≡ ticking ∷ transmitting ∷ []
+unfolding named
+named-both = refl
+
 named-three : namedIn (3 ∷ 1 ∷ []) ≡ ticking ∷ transmitting ∷ ticking ∷ []
 unfolding named
 named-three = refl
@@ -101,4 +109,14 @@ histories-say =
           purge-flags .since-open cleared (subst (All (λ h. clears purgeFlag h ≡ false)) (sym it-clears) (refl, (refl, (refl, (refl, (refl, (refl, (refl, (refl, (refl, (refl, (refl, (refl, (refl, tt))))))))))))))
           ∙ ap (isThere (isReply purge)) it-clears;
       controls = λ p m. controls-named (3 ∷ 1 ∷ []) p m .slice ∙ ap (λ (cs : List Call). inTurn portCall (lent p m) cs .port) named-three;
+      controls-memory = λ p m. controls-named (3 ∷ 1 ∷ []) p m .memory ∙ ap (λ (cs : List Call). inTurn portCall (lent p m) cs .memory) named-three;
+      controls-replies = λ p m. controls-named (3 ∷ 1 ∷ []) p m .told ∙ ap (λ (cs : List Call). replies portCall cs p m) named-three;
+      both-bits = λ p m. control-named 3 p m (λ e. some-not-none ticking (transmitting ∷ []) (sym named-both ∙ e)) ∙ ap (inTurn portCall (lent p m)) named-both;
+      control = tell .control;
+      status = tell .status;
+      flags = tell .flags;
+      mask = tell .mask;
+      line-up = λ b flag mask. line-exactly b .then-up (record { bit = 2; first = flag; second = mask });
+      line-shows = λ b up. line-exactly b .only-then up;
+      quickly = λ p m fit. quick-list controlUses (lent p m) fit;
     }

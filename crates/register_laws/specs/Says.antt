@@ -1,16 +1,19 @@
 -- What the theorems say of a list in hand: each line follows from the theorem that its comment names, and would be lost with it.
-use Prim.Native.Nat.{ℕ}
+use Prim.Native.Nat.{ℕ, _^_}
 use mathlib.Core.Path.{_≡_}
 use mathlib.Core.Bool.{true, false}
 use mathlib.Core.List.{List, [], _∷_, _++_}
 use Rattle.steps.specs.Call.{terms, opening, ticking, transmitting}
-use Rattle.port_laws.specs.Lists.{freshMemory}
-use Rattle.register_block.specs.Layout.{discardFlag, purgeFlag, nothingFlag}
-use Rattle.register_block.specs.Fields.{flagAt}
-use Rattle.registers.specs.Lent.{blockPart}
+use Rattle.fitness.specs.Fit.{recordFits}
+use Rattle.port_laws.specs.Lists.{replies, freshMemory}
+use Rattle.register_block.specs.Layout.{controlOffset, discardFlag, purgeFlag, nothingFlag}
+use Rattle.register_block.specs.Fields.{flagAt, bitOf}
+use Rattle.register_block.specs.Shown.{flagsOf, maskOf, lineUp, ShareOne, statusOf}
+use Rattle.registers.specs.Lent.{recordPart, blockPart}
 use Rattle.registers.specs.Calls.{portCall}
-use Rattle.registers.specs.Accesses.{inTurn}
-use Rattle.register_laws.specs.Uses.{Use, writing, lent, ran, UseList, leftBy}
+use Rattle.registers.specs.Accesses.{inTurn, registerWrite}
+use Rattle.register_laws.specs.Uses.{Use, writing, quicklyUsed, lent, ran, UseList, leftBy}
+use Rattle.register_laws.specs.Happenings.{happenings, repliesIn}
 use Rattle.register_laws.specs.History.{Reads}
 use Rattle.register_laws.specs.Controls.{controlWrites}
 use Rattle.register_laws.specs.Cases.{freshPort, controlUses}
@@ -41,3 +44,17 @@ pub record HistoriesSay : Type 0 where
   pub purge-kept : flagAt (blockPart (leftBy (listOf clearedUses opens) .port)) purgeFlag ≡ true
   -- `controls-named`: control writes of 3 and 1 leave any slice and memory as a tick, a transmit and a tick do
   pub controls : (p m : List ℕ) → ran (controlWrites (3 ∷ 1 ∷ [])) p m .port ≡ inTurn portCall (lent p m) (ticking ∷ transmitting ∷ ticking ∷ []) .port
+  pub controls-memory : (p m : List ℕ) → ran (controlWrites (3 ∷ 1 ∷ [])) p m .memory ≡ inTurn portCall (lent p m) (ticking ∷ transmitting ∷ ticking ∷ []) .memory
+  pub controls-replies : (p m : List ℕ) → repliesIn (happenings (controlWrites (3 ∷ 1 ∷ [])) p m) ≡ replies portCall (ticking ∷ transmitting ∷ ticking ∷ []) p m
+  -- `control-named`: a control write of 3 is a tick and then a transmit, in reply, slice and memory
+  pub both-bits : (p m : List ℕ) → registerWrite controlOffset 3 p m ≡ inTurn portCall (lent p m) (ticking ∷ transmitting ∷ [])
+  -- `reads-tell`: control reads zero, and status, flags and mask are read as the block has them, of an open port
+  pub control : Reads (listOf controlUses opens) 0 0
+  pub status : Reads (listOf controlUses opens) 4 (statusOf true (blockPart (leftBy (listOf controlUses opens) .port)))
+  pub flags : Reads (listOf controlUses opens) 8 (flagsOf (blockPart (leftBy (listOf controlUses opens) .port)))
+  pub mask : Reads (listOf controlUses opens) 12 (maskOf (blockPart (leftBy (listOf controlUses opens) .port)))
+  -- `line-exactly`: a mask that shares its highest one with the flags raises the line, and a line that is up shows such a one
+  pub line-up : (b : List ℕ) → bitOf (flagsOf b) (2 ^ 2) ≡ true → bitOf (maskOf b) (2 ^ 2) ≡ true → lineUp b ≡ true
+  pub line-shows : (b : List ℕ) → lineUp b ≡ true → ShareOne (flagsOf b) (maskOf b)
+  -- `quick-list`: the quick uses leave what the uses leave, on a fit record
+  pub quickly : (p m : List ℕ) → recordFits (recordPart p) m ≡ true → inTurn quicklyUsed (lent p m) controlUses ≡ ran controlUses p m
