@@ -1,6 +1,6 @@
 /*
  * Every function that bunnysolder.h declares, called through it: both sorts of call play document 01's sample, by charges and by frames, and a
- * withdrawal, the longest frames and the registers of document 02, and must reply what the documents say. The last line is the total.
+ * withdrawal, the longest frames, the registers and the lookups of document 02, and must reply what the documents say. The last line is the total.
  */
 #include <stdio.h>
 #include <string.h>
@@ -343,6 +343,111 @@ static void registers(const struct sort *s)
     writes_that_do_nothing(s);
 }
 
+/* Addresses that differ in their last octet alone, and one that differs from these in its first octet too. */
+static const uint8_t ending_66[BUNNYSOLDER_ADDRESS_LENGTH] = { 0x02, 0x00, 0x5E, 0x10, 0x20, 0x66 };
+static const uint8_t ending_67[BUNNYSOLDER_ADDRESS_LENGTH] = { 0x02, 0x00, 0x5E, 0x10, 0x20, 0x67 };
+static const uint8_t ending_68[BUNNYSOLDER_ADDRESS_LENGTH] = { 0x02, 0x00, 0x5E, 0x10, 0x20, 0x68 };
+static const uint8_t another_67[BUNNYSOLDER_ADDRESS_LENGTH] = { 0x03, 0x00, 0x5E, 0x10, 0x20, 0x67 };
+
+/* A lookup must be refused with a number, or with 0 reply a stream and a number of address octets, and leave every octet of the port. */
+static void finds(size_t port_length, const uint8_t *wanted, uint32_t vid, uint8_t number, uint32_t stream, uint32_t octets)
+{
+    static uint8_t before[sizeof port];
+
+    memcpy(before, port, sizeof port);
+    replies("lookup", bunnysolder_lookup(port, port_length, wanted, vid, &first, &second), number, stream, octets);
+    if (memcmp(before, port, sizeof port) != 0) {
+        printf("  a lookup writes the port\n");
+        wrong++;
+    }
+}
+
+/* A lookup on the whole port must find a stream. */
+static void finds_stream(const uint8_t *wanted, uint32_t vid, uint32_t stream, uint32_t octets)
+{
+    finds(sizeof port, wanted, vid, BUNNYSOLDER_GRANTED, stream, octets);
+}
+
+/* A lookup on the whole port must find no stream. */
+static void finds_none(const uint8_t *wanted, uint32_t vid, uint32_t octets)
+{
+    finds(sizeof port, wanted, vid, BUNNYSOLDER_GRANTED, BUNNYSOLDER_BEST_EFFORT, octets);
+}
+
+/* Opens the port with streams 5 and 6 on it, bound to the addresses that end 66 and 67, both with VID 100. */
+static void open_with_bindings(const struct sort *s)
+{
+    const size_t p = sizeof port, m = sizeof memory;
+
+    never_opened();
+    replies("open", s->open(port, p, memory, m, 2620, 1, &first, &second), BUNNYSOLDER_GRANTED, 600, 0);
+    replies("reserve", s->reserve(port, p, memory, m, 5, 200, &first, &second), BUNNYSOLDER_GRANTED, 400, 0);
+    replies("reserve", s->reserve(port, p, memory, m, 6, 200, &first, &second), BUNNYSOLDER_GRANTED, 200, 0);
+    finds_none(ending_66, 100, 0);
+    replies("bind", s->bind(port, p, memory, m, 6, ending_67, 100, &first, &second), BUNNYSOLDER_GRANTED, 0, 0);
+    finds_stream(ending_67, 100, 6, 6);
+    replies("bind", s->bind(port, p, memory, m, 5, ending_66, 100, &first, &second), BUNNYSOLDER_GRANTED, 0, 0);
+}
+
+/* Looking for the second binding takes 7 octets, of which the first is the last octet of the first binding; a VID that neither has takes none. */
+static void lookups_of_bindings(const struct sort *s)
+{
+    static const uint32_t others[] = { 0, 1, 99, 101, 4095, 65535, 256 + 100, 4096 + 100, 65536 + 100, ALL_ONES };
+    size_t i;
+
+    open_with_bindings(s);
+    finds_stream(ending_67, 100, 6, 7);
+    finds_stream(ending_66, 100, 5, 6);
+    finds_none(ending_68, 100, 2);
+    finds_none(another_67, 100, 7);
+    for (i = 0; i < sizeof others / sizeof *others; i++)
+        finds_none(ending_67, others[i], 0);
+}
+
+/* A withdrawn stream's binding is found until the fourth tick, and is not gone through from then on. */
+static void lookups_while_draining(const struct sort *s)
+{
+    const size_t p = sizeof port, m = sizeof memory;
+    int tick;
+
+    open_with_bindings(s);
+    replies("withdraw", s->withdraw(port, p, memory, m, 5, &first, &second), BUNNYSOLDER_GRANTED, 0, 0);
+    for (tick = 0; tick < 4; tick++) {
+        finds_stream(ending_66, 100, 5, 6);
+        finds_stream(ending_67, 100, 6, 7);
+        replies("tick", s->tick(port, p, memory, m, &first, &second), BUNNYSOLDER_GRANTED, 0, 0);
+    }
+    finds_none(ending_66, 100, 1);
+    finds_stream(ending_67, 100, 6, 6);
+}
+
+/* A port that is too short is refused (19), and no other: a closed one has no binding, and one of ones is unfit and has 64 equal bindings. */
+static void lookups_of_any_port(const struct sort *s)
+{
+    static const uint8_t ones[BUNNYSOLDER_ADDRESS_LENGTH] = { 1, 1, 1, 1, 1, 1 }, first_differs[BUNNYSOLDER_ADDRESS_LENGTH] = { 2, 1, 1, 1, 1, 1 };
+    const size_t p = sizeof port;
+
+    open_with_bindings(s);
+    finds(p - 1, ending_67, 100, BUNNYSOLDER_UNFIT_RECORD, 0, 0);
+    finds(0, ending_67, 0, BUNNYSOLDER_UNFIT_RECORD, 0, 0);
+    never_opened();
+    finds(p - 1, ending_67, 100, BUNNYSOLDER_UNFIT_RECORD, 0, 0);
+    finds_none(ending_67, 100, 0);
+    finds_none(ending_67, 0, 0);
+    memset(port, 1, sizeof port);
+    finds_stream(ones, 0x0101, 0, 6);
+    finds_none(first_differs, 0x0101, 384);
+    finds_none(ones, 1, 0);
+}
+
+/* The lookups, on ports that each sort of call has made. */
+static void lookups(const struct sort *s)
+{
+    lookups_of_bindings(s);
+    lookups_while_draining(s);
+    lookups_of_any_port(s);
+}
+
 int main(void)
 {
     int passed = 0, failed = 0;
@@ -355,6 +460,7 @@ int main(void)
         withdrawal(&sorts[i]);
         longest_frames(&sorts[i]);
         registers(&sorts[i]);
+        lookups(&sorts[i]);
         printf("test %s through the header: %s\n", sorts[i].name, wrong ? "FAILED" : "ok");
         if (wrong)
             failed++;

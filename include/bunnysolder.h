@@ -6,25 +6,26 @@
  * What is lent. `port` is the port: BUNNYSOLDER_PORT_LENGTH octets or more. First comes the record, with queues, streams and bindings, and after
  * it the register block, with the flags, the interrupt mask and the counters that enum bunnysolder_register names. `memory` holds the waiting
  * frames: BUNNYSOLDER_MEMORY_LENGTH octets or more. Octets past these lengths are neither read nor written. Both may hold anything: a call tests
- * what it is given (18 and 19 below) and never reads or writes outside the two, but for the `address` of Bind and the `octets` of Frame, which it
- * reads. A port of zeros is closed, and may be opened; a granted Open makes the whole block zeros, whatever it held.
+ * what it is given (18 and 19 below) and never reads or writes outside the two, but for the `address` of Bind and Lookup and the `octets` of Frame,
+ * which it reads. A port of zeros is closed, and may be opened; a granted Open makes the whole block zeros, whatever it held.
  *
  * What C has to keep. Each pointer is not null and points to as many octets as its length says; `address` points to
  * BUNNYSOLDER_ADDRESS_LENGTH octets. `port`, `memory`, `address`, `octets`, `*first` and `*second` do not overlap. While a call runs nobody else
  * reads or writes `port`, `memory`, `*first` and `*second`, and nobody writes `address` and `octets`, which the call only reads. A register read
- * only reads `port` and `memory` too, so others may read them meanwhile. C cannot be asked for these, and no call can test them.
+ * only reads `port` and `memory` too, and a Lookup `port`, so others may read them meanwhile. C cannot be asked for these, and no call can test them.
  *
  * What comes back. A call returns 0, or the number of its refusal, and leaves its two reply numbers in `*first` and `*second`. Both are always
  * written; a refusal leaves two zeros there, and port and memory as they were. BUNNYSOLDER_DISCARD alone also moves its stream, to place last with
  * nothing left, and raises its flag and its count in the block. Of the refusals that apply the first in the order given at each function is returned.
  *
- * Two sorts. Each call is there twice. bunnysolder_NAME tests the whole record and its waiting frames (19) before its own refusals, of which 26 alone
- * comes earlier; that takes the longer the more frames wait and the more streams are bound. bunnysolder_NAME_unscanned scans nothing: of 18 and 19
- * it asks only the two lengths, and then does the same. On every record that is fit (one that 19 does not refuse) the two are equal in reply, port
- * and memory, and leave it fit; and a granted Open of either sort leaves a fit record. The block makes no record unfit, whatever it holds. So a host
- * that opens its port by a granted Open, lets nothing but these calls write port and memory from then on, and always lends the two together, gets
- * the same from both sorts. On a record that is not fit an unscanned call still ends, and reads and writes nothing but port, memory, the two numbers
- * and what it is given to read, but its reply and what it leaves need not be the rule's.
+ * Two sorts. Each call but Lookup is there twice. bunnysolder_NAME tests the whole record and its waiting frames (19) before its own refusals, of
+ * which 26 alone comes earlier; that takes the longer the more frames wait and the more streams are bound. bunnysolder_NAME_unscanned scans nothing:
+ * of 18 and 19 it asks only the two lengths, and then does the same. On every record that is fit (one that 19 does not refuse) the two are equal in
+ * reply, port and memory, and leave it fit; and a granted Open of either sort leaves a fit record. The block makes no record unfit, whatever it
+ * holds. So a host that opens its port by a granted Open, lets nothing but these calls write port and memory from then on, and always lends the two
+ * together, gets the same from both sorts. On a record that is not fit an unscanned call still ends, and reads and writes nothing but port, memory,
+ * the two numbers and what it is given to read, but its reply and what it leaves need not be the rule's. bunnysolder_lookup is lent no memory and
+ * tests no record: it asks only the length of the port (19), and takes what the record holds as it is.
  */
 #ifndef BUNNYSOLDER_H
 #define BUNNYSOLDER_H
@@ -37,7 +38,7 @@ extern "C" {
 #endif
 
 /* The edition of the rule: the number of the last request of document 02 that the rule has; 0 is document 01 alone. */
-#define BUNNYSOLDER_EDITION 3
+#define BUNNYSOLDER_EDITION 4
 
 /* The octets of a port, which are its record and its register block, and of the memory for 1,280 frames. */
 #define BUNNYSOLDER_PORT_LENGTH 1616
@@ -80,7 +81,7 @@ enum bunnysolder_refusal {
 /* The first reply number of Arrive, also where a Frame becomes one: the queue that the frame has joined. */
 enum bunnysolder_place { BUNNYSOLDER_CURRENT = 1, BUNNYSOLDER_NEXT = 2, BUNNYSOLDER_LAST = 3 };
 
-/* The first reply number of Transmit where no reserved stream's frame is sent. */
+/* The first reply number of Transmit where no reserved stream's frame is sent; 255 is also that of a Lookup which finds no stream. */
 enum bunnysolder_sent { BUNNYSOLDER_NOTHING = 254, BUNNYSOLDER_BEST_EFFORT = 255 };
 
 /*
@@ -217,6 +218,17 @@ uint8_t bunnysolder_register_write(uint8_t *port, size_t port_length, const uint
                                    uint32_t offset, uint32_t value, uint32_t *first, uint32_t *second);
 uint8_t bunnysolder_register_write_unscanned(uint8_t *port, size_t port_length, const uint8_t *memory, size_t memory_length,
                                              uint32_t offset, uint32_t value, uint32_t *first, uint32_t *second);
+
+/*
+ * Lookup(address, VID): finds the stream of a pair as Bind (11) and a Frame with a VLAN tag do, for those who measure what that costs. It goes
+ * through the bindings by rising stream up to the one that matches, those of draining streams among them; it compares the VID and, only where that is
+ * equal, the address from its last octet back, up to the first octet that differs. Replies the stream, or BUNNYSOLDER_BEST_EFFORT where none is bound
+ * to the pair, as a Frame of it is a Best effort then; and how many address octets were compared: the sum over all bindings gone through, the octets
+ * that differ among them, 0 to 384. It writes no port, so no register changes. It takes a closed port, and every VID; one that no binding has finds
+ * no stream. Refusals: 19, of a port shorter than BUNNYSOLDER_PORT_LENGTH alone.
+ */
+uint8_t bunnysolder_lookup(const uint8_t *port, size_t port_length, const uint8_t address[BUNNYSOLDER_ADDRESS_LENGTH], uint32_t vid,
+                           uint32_t *first, uint32_t *second);
 
 #ifdef __cplusplus
 }

@@ -1,5 +1,5 @@
 //! Batches of calls whose cost is measured, and the ports that they start from: one with no stream, one with few, one with all streams bound and no
-//! frame, and a full one.
+//! frame, a full one, full ones whose streams are bound as those of a plant are, and such without a frame for lookups.
 
 use crate::call::{Call, Reply, ADDRESS_OCTETS};
 use crate::comparing::fit::Octets;
@@ -7,6 +7,7 @@ use crate::comparing::frames::Header;
 use crate::comparing::random::Random;
 use crate::comparing::registers::{CONTROL, MASK, STATUS};
 use crate::comparing::sides::Play;
+use crate::comparing::stated::Pair;
 use crate::model::port::{
     BEST_EFFORT, BEST_EFFORT_STREAM, DRAINING_TICKS, LAST, LEAST_CHARGE, LEAST_PERMITTED, LINKS, QUEUES, QUEUE_PLACES, STREAMS,
 };
@@ -24,8 +25,14 @@ const BATCH: usize = 64;
 /// The streams of a port with few.
 const FEW: u8 = 4;
 
-/// The VID to which every stream is bound.
-const VID: u16 = 1;
+/// The VID to which every stream is bound, where all share one, and the first of those of a plant.
+const VID: u32 = 1;
+
+/// How many VIDs a plant has: its streams take them in turn.
+const PLANT_VIDS: usize = 4;
+
+/// The address octets that all machines of a plant share, the first ones.
+const PLANT: [u8; ADDRESS_OCTETS - 1] = [0x02, 0x00, 0x5e, 0x10, 0x20];
 
 /// One batch: what is measured, the port that it starts from, its calls, and the refusal that all of them meet, or 0.
 pub struct Batch {
@@ -41,13 +48,18 @@ pub struct Group {
     pub batches: Vec<Batch>,
 }
 
+/// The pair to which each stream is bound; number 64, of no stream, has one that nobody is bound to.
+type Pairs = fn(usize) -> Pair;
+
 /// All batches. Where frames come and go, the first two of a group are one of arrivals and one of transmits.
-pub fn groups() -> [Group; 4] {
+pub fn groups() -> [Group; 6] {
     [
         Group { port: "no stream", batches: vec![nothing_waits(opened(0))] },
         Group { port: "4 streams", batches: few() },
         Group { port: "64 streams, no frame", batches: without_frame() },
         Group { port: "64 bound streams, full queues", batches: full() },
+        Group { port: "64 streams bound as in a plant, full queues", batches: plants() },
+        Group { port: "64 bound streams, no frame", batches: lookups() },
     ]
 }
 
@@ -111,11 +123,12 @@ fn registers(port: Octets, with_frames: Octets) -> [Batch; 4] {
 /// The batches of ports with all streams and without a frame.
 fn without_frame() -> Vec<Batch> {
     let unbound = opened(STREAMS as u8);
-    let draining = after(after(unbound.clone(), &binds()), &withdraws());
+    let bound = after(unbound.clone(), &binds(of_one_vid));
+    let draining = after(bound.clone(), &withdraws());
     vec![
         nothing_waits(unbound.clone()),
-        Batch { what: "transmit, all streams bound", ..nothing_waits(after(unbound.clone(), &binds())) },
-        Batch::granted("bind, 0 to 63 streams bound", unbound.clone(), binds()),
+        Batch { what: "transmit, all streams bound", ..nothing_waits(bound) },
+        Batch::granted("bind, 0 to 63 streams bound", unbound.clone(), binds(of_one_vid)),
         Batch::granted("withdraw", unbound, withdraws()),
         Batch { refusal: DRAINING, ..Batch::granted("arrive, all streams draining", draining.clone(), arrivals(STREAMS)) },
         Batch::granted("tick, all streams draining", draining, vec![Call::Tick; usize::from(DRAINING_TICKS)]),
@@ -125,11 +138,11 @@ fn without_frame() -> Vec<Batch> {
 /// The batches of a port with all streams bound, whose queues are full or become so.
 fn full() -> Vec<Batch> {
     let [all_full, last_fills, best_effort_fills] =
-        [QUEUES, usize::from(LAST), BEST_EFFORT].map(|not_full| filled(opened(STREAMS as u8), not_full));
-    let last_stream_fills = filled(opened_for_the_last(), usize::from(LAST));
+        [QUEUES, usize::from(LAST), BEST_EFFORT].map(|not_full| filled(opened(STREAMS as u8), of_one_vid, not_full));
+    let last_stream_fills = filled(opened_for_the_last(), of_one_vid, usize::from(LAST));
     let ticks = vec![Call::Tick; 4];
     let purged = after(all_full.clone(), &ticks);
-    let tagged = Header::tagged(address(STREAMS - 1), VID);
+    let tagged = header(of_one_vid(STREAMS - 1));
     let untagged = Header { protocol: [0x08, 0x00], ..tagged };
     let of_registers = registers(purged.clone(), all_full.clone());
     let mut batches = vec![
@@ -143,6 +156,34 @@ fn full() -> Vec<Batch> {
     ];
     batches.extend(of_registers);
     batches
+}
+
+/// The batches of frames on ports whose streams are bound as those of a plant, few VIDs or one each: of the last stream, and of none.
+fn plants() -> Vec<Batch> {
+    let of_the_last = |what: &'static str, pairs: Pairs| {
+        let port = filled(opened_for_the_last(), pairs, usize::from(LAST));
+        Batch::granted(what, port, frames(&header(pairs(STREAMS - 1))))
+    };
+    let best_effort_fills = filled(opened(STREAMS as u8), of_few_vids, BEST_EFFORT);
+    vec![
+        of_the_last("frame of stream 63, 4 VIDs", of_few_vids),
+        of_the_last("frame of stream 63, 64 VIDs", of_a_vid_each),
+        Batch::granted("frame of no stream, 4 VIDs", best_effort_fills, frames(&header(of_few_vids(STREAMS)))),
+    ]
+}
+
+/// The batches of lookups, of the last stream and of none, on ports without a frame: one VID for all, few as in a plant, or one each.
+fn lookups() -> Vec<Batch> {
+    let of = |what: &'static str, pairs: Pairs, stream: usize| {
+        let (address, vid) = pairs(stream);
+        Batch::granted(what, after(opened(STREAMS as u8), &binds(pairs)), vec![Call::Lookup { address, vid }; BATCH])
+    };
+    vec![
+        of("lookup of stream 63, 1 VID", of_one_vid, STREAMS - 1),
+        of("lookup of stream 63, 4 VIDs", of_few_vids, STREAMS - 1),
+        of("lookup of stream 63, 64 VIDs", of_a_vid_each, STREAMS - 1),
+        of("lookup of no stream, 4 VIDs", of_few_vids, STREAMS),
+    ]
 }
 
 /// A batch of transmits that find nothing to send: what they take as calls and not as quick calls is the scan of 19.
@@ -167,8 +208,12 @@ fn frames(header: &Header) -> Vec<Call> {
 }
 
 /// A binding of each stream.
-fn binds() -> Vec<Call> {
-    (0..STREAMS).map(|stream| Call::Bind { stream: stream as u8, address: address(stream), vid: VID.into() }).collect()
+fn binds(pairs: Pairs) -> Vec<Call> {
+    let bind = |stream: usize| {
+        let (address, vid) = pairs(stream);
+        Call::Bind { stream: stream as u8, address, vid }
+    };
+    (0..STREAMS).map(bind).collect()
 }
 
 /// A withdrawal of each stream.
@@ -176,9 +221,30 @@ fn withdraws() -> Vec<Call> {
     (0..STREAMS).map(|stream| Call::Withdraw { stream: stream as u8 }).collect()
 }
 
-/// The address to which a stream is bound.
-fn address(stream: usize) -> [u8; ADDRESS_OCTETS] {
-    [0, 0, 0, 0, 0, stream as u8]
+/// The pair of a stream where all share one VID, and all address octets but the last.
+fn of_one_vid(stream: usize) -> Pair {
+    ([0, 0, 0, 0, 0, stream as u8], VID)
+}
+
+/// The pair of a stream of a plant, whose streams take few VIDs in turn.
+fn of_few_vids(stream: usize) -> Pair {
+    (in_plant(stream), VID + (stream % PLANT_VIDS) as u32)
+}
+
+/// The pair of a stream of a plant in which each has a VID of its own.
+fn of_a_vid_each(stream: usize) -> Pair {
+    (in_plant(stream), VID + stream as u32)
+}
+
+/// The address of a stream of a plant, of which the last octet alone is its own.
+fn in_plant(stream: usize) -> [u8; ADDRESS_OCTETS] {
+    let [a, b, c, d, e] = PLANT;
+    [a, b, c, d, e, stream as u8]
+}
+
+/// The header of a frame of a pair.
+fn header((address, vid): Pair) -> Header {
+    Header::tagged(address, vid as u16)
 }
 
 /// An open port with this many streams, which share the link evenly.
@@ -219,8 +285,8 @@ fn after(mut port: Octets, calls: &[Call]) -> Octets {
 }
 
 /// The port with every stream bound and at last, and 256 frames in each queue, but a batch less in the one of this number, if there is one.
-fn filled(port: Octets, not_full: usize) -> Octets {
-    let mut port = after(port, &binds());
+fn filled(port: Octets, pairs: Pairs, not_full: usize) -> Octets {
+    let mut port = after(port, &binds(pairs));
     for stream in 0..STREAMS {
         port.record[layout::entry(stream) + layout::PLACE] = LAST;
     }

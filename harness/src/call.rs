@@ -6,8 +6,8 @@ use std::sync::Arc;
 /// The octets of a destination address: "a destination address of six octets".
 pub const ADDRESS_OCTETS: usize = 6;
 
-/// A call with its arguments: numbers are unsigned 32-bit, a stream is an octet. It holds the address of a Bind and the octets of a Frame, which
-/// its copies share.
+/// A call with its arguments: numbers are unsigned 32-bit, a stream is an octet. It holds the address of a Bind or a Lookup and the octets of a
+/// Frame, which its copies share.
 #[derive(Clone, Copy, Debug, PartialEq, Eq, Hash)]
 pub enum Call<Address = [u8; ADDRESS_OCTETS], Octets = Arc<[u8]>> {
     Open { link: u32, delay: u32 },
@@ -21,6 +21,7 @@ pub enum Call<Address = [u8; ADDRESS_OCTETS], Octets = Arc<[u8]>> {
     Withdraw { stream: u8 },
     ReadRegister { offset: u32 },
     WriteRegister { offset: u32, value: u32 },
+    Lookup { address: Address, vid: u32 },
 }
 
 /// A call as it is given to a port: address and octets lie where the caller lends them.
@@ -72,6 +73,7 @@ impl Call {
             Call::Withdraw { stream } => Call::Withdraw { stream },
             Call::ReadRegister { offset } => Call::ReadRegister { offset },
             Call::WriteRegister { offset, value } => Call::WriteRegister { offset, value },
+            Call::Lookup { ref address, vid } => Call::Lookup { address, vid },
         }
     }
 }
@@ -96,6 +98,7 @@ impl fmt::Display for Call {
             Call::Withdraw { stream } => write!(f, "withdraw {stream}"),
             Call::ReadRegister { offset } => write!(f, "read register {offset}"),
             Call::WriteRegister { offset, value } => write!(f, "write register {offset} {value}"),
+            Call::Lookup { address, vid } => write!(f, "lookup {} {vid}", hexadecimal(address)),
         }
     }
 }

@@ -30,6 +30,10 @@ declare! {
     bunnysolder_register_write, bunnysolder_register_write_unscanned: *mut u8, *const u8, (offset: u32, value: u32);
 }
 
+extern "C" {
+    fn bunnysolder_lookup(port: *const u8, port_length: usize, address: *const u8, vid: u32, first: &mut u32, second: &mut u32) -> u8;
+}
+
 /// The calls as functions of C; Tick and Transmit have no arguments of their own.
 type Open = unsafe extern "C" fn(*mut u8, usize, *const u8, usize, u32, u32, &mut u32, &mut u32) -> u8;
 type Reserve = unsafe extern "C" fn(*mut u8, usize, *const u8, usize, u8, u32, &mut u32, &mut u32) -> u8;
@@ -91,7 +95,7 @@ const UNSCANNED: Sort = Sort {
 const UNWRITTEN: u32 = 0xA5A5_5A5A;
 
 impl Sort {
-    /// A call of this sort.
+    /// A call of this sort; a Lookup, which scans nothing and takes no memory, is the same in both.
     #[inline(always)]
     fn play(&self, call: &Given, port: &mut [u8], memory: &mut [u8]) -> Reply {
         let (mut first, mut second) = (UNWRITTEN, UNWRITTEN);
@@ -112,6 +116,7 @@ impl Sort {
                 Call::Withdraw { stream } => (self.withdraw)(p, n, m, k, stream, &mut first, &mut second),
                 Call::ReadRegister { offset } => (self.register_read)(p, n, m, k, offset, &mut first, &mut second),
                 Call::WriteRegister { offset, value } => (self.register_write)(p, n, m, k, offset, value, &mut first, &mut second),
+                Call::Lookup { address, vid } => bunnysolder_lookup(p, n, address.as_ptr(), vid, &mut first, &mut second),
             }
         };
         Reply { refusal, first, second }

@@ -24,7 +24,7 @@ const QUEUE_ENTRIES_END: usize = QUEUE_ENTRIES + QUEUE_ENTRY * QUEUES;
 /// Where the entries of the streams begin in the record.
 const STREAM_ENTRIES: usize = 64;
 /// The octets of a stream's entry.
-const STREAM_ENTRY: usize = 16;
+pub const STREAM_ENTRY: usize = 16;
 
 /// The reserved mark in a stream's entry, one octet.
 pub const RESERVED: usize = 0;

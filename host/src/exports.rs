@@ -11,13 +11,15 @@ use crate::reply::{outside, Numbers};
 const PORT_OCTETS: usize = 1_616;
 /// The octets of the memory for 1,280 frames.
 const MEMORY_OCTETS: usize = 10_240;
+/// The octets of a destination address.
+pub const ADDRESS_OCTETS: usize = 6;
 
 /// The octets that a port is lent for its record and its register block.
 pub type PortOctets = [u8; PORT_OCTETS];
 /// The memory for the waiting frames.
 pub type Memory = [u8; MEMORY_OCTETS];
 /// A destination address: "six octets".
-pub type Address = [u8; 6];
+pub type Address = [u8; ADDRESS_OCTETS];
 
 /// A port that is closed, whose record is fit for the memory below (`fresh-fits`, crates/port_laws/proofs/FreshFit.antt).
 pub const CLOSED_PORT: PortOctets = [0; PORT_OCTETS];
@@ -27,7 +29,7 @@ pub const EMPTY_MEMORY: Memory = [0; MEMORY_OCTETS];
 /// What a call replies: its two numbers, or its refusal.
 type Replied = Result<Numbers, Refusal>;
 
-/// Declares exported calls, each with its port, its memory and its own arguments between those that all calls have.
+/// Declares exported calls that are lent a memory, each with its port, its memory and its own arguments between those that all of them have.
 macro_rules! declare {
     ($($call:ident: $port:ty, $memory:ty, ($($argument:ident: $kind:ty),*);)*) => {
         extern "C" {$(
@@ -50,6 +52,11 @@ declare! {
     bunnysolder_withdraw_unscanned: &mut PortOctets, &Memory, (stream: u8);
     bunnysolder_register_read_unscanned: &PortOctets, &Memory, (offset: u32);
     bunnysolder_register_write_unscanned: &mut PortOctets, &Memory, (offset: u32, value: u32);
+}
+
+extern "C" {
+    /// The exported call that is lent no memory.
+    fn bunnysolder_lookup(port: &PortOctets, port_length: usize, address: &Address, vid: u32, first: &mut u32, second: &mut u32) -> u8;
 }
 
 /// Lends a call its two numbers, and reads what it returned and left there.
@@ -141,6 +148,12 @@ pub fn register_write(port: &mut PortOctets, memory: &Memory, offset: u32, value
     })
 }
 
+/// Lookup(address, VID), which scans nothing, writes no port and is lent no memory.
+pub fn lookup(port: &PortOctets, address: &Address, vid: u32) -> Replied {
+    // SAFETY: the length is that of the port's type; an address has six octets, as the header asks.
+    replied(|first, second| unsafe { bunnysolder_lookup(port, PORT_OCTETS, address, vid, first, second) })
+}
+
 #[cfg(test)]
 mod tests {
     use super::*;
@@ -167,11 +180,19 @@ mod tests {
         assert_eq!(replied(leaving(26)), Err(Refusal::OffsetRange));
     }
 
-    /// The lengths of port and memory are those of the header.
+    /// A port that was never opened has no binding, and a lookup on it is no refusal.
+    #[test]
+    fn a_lookup_takes_a_closed_port() {
+        for vid in [0, 1, u32::MAX] {
+            assert_eq!(lookup(&CLOSED_PORT, &[0; ADDRESS_OCTETS], vid), Ok((255, 0)));
+        }
+    }
+
+    /// The lengths of port, memory and address are those of the header.
     #[test]
     fn the_lengths_are_those_of_the_header() {
         let header = include_str!("../../include/bunnysolder.h");
-        for (name, octets) in [("PORT", PORT_OCTETS), ("MEMORY", MEMORY_OCTETS)] {
+        for (name, octets) in [("PORT", PORT_OCTETS), ("MEMORY", MEMORY_OCTETS), ("ADDRESS", ADDRESS_OCTETS)] {
             assert!(header.contains(&format!("#define BUNNYSOLDER_{name}_LENGTH {octets}\n")), "{name}");
         }
     }

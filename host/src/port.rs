@@ -5,7 +5,7 @@ use std::fmt;
 use crate::exports::{self, Address, Memory, PortOctets, CLOSED_PORT, EMPTY_MEMORY};
 use crate::refusal::Refusal;
 use crate::register::{self, Control, Controlled, Counts, Flags, Mask, Register, Status};
-use crate::reply::{self, never_refused, Framed, Joined, Numbers, Purged, Reserved, Sent, Waiting};
+use crate::reply::{self, never_refused, Framed, Joined, Lookup, Numbers, Purged, Reserved, Sent, Waiting};
 
 #[cfg(test)]
 mod comparing;
@@ -19,8 +19,8 @@ mod wrapping;
 ///
 /// # Whose replies these are
 ///
-/// Open is the exported call that tests the record. All other methods are the *quick* calls, which scan nothing. Their replies are the rule's own
-/// all the same, and that is proved:
+/// Open is the exported call that tests the record, and [`lookup`](Port::lookup) the one that has no test of it. All other methods are the *quick*
+/// calls, which scan nothing. Their replies are the rule's own all the same, and that is proved:
 ///
 /// - each export does what its definition says, for every record, memory and argument (the contracts in `crates/exports/src`);
 /// - a record of zeros, on which [`open`](Port::open) calls Open, is fit (`fresh-fits`, `crates/port_laws/proofs/FreshFit.antt`);
@@ -42,7 +42,8 @@ mod wrapping;
 /// # Threads
 ///
 /// A port is a plain value, and the library has no state of its own, so a port may be sent to another thread. A method that changes the port asks
-/// for `&mut`, so no two run on it at a time, and none beside one that reads a register; these ask for `&`, and may run beside each other.
+/// for `&mut`, so no two run on it at a time, and none beside one that reads a register or looks up a stream; these ask for `&`, and may run beside
+/// each other.
 ///
 /// # Registers
 ///
@@ -228,6 +229,35 @@ impl Port {
         exports::frame(&mut self.octets, &mut self.memory, octets, tag).map(Framed::of)
     }
 
+    /// Lookup(address, VID): finds the stream that is bound to a pair as [`bind`](Port::bind) does before it refuses with 11, and as
+    /// [`frame`](Port::frame) does for a frame with a VLAN tag. It goes through the bindings by rising stream up to the one that matches, those of
+    /// draining streams among them; it compares the VID and, only where that is equal, the address from its last octet back, up to the first octet
+    /// that differs. Replies the stream, and how many address octets were compared. A VID that no binding has finds no stream. It changes nothing, no
+    /// register either.
+    ///
+    /// Refusals: none.
+    ///
+    /// ```
+    /// use bunnysolder::{Lookup, Port, Refusal};
+    ///
+    /// let (first, second) = ([0x01, 0x00, 0x5E, 0x00, 0x00, 0x66], [0x01, 0x00, 0x5E, 0x00, 0x00, 0x67]);
+    /// let mut port = Port::open(2_620, 1)?;
+    /// port.reserve(5, 200)?;
+    /// port.reserve(6, 200)?;
+    /// port.bind(5, &first, 100)?;
+    /// port.bind(6, &second, 100)?;
+    ///
+    /// // Of the first binding the last octet differs, 67 from 66; of the second all six are equal: 1 + 6 = 7.
+    /// assert_eq!(port.lookup(&second, 100), Lookup { stream: Some(6), compared: 7 });
+    ///
+    /// // With another VID no octet of an address is compared.
+    /// assert_eq!(port.lookup(&second, 101), Lookup { stream: None, compared: 0 });
+    /// # Ok::<(), Refusal>(())
+    /// ```
+    pub fn lookup(&self, address: &Address, vid: u32) -> Lookup {
+        Lookup::of(never_refused(exports::lookup(&self.octets, address, vid), "a lookup"))
+    }
+
     /// Withdraw(s): takes a reserved stream off the line. Its frames that wait stay in their queues and are sent as before; it takes no more. It
     /// drains for as many ticks as the port has queues for reserved traffic, which are four. Meanwhile every call that names it is refused with
     /// [`Draining`](Refusal::Draining), and so is a frame that would arrive on it; its P still counts in R and has its part of the share, and its
@@ -370,12 +400,12 @@ impl Port {
 
     /// What a read of a register replies.
     fn read(&self, register: Register) -> Numbers {
-        never_refused(exports::register_read(&self.octets, &self.memory, register.offset()))
+        never_refused(exports::register_read(&self.octets, &self.memory, register.offset()), "a register read")
     }
 
     /// What a write to a register other than control replies.
     fn write(&mut self, register: Register, value: u32) -> Numbers {
-        never_refused(exports::register_write(&mut self.octets, &self.memory, register.offset(), value))
+        never_refused(exports::register_write(&mut self.octets, &self.memory, register.offset(), value), "a register write")
     }
 }
 

@@ -1,11 +1,12 @@
 //! What the calls reply where they are granted: types for what the two reply numbers mean, and how they are read.
 
+use crate::exports::ADDRESS_OCTETS;
 use crate::refusal::Refusal;
 
 /// The two reply numbers of a granted call.
 pub type Numbers = (u32, u32);
 
-/// The stream that Transmit replies for best effort, and the one for nothing.
+/// The stream that Transmit replies for best effort and a lookup where it finds none, and the one that Transmit replies for nothing.
 const OF_BEST_EFFORT: u32 = 255;
 const OF_NOTHING: u32 = 254;
 /// The last stream.
@@ -88,6 +89,15 @@ pub enum Framed {
     BestEffort(Waiting),
 }
 
+/// What a lookup replies.
+#[derive(Clone, Copy, Debug, PartialEq, Eq, Hash)]
+pub struct Lookup {
+    /// The stream that is bound to the pair. Where none is, a Frame of the pair is a Best effort.
+    pub stream: Option<u8>,
+    /// How many address octets were compared: the sum over all bindings gone through, the octets that differ among them.
+    pub compared: u32,
+}
+
 /// Stops at a reply that is none of the rule's. The contracts of the exports say that none such comes, so the library that is linked is not the
 /// proved one, or something else wrote this program's memory.
 #[cold]
@@ -101,9 +111,9 @@ pub(crate) fn no_reply((first, second): Numbers, call: &str) -> ! {
     outside(&format!("the reply {first} {second} to {call}"))
 }
 
-/// The reply of an access to a register that there is, on a port that is fit and open: no refusal is left for it.
-pub(crate) fn never_refused(replied: Result<Numbers, Refusal>) -> Numbers {
-    replied.unwrap_or_else(|refusal| outside(&format!("the refusal {} to a register access", refusal.number())))
+/// The reply of a call for which no refusal is left on a port that is fit and open: an access to a register that there is, and a lookup.
+pub(crate) fn never_refused(replied: Result<Numbers, Refusal>, call: &str) -> Numbers {
+    replied.unwrap_or_else(|refusal| outside(&format!("the refusal {} to {call}", refusal.number())))
 }
 
 /// Open's reply, "share, 0": the share.
@@ -193,6 +203,20 @@ impl Framed {
     }
 }
 
+impl Lookup {
+    /// The stream, or 255, and "the number of address octets so compared": of each binding gone through at most six, and six of the one that matches.
+    pub(crate) fn of(numbers: Numbers) -> Lookup {
+        let octets = ADDRESS_OCTETS as u32;
+        match numbers {
+            (stream @ ..=LAST_STREAM, compared) if (octets..=octets * (stream + 1)).contains(&compared) => {
+                Lookup { stream: Some(stream as u8), compared }
+            }
+            (OF_BEST_EFFORT, compared) if compared <= octets * (LAST_STREAM + 1) => Lookup { stream: None, compared },
+            _ => no_reply(numbers, "a lookup"),
+        }
+    }
+}
+
 /// Whether the numbers are read as no reply at all.
 #[cfg(test)]
 pub(crate) fn stops<T>(of: fn(Numbers) -> T, numbers: Numbers) -> bool {
@@ -204,15 +228,15 @@ mod tests {
     use super::*;
 
     #[test]
-    fn register_accesses_that_are_granted_are_read() {
-        assert_eq!(never_refused(Ok((7, 0))), (7, 0));
+    fn calls_without_refusals_are_read() {
+        assert_eq!(never_refused(Ok((7, 0)), "a lookup"), (7, 0));
     }
 
-    /// A refusal of a register that there is is handed on as no value.
+    /// A refusal where none is left is handed on as no value.
     #[test]
-    #[should_panic(expected = "the refusal 19 to a register access is none of the rule's")]
-    fn a_refused_register_access_stops() {
-        never_refused(Err(Refusal::UnfitRecord));
+    #[should_panic(expected = "the refusal 19 to a lookup is none of the rule's")]
+    fn a_refusal_where_none_is_left_stops() {
+        never_refused(Err(Refusal::UnfitRecord), "a lookup");
     }
 
     #[test]
@@ -261,6 +285,16 @@ mod tests {
         assert_eq!(Framed::of((3, 116)), Framed::Arrived(Joined { queue: Queue::Last, left: 116 }));
         assert_eq!(Framed::of((84, 0)), Framed::BestEffort(Waiting { octets: 84 }));
         assert!([(0, 0), (4, 0), (83, 0), (84, 1)].into_iter().all(|numbers| stops(Framed::of, numbers)));
+    }
+
+    #[test]
+    fn lookups_are_read() {
+        assert_eq!(Lookup::of((0, 6)), Lookup { stream: Some(0), compared: 6 });
+        assert_eq!(Lookup::of((63, 384)), Lookup { stream: Some(63), compared: 384 });
+        assert_eq!(Lookup::of((255, 0)), Lookup { stream: None, compared: 0 });
+        assert_eq!(Lookup::of((255, 384)), Lookup { stream: None, compared: 384 });
+        let wrong = [(0, 5), (0, 7), (63, 385), (64, 6), (254, 0), (255, 385), (256, 0), (256 + 5, 6)];
+        assert!(wrong.into_iter().all(|numbers| stops(Lookup::of, numbers)));
     }
 
     #[test]

@@ -1,4 +1,4 @@
 -- Bind, and the lookup of a pair among the bindings.
 pub mod Binding
 pub mod Finding
-pub mod ByNumber
+pub mod LookupClaims

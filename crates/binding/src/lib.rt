@@ -8,9 +8,9 @@ ghost use lib.ListN.{length};
 ghost use Rattle.stream.specs.Replies.{granted};
 ghost use Rattle.record.specs.Layout.{Whole, streamCount, addressLength};
 ghost use Rattle.record.specs.Entry.{withBinding};
-ghost use Rattle.binding.specs.Finding.{isBound};
+ghost use Rattle.binding.specs.Finding.{isBound, lookupReply};
 
-// What a lookup answers: the stream that is bound to the pair, or that none is.
+// What a lookup finds: the stream that is bound to the pair, or that none is.
 pub enum Lookup {
     Bound(u8),
     Unbound,
@@ -24,6 +24,34 @@ impl Lookup {
         match self {
             Lookup::Bound(_) => true,
             Lookup::Unbound => false,
+        }
+    }
+}
+
+// What comparing an address gives: whether it is equal, and how many address octets were compared by then, those compared before among them.
+pub struct Comparison {
+    equal: bool,
+    compared: u32,
+}
+
+// What a lookup gives: what it found, and beside it the number of address octets compared.
+pub struct Answer {
+    pub found: Lookup,
+    pub compared: u32,
+}
+
+impl Answer {
+    // The answer as a reply: the stream, or best effort's where none is bound, and the number of octets compared.
+    pub fn reply(self) -> Reply
+        ensures { λ r. ⌜ r ≡ lookupReply self ⌝ }
+    {
+        let found = self.found;
+        match found {
+            Lookup::Bound(stream) => steps::granted(stream as u32, self.compared),
+            Lookup::Unbound => steps::granted(
+                fitness::frames::BEST_EFFORT_STREAM as u32,
+                self.compared,
+            ),
         }
     }
 }

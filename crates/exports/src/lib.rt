@@ -8,6 +8,7 @@ ghost use Rattle.steps.specs.Call.{terms, opening, reserving, withdrawing, arri
 ghost use Rattle.steps.specs.Outcome.{outcome};
 ghost use Rattle.registers.specs.Calls.{portCall};
 ghost use Rattle.registers.specs.Accesses.{registerRead, registerWrite};
+ghost use Rattle.registers.specs.PortLookup.{portLookup};
 ghost use Rattle.exports.specs.Handed.{handed};
 
 // Open(L, K).
@@ -199,6 +200,23 @@ pub extern "C" fn bunnysolder_register_write(
     ensures { λ r. ⌜ outcome (handed r (now (first .exit)) (now (second .exit))) (now (port .exit)) (now (memory .entry)) ≡ registerWrite offset value (now (port .entry)) (now (memory .entry)) ⌝ }
 {
     let reply = registers::accesses::write(port, memory, offset, value);
+    *first = reply.first;
+    *second = reply.second;
+    reply.refusal
+}
+
+// The lookup of the pair of an address and a VID.
+#[no_mangle]
+pub extern "C" fn bunnysolder_lookup(
+    port: &[u8],
+    address: &[u8; record::ADDRESS_LENGTH],
+    vid: u32,
+    first: &mut u32,
+    second: &mut u32,
+) -> u8
+    ensures { λ r. ⌜ handed r (now (first .exit)) (now (second .exit)) ≡ portLookup (now (address .entry)) vid (now (port .entry)) ⌝ }
+{
+    let reply = registers::lookup::of_pair(port, address, vid);
     *first = reply.first;
     *second = reply.second;
     reply.refusal

@@ -32,12 +32,12 @@ pub record BindAllowed (p : List ℕ) (s : ℕ) (address : List ℕ) (vid : ℕ)
   pub reserved : streamAt p s .reserved ≡ true
   pub vid-fits : vidFits vid ≡ true
   pub unbound : boundAt p s ≡ false
-  pub free : isBound (lookup p address vid) ≡ false
+  pub free : isBound (lookup p address vid .found) ≡ false
 
 pub bind-allowed : (p : List ℕ) (s : ℕ) (address : List ℕ) (vid : ℕ) → bindRefusal p s address vid ≡ 0 → BindAllowed p s address vid
 unfolding bindRefusal
 bind-allowed p s address vid e =
-    let taken : ℕ = cond (isBound (lookup p address vid)) 11 0 in
+    let taken : ℕ = cond (isBound (lookup p address vid .found)) 11 0 in
     let bound : ℕ = cond (boundAt p s) 10 taken in
     let outside : ℕ = cond (not (vidFits vid)) 9 bound in
     let unreserved : ℕ = cond (not (streamAt p s .reserved)) 12 outside in
@@ -48,7 +48,7 @@ bind-allowed p s address vid e =
     let d = past (not (streamAt p s .reserved)) 12 outside (omega arith) (c .1) in
     let f = past (not (vidFits vid)) 9 bound (omega arith) (d .1) in
     let g = past (boundAt p s) 10 taken (omega arith) (f .1) in
-    let h = past (isBound (lookup p address vid)) 11 0 (omega arith) (g .1) in
+    let h = past (isBound (lookup p address vid .found)) 11 0 (omega arith) (g .1) in
     record {
       opened = not-false (openAt p) (a .0);
       stream = leb-false streamCount s (b .0);

@@ -7,7 +7,7 @@ use lib.Dec.{leb}
 use borrow.Author.Needs.{needs}
 use borrow.Author.Tests.{le-leb, lt-leb}
 use Rattle.stream.specs.declared.Stream.{Stream}
-use Rattle.binding.specs.declared.Lookup.{Lookup}
+use Rattle.binding.specs.declared.Answer.{Answer}
 use Rattle.binding.specs.Finding.{isBound}
 
 module _ (n rest : ℕ) where
@@ -27,8 +27,8 @@ module _ (n rest : ℕ) where
   pub at-least : (a b : ℕ) → a ≤ b → n ≡ cond (leb a b) n rest
   at-least a b taken = ap (λ (t : Bool). cond t n rest) (sym (le-leb a b taken))
 
-  pub at-found : (x : Bool) (l y : Lookup) → l ≡ y → x ≡ isBound l → x ≡ true → n ≡ cond (isBound y) n rest
-  at-found x l y so told taken = at-is x (isBound y) (told ∙ ap isBound so) taken
+  pub at-found : (x : Bool) (l y : Answer) → l ≡ y → x ≡ isBound (l .found) → x ≡ true → n ≡ cond (isBound (y .found)) n rest
+  at-found x l y so told taken = at-is x (isBound (y .found)) (told ∙ ap (λ (a : Answer). isBound (a .found)) so) taken
 
   -- it does not, and the rest decides
   pub past-is : (r : ℕ) (x y : Bool) → x ≡ y → x ≡ false → r ≡ rest → r ≡ cond y n rest
@@ -46,8 +46,8 @@ module _ (n rest : ℕ) where
   pub past-least : (r a b : ℕ) → b < a → r ≡ rest → r ≡ cond (leb a b) n rest
   past-least r a b left decides = decides ∙ ap (λ (t : Bool). cond t n rest) (sym (lt-leb a b left))
 
-  pub past-found : (r : ℕ) (x : Bool) (l y : Lookup) → l ≡ y → x ≡ isBound l → x ≡ false → r ≡ rest → r ≡ cond (isBound y) n rest
-  past-found r x l y so told left decides = past-is r x (isBound y) (told ∙ ap isBound so) left decides
+  pub past-found : (r : ℕ) (x : Bool) (l y : Answer) → l ≡ y → x ≡ isBound (l .found) → x ≡ false → r ≡ rest → r ≡ cond (isBound (y .found)) n rest
+  past-found r x l y so told left decides = past-is r x (isBound (y .found)) (told ∙ ap (λ (a : Answer). isBound (a .found)) so) left decides
 
 -- what closes a return of code that makes one such test after the other
 pub ruleset tests = (at-is, at-is-not, at-reserved, at-unreserved, at-least, at-found, past-is, past-is-not, past-reserved, past-unreserved, past-least, past-found, needs)

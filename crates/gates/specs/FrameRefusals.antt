@@ -19,7 +19,7 @@ bindRefusal p s address vid =
     (cond (not (streamAt p s .reserved)) 12
     (cond (not (vidFits vid)) 9
     (cond (boundAt p s) 10
-    (cond (isBound (lookup p address vid)) 11 0))))))
+    (cond (isBound (lookup p address vid .found)) 11 0))))))
 
 -- Frame: "17 frame outside" its octets, "60 to 1,996"; then the refusals of the call that it becomes
 unfoldable pub frameRefusal : List ℕ → List ℕ → ℕ

@@ -229,7 +229,8 @@ pub(crate) fn bind(port: &[u8], stream: u8, address: &[u8], vid: u32) -> u8
     if record::entry::is_bound(port, stream) {
         return BOUND_ALREADY;
     }
-    if binding::finding::of_pair(port, address, vid as u16).is_bound() {
+    let found = binding::finding::of_pair(port, address, vid).found;
+    if found.is_bound() {
         return PAIR_BOUND_ALREADY;
     }
     0

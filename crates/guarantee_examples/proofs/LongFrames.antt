@@ -24,7 +24,7 @@ use Rattle.arriving.specs.Arriving.{arriveStep}
 use Rattle.ticking.specs.Ticking.{drainedAt, tickedRecord, tickStep}
 use Rattle.sending.specs.Sending.{transmitStep}
 use Rattle.best_effort.specs.BestEffort.{bestEffortStep}
-use Rattle.binding.specs.Finding.{lookupFrom, lookup, frameLookup}
+use Rattle.binding.specs.Finding.{comparedBack, comparedAt, lookupFrom, lookup, frameLookup}
 use Rattle.gates.specs.Refusals.{openRefusal, reserveRefusal, withdrawRefusal, arriveRefusal, closedRefusal, bestEffortRefusal}
 use Rattle.gates.specs.FrameRefusals.{bindRefusal, frameRefusal}
 use Rattle.steps.specs.Call.{terms, opening, arriving, joiningBestEffort, framing}
@@ -50,7 +50,7 @@ unfolding openAt queuesAt openRefusal lengthRefusal
 long-opened = refl
 
 long-made : events quicklyCalled (opening (terms (linkOf longestCharge) 1) ∷ longCalls) freshRecord freshMemory ≡ long
-unfolding allTo sumTo listTo iterate twoOf fourOf attempt arriveOf tickOf frameAt withFrame joinedMemory frontOf waiting openAt withOpen priorAt withPrior delayAt withDelay linkAt withLink waitsAt withWaits queueAt queuesAt withQueue streamAt withStream withPlace drainAt withDrain drainsAt boundAt vidAt addressAt withBinding dropped roleAt openedRecord arriveStep drainedAt tickedRecord tickStep transmitStep bestEffortStep openRefusal reserveRefusal withdrawRefusal arriveRefusal closedRefusal bestEffortRefusal bindRefusal frameRefusal lookupFrom lookup frameLookup octetsEqual chargeOf lengthFits taggedFrame vidOf lengthRefusal
+unfolding allTo sumTo listTo iterate twoOf fourOf attempt arriveOf tickOf frameAt withFrame joinedMemory frontOf waiting openAt withOpen priorAt withPrior delayAt withDelay linkAt withLink waitsAt withWaits queueAt queuesAt withQueue streamAt withStream withPlace drainAt withDrain drainsAt boundAt vidAt addressAt withBinding dropped roleAt openedRecord arriveStep drainedAt tickedRecord tickStep transmitStep bestEffortStep openRefusal reserveRefusal withdrawRefusal arriveRefusal closedRefusal bestEffortRefusal bindRefusal frameRefusal comparedBack comparedAt lookupFrom lookup frameLookup octetsEqual chargeOf lengthFits taggedFrame vidOf lengthRefusal
 long-made = refl
 
 module _ (reply : Reply) (sent : Sent) (said shown : Reply) where

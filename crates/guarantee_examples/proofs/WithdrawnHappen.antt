@@ -19,7 +19,7 @@ use Rattle.arriving.specs.Arriving.{arriveStep}
 use Rattle.ticking.specs.Ticking.{drainedAt, tickedRecord, tickStep}
 use Rattle.sending.specs.Sending.{transmitStep}
 use Rattle.best_effort.specs.BestEffort.{bestEffortStep}
-use Rattle.binding.specs.Finding.{lookupFrom, lookup, frameLookup}
+use Rattle.binding.specs.Finding.{comparedBack, comparedAt, lookupFrom, lookup, frameLookup}
 use Rattle.gates.specs.Refusals.{openRefusal, reserveRefusal, withdrawRefusal, arriveRefusal, closedRefusal, bestEffortRefusal}
 use Rattle.gates.specs.FrameRefusals.{bindRefusal, frameRefusal}
 use Rattle.steps.specs.Call.{terms, opening}
@@ -34,31 +34,31 @@ use Rattle.guarantee_examples.proofs.Quickly.{happens-quickly, opened-8
 
 -- the lists
 handed-6-made : events quicklyCalled (callsOf (handed 6)) freshRecord freshMemory ≡ handed 6
-unfolding allTo sumTo listTo iterate twoOf fourOf attempt arriveOf tickOf frameAt withFrame joinedMemory frontOf waiting openAt withOpen priorAt withPrior delayAt withDelay linkAt withLink waitsAt withWaits queueAt queuesAt withQueue streamAt withStream withPlace drainAt withDrain drainsAt boundAt vidAt addressAt withBinding dropped roleAt openedRecord arriveStep drainedAt tickedRecord tickStep transmitStep bestEffortStep openRefusal reserveRefusal withdrawRefusal arriveRefusal closedRefusal bestEffortRefusal bindRefusal frameRefusal lookupFrom lookup frameLookup octetsEqual chargeOf lengthFits taggedFrame vidOf lengthRefusal
+unfolding allTo sumTo listTo iterate twoOf fourOf attempt arriveOf tickOf frameAt withFrame joinedMemory frontOf waiting openAt withOpen priorAt withPrior delayAt withDelay linkAt withLink waitsAt withWaits queueAt queuesAt withQueue streamAt withStream withPlace drainAt withDrain drainsAt boundAt vidAt addressAt withBinding dropped roleAt openedRecord arriveStep drainedAt tickedRecord tickStep transmitStep bestEffortStep openRefusal reserveRefusal withdrawRefusal arriveRefusal closedRefusal bestEffortRefusal bindRefusal frameRefusal comparedBack comparedAt lookupFrom lookup frameLookup octetsEqual chargeOf lengthFits taggedFrame vidOf lengthRefusal
 handed-6-made = refl
 
 handed-5-made : events quicklyCalled (callsOf (handed 5)) freshRecord freshMemory ≡ handed 5
-unfolding allTo sumTo listTo iterate twoOf fourOf attempt arriveOf tickOf frameAt withFrame joinedMemory frontOf waiting openAt withOpen priorAt withPrior delayAt withDelay linkAt withLink waitsAt withWaits queueAt queuesAt withQueue streamAt withStream withPlace drainAt withDrain drainsAt boundAt vidAt addressAt withBinding dropped roleAt openedRecord arriveStep drainedAt tickedRecord tickStep transmitStep bestEffortStep openRefusal reserveRefusal withdrawRefusal arriveRefusal closedRefusal bestEffortRefusal bindRefusal frameRefusal lookupFrom lookup frameLookup octetsEqual chargeOf lengthFits taggedFrame vidOf lengthRefusal
+unfolding allTo sumTo listTo iterate twoOf fourOf attempt arriveOf tickOf frameAt withFrame joinedMemory frontOf waiting openAt withOpen priorAt withPrior delayAt withDelay linkAt withLink waitsAt withWaits queueAt queuesAt withQueue streamAt withStream withPlace drainAt withDrain drainsAt boundAt vidAt addressAt withBinding dropped roleAt openedRecord arriveStep drainedAt tickedRecord tickStep transmitStep bestEffortStep openRefusal reserveRefusal withdrawRefusal arriveRefusal closedRefusal bestEffortRefusal bindRefusal frameRefusal comparedBack comparedAt lookupFrom lookup frameLookup octetsEqual chargeOf lengthFits taggedFrame vidOf lengthRefusal
 handed-5-made = refl
 
 withdrawn-made : events quicklyCalled (callsOf withdrawn) freshRecord freshMemory ≡ withdrawn
-unfolding allTo sumTo listTo iterate twoOf fourOf attempt arriveOf tickOf frameAt withFrame joinedMemory frontOf waiting openAt withOpen priorAt withPrior delayAt withDelay linkAt withLink waitsAt withWaits queueAt queuesAt withQueue streamAt withStream withPlace drainAt withDrain drainsAt boundAt vidAt addressAt withBinding dropped roleAt openedRecord arriveStep drainedAt tickedRecord tickStep transmitStep bestEffortStep openRefusal reserveRefusal withdrawRefusal arriveRefusal closedRefusal bestEffortRefusal bindRefusal frameRefusal lookupFrom lookup frameLookup octetsEqual chargeOf lengthFits taggedFrame vidOf lengthRefusal
+unfolding allTo sumTo listTo iterate twoOf fourOf attempt arriveOf tickOf frameAt withFrame joinedMemory frontOf waiting openAt withOpen priorAt withPrior delayAt withDelay linkAt withLink waitsAt withWaits queueAt queuesAt withQueue streamAt withStream withPlace drainAt withDrain drainsAt boundAt vidAt addressAt withBinding dropped roleAt openedRecord arriveStep drainedAt tickedRecord tickStep transmitStep bestEffortStep openRefusal reserveRefusal withdrawRefusal arriveRefusal closedRefusal bestEffortRefusal bindRefusal frameRefusal comparedBack comparedAt lookupFrom lookup frameLookup octetsEqual chargeOf lengthFits taggedFrame vidOf lengthRefusal
 withdrawn-made = refl
 
 leaving-made : events quicklyCalled (callsOf leaving) freshRecord freshMemory ≡ leaving
-unfolding allTo sumTo listTo iterate twoOf fourOf attempt arriveOf tickOf frameAt withFrame joinedMemory frontOf waiting openAt withOpen priorAt withPrior delayAt withDelay linkAt withLink waitsAt withWaits queueAt queuesAt withQueue streamAt withStream withPlace drainAt withDrain drainsAt boundAt vidAt addressAt withBinding dropped roleAt openedRecord arriveStep drainedAt tickedRecord tickStep transmitStep bestEffortStep openRefusal reserveRefusal withdrawRefusal arriveRefusal closedRefusal bestEffortRefusal bindRefusal frameRefusal lookupFrom lookup frameLookup octetsEqual chargeOf lengthFits taggedFrame vidOf lengthRefusal
+unfolding allTo sumTo listTo iterate twoOf fourOf attempt arriveOf tickOf frameAt withFrame joinedMemory frontOf waiting openAt withOpen priorAt withPrior delayAt withDelay linkAt withLink waitsAt withWaits queueAt queuesAt withQueue streamAt withStream withPlace drainAt withDrain drainsAt boundAt vidAt addressAt withBinding dropped roleAt openedRecord arriveStep drainedAt tickedRecord tickStep transmitStep bestEffortStep openRefusal reserveRefusal withdrawRefusal arriveRefusal closedRefusal bestEffortRefusal bindRefusal frameRefusal comparedBack comparedAt lookupFrom lookup frameLookup octetsEqual chargeOf lengthFits taggedFrame vidOf lengthRefusal
 leaving-made = refl
 
 left-alone-made : events quicklyCalled (callsOf leftAlone) freshRecord freshMemory ≡ leftAlone
-unfolding allTo sumTo listTo iterate twoOf fourOf attempt arriveOf tickOf frameAt withFrame joinedMemory frontOf waiting openAt withOpen priorAt withPrior delayAt withDelay linkAt withLink waitsAt withWaits queueAt queuesAt withQueue streamAt withStream withPlace drainAt withDrain drainsAt boundAt vidAt addressAt withBinding dropped roleAt openedRecord arriveStep drainedAt tickedRecord tickStep transmitStep bestEffortStep openRefusal reserveRefusal withdrawRefusal arriveRefusal closedRefusal bestEffortRefusal bindRefusal frameRefusal lookupFrom lookup frameLookup octetsEqual chargeOf lengthFits taggedFrame vidOf lengthRefusal
+unfolding allTo sumTo listTo iterate twoOf fourOf attempt arriveOf tickOf frameAt withFrame joinedMemory frontOf waiting openAt withOpen priorAt withPrior delayAt withDelay linkAt withLink waitsAt withWaits queueAt queuesAt withQueue streamAt withStream withPlace drainAt withDrain drainsAt boundAt vidAt addressAt withBinding dropped roleAt openedRecord arriveStep drainedAt tickedRecord tickStep transmitStep bestEffortStep openRefusal reserveRefusal withdrawRefusal arriveRefusal closedRefusal bestEffortRefusal bindRefusal frameRefusal comparedBack comparedAt lookupFrom lookup frameLookup octetsEqual chargeOf lengthFits taggedFrame vidOf lengthRefusal
 left-alone-made = refl
 
 tried-made : events quicklyCalled (opening (terms (linkOf 600) 1) ∷ triedCalls) freshRecord freshMemory ≡ tried
-unfolding allTo sumTo listTo iterate twoOf fourOf attempt arriveOf tickOf frameAt withFrame joinedMemory frontOf waiting openAt withOpen priorAt withPrior delayAt withDelay linkAt withLink waitsAt withWaits queueAt queuesAt withQueue streamAt withStream withPlace drainAt withDrain drainsAt boundAt vidAt addressAt withBinding dropped roleAt openedRecord arriveStep drainedAt tickedRecord tickStep transmitStep bestEffortStep openRefusal reserveRefusal withdrawRefusal arriveRefusal closedRefusal bestEffortRefusal bindRefusal frameRefusal lookupFrom lookup frameLookup octetsEqual chargeOf lengthFits taggedFrame vidOf lengthRefusal
+unfolding allTo sumTo listTo iterate twoOf fourOf attempt arriveOf tickOf frameAt withFrame joinedMemory frontOf waiting openAt withOpen priorAt withPrior delayAt withDelay linkAt withLink waitsAt withWaits queueAt queuesAt withQueue streamAt withStream withPlace drainAt withDrain drainsAt boundAt vidAt addressAt withBinding dropped roleAt openedRecord arriveStep drainedAt tickedRecord tickStep transmitStep bestEffortStep openRefusal reserveRefusal withdrawRefusal arriveRefusal closedRefusal bestEffortRefusal bindRefusal frameRefusal comparedBack comparedAt lookupFrom lookup frameLookup octetsEqual chargeOf lengthFits taggedFrame vidOf lengthRefusal
 tried-made = refl
 
 hurry-made : events hurriedly (callsOf hurry) freshRecord freshMemory ≡ hurry
-unfolding allTo sumTo listTo iterate twoOf fourOf attempt arriveOf tickOf frameAt withFrame joinedMemory frontOf waiting openAt withOpen priorAt withPrior delayAt withDelay linkAt withLink waitsAt withWaits queueAt queuesAt withQueue streamAt withStream withPlace drainAt withDrain drainsAt boundAt vidAt addressAt withBinding dropped roleAt openedRecord arriveStep drainedAt tickedRecord tickStep transmitStep bestEffortStep openRefusal reserveRefusal withdrawRefusal arriveRefusal closedRefusal bestEffortRefusal bindRefusal frameRefusal lookupFrom lookup frameLookup octetsEqual chargeOf lengthFits taggedFrame vidOf lengthRefusal
+unfolding allTo sumTo listTo iterate twoOf fourOf attempt arriveOf tickOf frameAt withFrame joinedMemory frontOf waiting openAt withOpen priorAt withPrior delayAt withDelay linkAt withLink waitsAt withWaits queueAt queuesAt withQueue streamAt withStream withPlace drainAt withDrain drainsAt boundAt vidAt addressAt withBinding dropped roleAt openedRecord arriveStep drainedAt tickedRecord tickStep transmitStep bestEffortStep openRefusal reserveRefusal withdrawRefusal arriveRefusal closedRefusal bestEffortRefusal bindRefusal frameRefusal comparedBack comparedAt lookupFrom lookup frameLookup octetsEqual chargeOf lengthFits taggedFrame vidOf lengthRefusal
 hurry-made = refl
 
 pub withdrawn-happen : WithdrawnHappen

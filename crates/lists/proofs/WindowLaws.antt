@@ -40,7 +40,7 @@ pub put-append : (l : List ℕ) (i : ℕ) (vs ws : List ℕ) → put l i (vs ++ 
 put-append l i [] ws = ap (λ (k : ℕ). put l k ws) (omega arith)
 put-append l i (v ∷ vs) ws = put-append (set l i v) (i + 1) vs ws ∙ ap (λ (k : ℕ). put (put (set l i v) (i + 1) vs) k ws) (omega arith)
 
-getD-get : (l : List ℕ) (i m j : ℕ) → j < m → getD (get l i m) j 0 ≡ getD l (i + j) 0
+pub getD-get : (l : List ℕ) (i m j : ℕ) → j < m → getD (get l i m) j 0 ≡ getD l (i + j) 0
 getD-get l i zero j h = absurd (omega arith)
 getD-get l i (suc m) zero h = ap (λ (k : ℕ). getD l k 0) (omega arith)
 getD-get l i (suc m) (suc j) h = getD-get l (i + 1) m j (omega arith) ∙ ap (λ (k : ℕ). getD l k 0) (omega arith)

@@ -33,7 +33,7 @@ pub if-bound : (bound reserved vid unlike : Bool) → (bound ≡ true → (reser
 if-bound true reserved vid unlike h = h refl
 if-bound false reserved vid unlike h = refl
 
-module _ (p m : List ℕ) (fit : Fit p m) (s : ℕ) (address : List ℕ) (vid : ℕ) (below : s < streamCount) (free : isBound (lookup p address vid) ≡ false) where
+module _ (p m : List ℕ) (fit : Fit p m) (s : ℕ) (address : List ℕ) (vid : ℕ) (below : s < streamCount) (free : isBound (lookup p address vid .found) ≡ false) where
   abbrev after : List ℕ
   after = withBinding p s address vid
 
@@ -88,7 +88,7 @@ module _ (p m : List ℕ) (fit : Fit p m) (s : ℕ) (address : List ℕ) (vid : 
 
 -- a reserved stream, a VID in its range, and a pair to which no stream is bound
 pub bind-fits : (p m : List ℕ) (s : ℕ) (address : List ℕ) (vid : ℕ) → recordFits p m ≡ true → s < streamCount → streamAt p s .reserved ≡ true → vidFits vid ≡ true
-    → isBound (lookup p address vid) ≡ false
+    → isBound (lookup p address vid .found) ≡ false
     → recordFits (withBinding p s address vid) m ≡ true
 bind-fits p m s address vid h below reserved range free =
     let fit = fit-record p m h in

@@ -12,7 +12,7 @@ use Rattle.stream.specs.Replies.{granted}
 use Rattle.record.specs.Head.{openAt}
 use Rattle.record.specs.Entry.{boundAt, vidAt, addressAt, withBinding}
 use Rattle.header.specs.Header.{chargeOf, lengthFits, taggedFrame, vidOf}
-use Rattle.binding.specs.Finding.{lookupFrom, lookup, frameLookup}
+use Rattle.binding.specs.Finding.{comparedBack, comparedAt, lookupFrom, lookup, frameLookup}
 use Rattle.steps.specs.Call.{terms, Call, opening, reserving, withdrawing, arriving, ticking, transmitting, joiningBestEffort, binding, framing}
 use Rattle.steps.specs.Outcome.{Outcome, outcome}
 use Rattle.port_laws.specs.Lists.{replies, freshRecord, freshMemory}
@@ -87,15 +87,15 @@ abbrev bound1 : List ℕ
 bound1 = withBinding (replicate 96 0) 1 caseAddress 100
 
 frame-arrives : streamOf (actionOf (countsAs bound1 (framing (caseTagged 60) 7))) ≡ 1
-unfolding allTo octetsEqual twoOf boundAt vidAt addressAt withBinding chargeOf lengthFits taggedFrame vidOf lookupFrom lookup frameLookup
+unfolding allTo octetsEqual twoOf boundAt vidAt addressAt withBinding chargeOf lengthFits taggedFrame vidOf comparedBack comparedAt lookupFrom lookup frameLookup
 frame-arrives = refl
 
 frame-joins : sortOf (actionOf (countsAs bound1 (framing (replicate {A = ℕ} 60 0) 7))) ≡ 5
-unfolding allTo octetsEqual twoOf boundAt vidAt addressAt withBinding chargeOf lengthFits taggedFrame vidOf lookupFrom lookup frameLookup
+unfolding allTo octetsEqual twoOf boundAt vidAt addressAt withBinding chargeOf lengthFits taggedFrame vidOf comparedBack comparedAt lookupFrom lookup frameLookup
 frame-joins = refl
 
 short-frame-itself : sortOf (actionOf (countsAs bound1 (framing (replicate {A = ℕ} 59 0) 7))) ≡ 6
-unfolding allTo octetsEqual twoOf boundAt vidAt addressAt withBinding chargeOf lengthFits taggedFrame vidOf lookupFrom lookup frameLookup
+unfolding allTo octetsEqual twoOf boundAt vidAt addressAt withBinding chargeOf lengthFits taggedFrame vidOf comparedBack comparedAt lookupFrom lookup frameLookup
 short-frame-itself = refl
 
 arrive-itself : octetsOf (actionOf (countsAs bound1 (arriving 5 120 7))) ≡ 120

@@ -20,13 +20,13 @@ use Rattle.ticking.specs.Ticking.{drainedAt, tickedRecord, tickStep}
 use Rattle.sending.specs.Sending.{transmitStep}
 use Rattle.best_effort.specs.BestEffort.{bestEffortStep}
 use Rattle.gates.specs.Refusals.{openRefusal, reserveRefusal, arriveRefusal, closedRefusal, bestEffortRefusal}
-use Rattle.binding.specs.Finding.{lookupFrom, lookup, frameLookup}
+use Rattle.binding.specs.Finding.{comparedBack, comparedAt, lookupFrom, lookup, frameLookup}
 use Rattle.gates.specs.FrameRefusals.{bindRefusal, frameRefusal}
 
 pub frames-hold : repliesTo framesCase ≡ framesCase .expected
-unfolding allTo sumTo listTo iterate twoOf fourOf attempt arriveOf tickOf frameAt withFrame joinedMemory frontOf waiting openAt withOpen priorAt withPrior delayAt withDelay linkAt withLink waitsAt withWaits queueAt queuesAt withQueue streamAt withStream withPlace drainAt withDrain drainsAt boundAt vidAt dropped recordFits lentRefusal roleAt openedRecord arriveStep drainedAt tickedRecord tickStep transmitStep bestEffortStep openRefusal reserveRefusal arriveRefusal closedRefusal bestEffortRefusal addressAt withBinding octetsEqual chargeOf lengthFits taggedFrame vidOf lookupFrom lookup frameLookup bindRefusal frameRefusal
+unfolding allTo sumTo listTo iterate twoOf fourOf attempt arriveOf tickOf frameAt withFrame joinedMemory frontOf waiting openAt withOpen priorAt withPrior delayAt withDelay linkAt withLink waitsAt withWaits queueAt queuesAt withQueue streamAt withStream withPlace drainAt withDrain drainsAt boundAt vidAt dropped recordFits lentRefusal roleAt openedRecord arriveStep drainedAt tickedRecord tickStep transmitStep bestEffortStep openRefusal reserveRefusal arriveRefusal closedRefusal bestEffortRefusal addressAt withBinding octetsEqual chargeOf lengthFits taggedFrame vidOf comparedBack comparedAt lookupFrom lookup frameLookup bindRefusal frameRefusal
 frames-hold = refl
 
 pub long-frames-hold : repliesTo longFramesCase ≡ longFramesCase .expected
-unfolding allTo sumTo listTo iterate twoOf fourOf attempt arriveOf tickOf frameAt withFrame joinedMemory frontOf waiting openAt withOpen priorAt withPrior delayAt withDelay linkAt withLink waitsAt withWaits queueAt queuesAt withQueue streamAt withStream withPlace drainAt withDrain drainsAt boundAt vidAt dropped recordFits lentRefusal roleAt openedRecord arriveStep drainedAt tickedRecord tickStep transmitStep bestEffortStep openRefusal reserveRefusal arriveRefusal closedRefusal bestEffortRefusal addressAt withBinding octetsEqual chargeOf lengthFits taggedFrame vidOf lookupFrom lookup frameLookup bindRefusal frameRefusal
+unfolding allTo sumTo listTo iterate twoOf fourOf attempt arriveOf tickOf frameAt withFrame joinedMemory frontOf waiting openAt withOpen priorAt withPrior delayAt withDelay linkAt withLink waitsAt withWaits queueAt queuesAt withQueue streamAt withStream withPlace drainAt withDrain drainsAt boundAt vidAt dropped recordFits lentRefusal roleAt openedRecord arriveStep drainedAt tickedRecord tickStep transmitStep bestEffortStep openRefusal reserveRefusal arriveRefusal closedRefusal bestEffortRefusal addressAt withBinding octetsEqual chargeOf lengthFits taggedFrame vidOf comparedBack comparedAt lookupFrom lookup frameLookup bindRefusal frameRefusal
 long-frames-hold = refl

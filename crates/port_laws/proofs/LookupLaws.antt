@@ -18,7 +18,8 @@ use Rattle.fitness.specs.Fit.{recordFits}
 use Rattle.fitness.proofs.FitLaws.{fit-record}
 use Rattle.binding.specs.declared.Lookup.{Lookup}
 use Rattle.binding.specs.declared.Lookup.the-variants.{Bound, Unbound}
-use Rattle.binding.specs.Finding.{boundTo, lookup}
+use Rattle.binding.specs.Finding.{lookup}
+use Rattle.binding.specs.LookupClaims.{boundTo}
 use Rattle.binding.proofs.FindingLaws.{finds, finds-only}
 
 -- stream s is bound to the address and the VID
@@ -28,7 +29,7 @@ pub record BoundTo (p : List ℕ) (s : ℕ) (address : List ℕ) (vid : ℕ) : T
   pub same-vid : vidAt p s ≡ vid
   pub same-address : addressAt p s ≡ get address 0 addressLength
 
--- a stream is bound to them where the lookup's test says so, and nowhere else
+-- a stream is bound to them where the test says so, and nowhere else
 module _ (p : List ℕ) (s : ℕ) (address : List ℕ) (vid : ℕ) where
   tested : BoundTo p s address vid → boundTo p address vid s ≡ true
   tested h = ap₂ _&&_ (h .bound) (same-pair (vidAt p s) (addressAt p s) vid (get address 0 addressLength) (h .same-vid) (h .same-address))
@@ -67,17 +68,17 @@ module _ (p m address : List ℕ) (vid : ℕ) (fit : recordFits p m ≡ true) wh
       less x y a n = ⊎-elim (λ (h : y ≤ x). absurd (n (omega arith))) (λ (h : x < y). h) (le-or-lt y x)
 
   -- the stream that is bound to them is found
-  pub bound-found : (s : ℕ) → BoundTo p s address vid → lookup p address vid ≡ Bound s
+  pub bound-found : (s : ℕ) → BoundTo p s address vid → lookup p address vid .found ≡ Bound s
   bound-found s h = finds-only p address vid s (h .below) (tested p s address vid h) (λ t b also. one-stream s t h (bound-to p t address vid b also))
 
   -- what is found is bound to them
-  pub found-bound : (s : ℕ) → lookup p address vid ≡ Bound s → BoundTo p s address vid
+  pub found-bound : (s : ℕ) → lookup p address vid .found ≡ Bound s → BoundTo p s address vid
   found-bound s e = let f = finds p address vid s e in bound-to p s address vid (f .0) (f .1 .0)
 
   -- and none is found where none is
-  pub none-found : ((s : ℕ) → BoundTo p s address vid → ⊥) → lookup p address vid ≡ Unbound
-  none-found none = told (lookup p address vid) refl
+  pub none-found : ((s : ℕ) → BoundTo p s address vid → ⊥) → lookup p address vid .found ≡ Unbound
+  none-found none = told (lookup p address vid .found) refl
     where
-      told : (found : Lookup) → lookup p address vid ≡ found → found ≡ Unbound
+      told : (found : Lookup) → lookup p address vid .found ≡ found → found ≡ Unbound
       told (Bound s) e = absurd (none s (found-bound s e))
       told Unbound e = refl

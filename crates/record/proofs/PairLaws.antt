@@ -1,6 +1,6 @@
 -- Laws of `samePair`: it is true of two pairs with the same VID and the same address, and of no others. The number of a pair's eight octets, by which
 -- the code compares, says the same. Assumes nothing.
-use Prim.Native.Nat.{ℕ, zero, suc, _+_, _<_}
+use Prim.Native.Nat.{ℕ, _+_}
 use mathlib.Core.Path.{_≡_, refl, sym, ap, ap₂, _∙_}
 use mathlib.Core.Bool.{Bool, true, false, _&&_}
 use mathlib.Core.List.{List, _++_}
@@ -13,10 +13,10 @@ use Rattle.lists.specs.Equal.{octetsEqual}
 use Rattle.lists.proofs.EqualLaws.{equal-octets, octets-equal}
 use Rattle.lists.proofs.TurnLaws.{both}
 use Rattle.octets.specs.Numbers.{twoOf, twoOctets, eightOf}
-use Rattle.octets.proofs.NumberLaws.{Octets, two-octets, two-again, eight-same}
+use Rattle.octets.proofs.NumberLaws.{Octets, two-again, eight-same}
 use Rattle.record.specs.Layout.{entryOffset, pairOffset, addressLength}
-use Rattle.record.specs.Entry.{vidAt, addressAt, samePair, pairOctets}
-use Rattle.record.specs.PairNumber.{pairAt, pairOf}
+use Rattle.record.specs.Entry.{vidAt, addressAt, samePair}
+use Rattle.record.specs.PairNumber.{pairAt}
 
 -- two tests of which each follows from the other answer the same
 one-answer : (x y : Bool) → (x ≡ true → y ≡ true) → (y ≡ true → x ≡ true) → x ≡ y
@@ -63,18 +63,6 @@ module _ (l k : List ℕ) (i j : ℕ) (o : Octets l) (p : Octets k) where
   eight-pair : eqb (eightOf (get l i 8)) (eightOf (get k j 8)) ≡ samePair (vidFrom l i) (addressFrom l i) (vidFrom k j) (addressFrom k j)
   eight-pair = one-answer _ _ number-pair pair-number
 
--- a pair's octets are octets
-pair-octets : (address : List ℕ) (vid : ℕ) → Octets address → vid < 65536 → Octets (pairOctets address vid)
-pair-octets address vid o h zero = omega arith
-pair-octets address vid o h (suc zero) = omega arith
-pair-octets address vid o h (suc (suc zero)) = o 0
-pair-octets address vid o h (suc (suc (suc zero))) = o 1
-pair-octets address vid o h (suc (suc (suc (suc zero)))) = o 2
-pair-octets address vid o h (suc (suc (suc (suc (suc zero))))) = o 3
-pair-octets address vid o h (suc (suc (suc (suc (suc (suc zero)))))) = o 4
-pair-octets address vid o h (suc (suc (suc (suc (suc (suc (suc zero))))))) = o 5
-pair-octets address vid o h (suc (suc (suc (suc (suc (suc (suc (suc k)))))))) = omega arith
-
 module _ (l : List ℕ) (o : Octets l) where
   -- the address of a binding stands after its VID
   address-after : (s : ℕ) → get l (entryOffset s + pairOffset + 1 + 1) addressLength ≡ addressAt l s
@@ -87,11 +75,3 @@ module _ (l : List ℕ) (o : Octets l) where
   numbers-at t s =
       eight-pair l l (entryOffset t + pairOffset) (entryOffset s + pairOffset) o o
       ∙ ap₂ (λ (a b : List ℕ). samePair (vidAt l t) a (vidAt l s) b) (address-after t) (address-after s)
-
-  -- and so those of a stream's pair and of an address and a VID
-  pub numbers-of : (s : ℕ) (address : List ℕ) (vid : ℕ) → Octets address → vid < 65536
-      → eqb (pairAt l s) (pairOf address vid) ≡ samePair (vidAt l s) (addressAt l s) vid (get address 0 addressLength)
-  unfolding pairAt pairOf vidAt
-  numbers-of s address vid a h =
-      eight-pair l (pairOctets address vid) (entryOffset s + pairOffset) 0 o (pair-octets address vid a h)
-      ∙ ap₂ (λ (b : List ℕ) (v : ℕ). samePair (vidAt l s) b v (get address 0 addressLength)) (address-after s) (two-octets vid)

@@ -3,10 +3,10 @@ use stream::Stream;
 ghost use mathlib.Core.Path.{_≡_};
 ghost use mathlib.Core.Bool.{cond};
 ghost use Prim.Native.Nat.{_≤_, _<_};
-ghost use lib.ListN.{length};
+ghost use lib.ListN.{length, getD};
 ghost use Rattle.record.specs.Layout.{Whole, streamCount, entryOffset, addressLength};
-ghost use Rattle.record.specs.Entry.{streamAt, withStream, withPlace, drainAt, withDrain, drainsAt, boundAt, vidAt, withBinding, dropped};
-ghost use Rattle.record.specs.PairNumber.{pairAt, pairOf};
+ghost use Rattle.record.specs.Entry.{streamAt, withStream, withPlace, drainAt, withDrain, drainsAt, boundAt, vidAt, addressAt, withBinding, dropped};
+ghost use Rattle.record.specs.PairNumber.{pairAt};
 
 // Where the entries begin, and the octets of one.
 pub(crate) const START: usize = 64;
@@ -28,10 +28,8 @@ const PAIR: usize = 8;
 
 const ADDRESS: usize = 10;
 
-// Where the last four octets of an address begin, and the last two.
+// Where the last four octets of an address begin.
 const LATER: usize = 2;
-
-const LAST: usize = 4;
 
 // Where the stream's entry begins.
 fn start(stream: u8) -> usize
@@ -126,25 +124,20 @@ pub fn vid(port: &[u8], stream: u8) -> u16
     octets::two_at(port, start(stream) + PAIR)
 }
 
+// An octet of the address of the stream's binding.
+pub fn address_octet(port: &[u8], stream: u8, index: usize) -> u8
+    requires { ⌜ Whole (now port) × ((stream < streamCount) × (index < addressLength)) ⌝ }
+    ensures { λ r. ⌜ r ≡ getD (addressAt (now (port .entry)) stream) index 0 ⌝ }
+{
+    port[start(stream) + ADDRESS + index]
+}
+
 // The pair of VID and address of the stream's binding, as one number.
 pub fn pair(port: &[u8], stream: u8) -> u64
     requires { ⌜ Whole (now port) × (stream < streamCount) ⌝ }
     ensures { λ r. ⌜ r ≡ pairAt (now (port .entry)) stream ⌝ }
 {
     octets::eight_at(port, start(stream) + PAIR)
-}
-
-// The pair of an address, the first six of the octets, and a VID, as one number.
-pub fn pair_of(address: &[u8], vid: u16) -> u64
-    requires { ⌜ addressLength ≤ length (now address) ⌝ }
-    ensures { λ r. ⌜ r ≡ pairOf (now (address .entry)) vid ⌝ }
-{
-    octets::eight(
-        vid,
-        octets::two_at(address, 0),
-        octets::two_at(address, LATER),
-        octets::two_at(address, LAST),
-    )
 }
 
 // Binds the stream to an address, the first six of the octets, and a VID.

@@ -1,4 +1,4 @@
--- The definitions of the port with its registers in numbers: what replies do to the block, the calls, and the register accesses. Assumes nothing.
+-- The definitions of the port with its registers in numbers: what replies do to the block, the calls, the register accesses, and the lookup. Assumes nothing.
 use Prim.Native.Nat.{ℕ}
 use mathlib.Core.Path.{_≡_, refl}
 use mathlib.Core.Bool.{true, false}
@@ -22,6 +22,7 @@ use Rattle.register_block.specs.Written.{writtenAt}
 use Rattle.registers.specs.Lent.{blockPart, inBlock, shortRefusal, portRefusal}
 use Rattle.registers.specs.Notes.{openNoted, frameNoted, tickNoted, transmitNoted, noted}
 use Rattle.registers.specs.Calls.{registered, portCall, quickPortCall}
+use Rattle.registers.specs.PortLookup.{portLookup}
 use Rattle.registers.specs.Accesses.{offsetRefusal, readBy, named, inTurn, writtenBy, writeBy, registerRead, registerWrite}
 
 -- the front of a block with no flag up, this mask, and no counts
@@ -192,3 +193,8 @@ mask-of-closed = refl
 mask-reply : writtenBy told (λ p m. 0) maskOffset 5 lent [] [] .reply .first ≡ 0
 unfolding shortRefusal queuesAt
 mask-reply = refl
+
+-- a lookup refuses a slice that is an octet too short
+lookup-short : portLookup [] 100 (replicate {A = ℕ} 1615 0) .refusal ≡ 19
+unfolding portLookup
+lookup-short = refl

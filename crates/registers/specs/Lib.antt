@@ -1,5 +1,6 @@
--- The port with its registers: what the host lends, what replies do to the register block, the calls, and the register accesses.
+-- The port with its registers: what the host lends, what replies do to the register block, the calls, the register accesses, and the lookup.
 pub mod Lent
 pub mod Notes
 pub mod Calls
 pub mod Accesses
+pub mod PortLookup

@@ -2,6 +2,7 @@
 // Withdraw, Arrive, Tick, Transmit, Best effort, Bind and Frame. Each makes the call on the record, and then does to the block what its reply says.
 // None asks anything of its caller. The definitions are in specs/.
 pub mod accesses;
+pub mod lookup;
 mod notes;
 pub mod quick;
 

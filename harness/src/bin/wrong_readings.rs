@@ -24,10 +24,15 @@ const SOUND: &str = "sound";
 const COPIED: &str = "model";
 
 /// The files of the outside program by which it is `replay`, each before those that use it.
-const FILES: [&str; 8] = ["refusal", "port", "registers", "octets", "frame", "rule", "capture", "replay"];
+const FILES: [&str; 9] = ["refusal", "port", "registers", "octets", "frame", "lookup", "rule", "capture", "replay"];
 /// Those of them in which a reading can be wrong, each with the others that use it.
-const USED_BY: [(&str, &[&str]); 5] =
-    [("port", &["rule", "replay"]), ("octets", &["capture", "replay"]), ("rule", &["replay"]), ("capture", &["replay"]), ("replay", &[])];
+const USED_BY: [(&str, &[&str]); 5] = [
+    ("port", &["lookup", "rule", "replay"]),
+    ("octets", &["capture", "replay"]),
+    ("rule", &["replay"]),
+    ("capture", &["replay"]),
+    ("replay", &[]),
+];
 
 /// The manifest of the package, which takes nothing from this one but copies: quick to build, and a sum that overflows stops it.
 const MANIFEST: &str = r#"[package]

@@ -6,6 +6,7 @@ use std::ops::RangeInclusive;
 use crate::call::Call;
 use crate::comparing::compared::Step;
 use crate::comparing::fit::no_mark;
+use crate::comparing::lookups::any_lookup;
 use crate::comparing::random::Random;
 use crate::comparing::registers::{any_read, any_write};
 use crate::layout::{self, best_effort_limit, is_draining, is_reserved, permitted_sum, two, waits_with};
@@ -121,8 +122,8 @@ pub const ORDINARY: Profile = Profile {
     edges: 0,
 };
 
-/// Each of the nine calls, and each access to a register, with good and bad arguments, to be tried on a port of any length and content.
-pub fn each_call(random: &mut Random, record: &[u8]) -> [Call; 28] {
+/// Each of the nine calls, each access to a register, and the lookup, with good and bad arguments, to be tried on a port of any length and content.
+pub fn each_call(random: &mut Random, record: &[u8]) -> [Call; 31] {
     let zeros = [0; RECORD_OCTETS];
     let record = if record.len() < RECORD_OCTETS { &zeros } else { record };
     let profile = ORDINARY;
@@ -155,6 +156,9 @@ pub fn each_call(random: &mut Random, record: &[u8]) -> [Call; 28] {
         any_write(random, false),
         any_write(random, false),
         any_write(random, true),
+        any_lookup(random, record, false),
+        any_lookup(random, record, false),
+        any_lookup(random, record, true),
     ]
 }
 

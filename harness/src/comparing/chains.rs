@@ -161,13 +161,13 @@ fn walk(coverage: &mut Coverage, random: &mut Random, links: &Links, first: usiz
     coverage.add(Seen::PortWithoutEvents, u64::from(first == 0));
 }
 
-/// An event of a profile, on a port with this record; a capture has no event that binds, brings a frame by its octets, names a register or closes a
-/// port.
+/// An event of a profile, on a port with this record; a capture has no event that binds, brings a frame by its octets, names a register, looks a
+/// pair up or closes a port.
 fn any_event(random: &mut Random, profile: &Profile, record: &[u8]) -> Call {
     loop {
         match profile.step(random, record) {
             Step::Call(Call::Bind { .. } | Call::Frame { .. } | Call::ReadRegister { .. } | Call::WriteRegister { .. }) => (),
-            Step::HostWrites { .. } => (),
+            Step::Call(Call::Lookup { .. }) | Step::HostWrites { .. } => (),
             Step::Call(event) => return event,
         }
     }

@@ -82,7 +82,7 @@ impl Player {
 /// What a call gives the port to read: an address, or the octets of a frame.
 fn to_read(call: &Call) -> Option<&[u8]> {
     match call {
-        Call::Bind { address, .. } => Some(address),
+        Call::Bind { address, .. } | Call::Lookup { address, .. } => Some(address),
         Call::Frame { octets, .. } => Some(octets),
         _ => None,
     }
@@ -90,8 +90,10 @@ fn to_read(call: &Call) -> Option<&[u8]> {
 
 /// The call with its address or octets lent from elsewhere.
 fn giving<'a>(call: &'a Call, octets: &'a [u8]) -> Given<'a> {
+    let address = || octets.try_into().expect("an address has six octets");
     match *call {
-        Call::Bind { stream, vid, .. } => Call::Bind { stream, address: octets.try_into().expect("an address has six octets"), vid },
+        Call::Bind { stream, vid, .. } => Call::Bind { stream, address: address(), vid },
+        Call::Lookup { vid, .. } => Call::Lookup { address: address(), vid },
         Call::Frame { tag, .. } => Call::Frame { octets, tag },
         _ => call.given(),
     }

@@ -7,6 +7,7 @@ use crate::call::{Call, Reply};
 use crate::comparing::damage::Field;
 use crate::comparing::fit::is_bound;
 use crate::comparing::frames::{stream_of, BESIDE_LENGTH};
+use crate::comparing::lookups::Looked;
 use crate::comparing::registers::{Count, Flag};
 use crate::guarantee::found::Shown;
 use crate::layout;
@@ -119,6 +120,8 @@ pub enum Seen {
     /// A count that a call made one more, and one of these that went from 4,294,967,295 to 0.
     Counted(Count),
     CountWrapped(Count),
+    /// A lookup of a kind.
+    Lookup(Looked),
     /// A write of a slice that was lent to be read, made to see that it is noticed.
     WriteNoticed,
     /// Counts, flags and interrupt line of a port that were held against what a test tracked itself.
@@ -200,6 +203,7 @@ impl fmt::Display for Seen {
             Seen::OtherMarkCleared => write!(f, "other marks of flags cleared"),
             Seen::Counted(count) => write!(f, "{count} counted"),
             Seen::CountWrapped(count) => write!(f, "count of {count} wrapped"),
+            Seen::Lookup(looked) => write!(f, "lookups {looked}"),
             Seen::WriteNoticed => write!(f, "writes noticed"),
             Seen::Tracked => write!(f, "registers as tracked"),
             Seen::Shown(shown) => write!(f, "{shown}"),
@@ -274,6 +278,9 @@ impl Coverage {
         if let Call::Frame { octets, tag } = call {
             return self.count_frame(octets, *tag, reply, record);
         }
+        if let Call::Lookup { address, vid } = call {
+            return self.count_lookup(address, *vid, reply, record);
+        }
         if let Call::BestEffort { charge, .. } = *call {
             self.count_best_effort(charge, reply, record);
         }
@@ -304,7 +311,7 @@ impl Coverage {
             }
             Call::Withdraw { .. } => self.count(Seen::Withdrawn),
             Call::Frame { .. } => unreachable!("a Frame is counted as the call that it becomes"),
-            Call::ReadRegister { .. } | Call::WriteRegister { .. } => (),
+            Call::ReadRegister { .. } | Call::WriteRegister { .. } | Call::Lookup { .. } => (),
         }
     }
 

@@ -11,6 +11,7 @@ pub mod fenced;
 pub mod fit;
 pub mod frames;
 pub mod lent;
+pub mod lookups;
 pub mod profiles;
 pub mod program;
 pub mod random;

@@ -18,12 +18,13 @@ pub enum Kind {
     Frames,
     Withdrawals,
     Registers,
+    Lookups,
     Guarantee,
     Captures,
 }
 
 /// Each kind with the word that names it on the command line.
-pub const KINDS: [(&str, Kind); 9] = [
+pub const KINDS: [(&str, Kind); 10] = [
     ("streams", Kind::Streams),
     ("lists", Kind::Lists),
     ("records", Kind::Records),
@@ -31,6 +32,7 @@ pub const KINDS: [(&str, Kind); 9] = [
     ("frames", Kind::Frames),
     ("withdrawals", Kind::Withdrawals),
     ("registers", Kind::Registers),
+    ("lookups", Kind::Lookups),
     ("guarantee", Kind::Guarantee),
     ("captures", Kind::Captures),
 ];

@@ -3,16 +3,16 @@
 //! is total: the queue in a role is (prior + role) modulo 4 for every prior, a ring's place is taken modulo 256 for every start, a place that
 //! is none of the three goes by the same sentences, a draining count of any size falls by one at a tick, W falls to no less than 0, and so does what
 //! L leaves beside R; of streams that are bound to one pair the first counts, reserved or not. What a call's reply does to the register block is
-//! written from document 02, "Register block", and its reading.
+//! written from document 02, "Register block", and its reading; the lookup from "Compare the VLAN id first" and its reading.
 
 mod bindings;
 mod fields;
 mod registers;
 mod traffic;
 
-use crate::call::{Call, Given, Reply};
+use crate::call::{Call, Given, Reply, ADDRESS_OCTETS};
 use crate::layout::{self, entry, BOUND, DELAY, DRAINING, LEFT, LINK, OPEN, PERMITTED, PLACE, PRIOR, RESERVED, WAITS};
-use crate::model::octets::{MEMORY_OCTETS, RECORD_OCTETS};
+use crate::model::octets::{MEMORY_OCTETS, PORT_OCTETS, RECORD_OCTETS};
 use crate::model::port::{BEST_EFFORT, CURRENT, DELAYS, DRAINING_TICKS, LEAST_PERMITTED, LINKS, MARK_NO, MARK_YES, NOT_DRAINING, STREAMS};
 use bindings::bind;
 use fields::{permitted_sum, put_four, put_two, share, two};
@@ -32,9 +32,12 @@ pub fn call(call: &Given, port: &mut [u8], memory: &mut [u8]) -> Reply {
 }
 
 /// The quick call: its reply, or the number of its refusal; 26 for a register's offset comes first, then 18 for a memory that is too short, then 19
-/// for a port that is.
+/// for a port that is, which is all that a lookup is refused with.
 #[inline(always)]
 fn played(call: &Given, port: &mut [u8], memory: &mut [u8]) -> Result<Reply, u8> {
+    if let Call::Lookup { address, vid } = *call {
+        return looked_up(port, address, vid);
+    }
     refuse(26, registers::offset_is_wrong(call))?;
     let memory = memory.first_chunk_mut().ok_or(18)?;
     let (record, rest) = port.split_first_chunk_mut().ok_or(19)?;
@@ -48,6 +51,14 @@ fn played(call: &Given, port: &mut [u8], memory: &mut [u8]) -> Result<Reply, u8>
             reply
         }
     }
+}
+
+/// The lookup on a port that may be too short: it reads the record alone.
+#[inline(always)]
+fn looked_up(port: &[u8], address: &[u8; ADDRESS_OCTETS], vid: u32) -> Result<Reply, u8> {
+    let port: &[u8; PORT_OCTETS] = port.first_chunk().ok_or(19)?;
+    let record = port.first_chunk().ok_or(19)?;
+    Ok(bindings::lookup(record, address, vid))
 }
 
 /// What a quick call that names no register does to the record and the memory: its reply, or the number of its refusal.
@@ -64,6 +75,7 @@ fn on_record(call: &Given, record: &mut Record, memory: &mut Memory) -> Result<R
         Call::Frame { octets, tag } => frame(record, memory, octets, tag),
         Call::Withdraw { stream } => withdraw(record, stream),
         Call::ReadRegister { .. } | Call::WriteRegister { .. } => unreachable!("an access to a register is played beside the record"),
+        Call::Lookup { .. } => unreachable!("a lookup is played without memory"),
     }
 }
 

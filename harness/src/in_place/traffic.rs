@@ -1,6 +1,8 @@
 //! The quick calls of a port's traffic: Arrive, Tick, Transmit, Best effort and Frame.
 
-use super::bindings::{bound_to, Binding};
+use std::hint::black_box;
+
+use super::bindings::{found, Binding};
 use super::fields::{four, frame_at, permitted_sum, put_four, put_two, ring, role, two};
 use super::{free, is_draining, refuse, Memory, Record};
 use crate::call::Reply;
@@ -135,7 +137,10 @@ pub fn frame(record: &mut Record, memory: &mut Memory, octets: &[u8], tag: u32) 
     refuse(1, record[OPEN] != MARK_YES)?;
     refuse(17, !FRAME_LENGTHS.contains(&octets.len()))?;
     let charge = frame::charge(octets);
-    match binding(octets).and_then(|binding| bound_to(record, &binding)) {
+    let (stream, compared) = binding(octets).map_or((None, 0), |binding| found(record, &binding));
+    // The lookup counts, as the proved one does, though nobody here asks: the compiler must not leave that out.
+    black_box(compared);
+    match stream {
         Some(stream) => arrive(record, memory, stream as u8, charge, tag),
         None => best_effort(record, memory, charge, tag),
     }

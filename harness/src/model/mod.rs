@@ -12,6 +12,9 @@ pub mod fitness;
 pub mod frame;
 #[cfg(test)]
 mod frame_tests;
+pub mod lookup;
+#[cfg(test)]
+mod lookup_tests;
 pub mod octets;
 pub mod port;
 pub mod refusal;
@@ -26,10 +29,17 @@ mod tests;
 mod withdraw_tests;
 
 use crate::call::{Call, Given, Reply};
+use frame::Pair;
+use lookup::lookup;
+use octets::PORT_OCTETS;
+use port::BEST_EFFORT_STREAM;
 
 /// Plays one call on a lent port, record and register block, and memory of any length and content: 26 of a register's offset, "before 18"; "Checks
-/// run 18, 19", then the call's own, then its rule.
+/// run 18, 19", then the call's own, then its rule. A lookup takes a record of any content, and no memory.
 pub fn call(call: &Given, record: &mut [u8], memory: &mut [u8]) -> Reply {
+    if let Call::Lookup { address, vid } = *call {
+        return looked_up(record, &Pair { address: *address, vid });
+    }
     if registers::offset_is_wrong(call) {
         return Reply::refused(refusal::REGISTER_OFFSET);
     }
@@ -46,4 +56,18 @@ pub fn call(call: &Given, record: &mut [u8], memory: &mut [u8]) -> Reply {
     }
     octets::write(&port, record, memory);
     reply
+}
+
+/// The lookup as a host calls it, on a port of any content: it replies the stream, or 255 where a frame of the pair is best effort, and the number of
+/// octets compared. A lent port that is too short is 19, and nothing else is refused.
+fn looked_up(port: &[u8], pair: &Pair) -> Reply {
+    if port.len() < PORT_OCTETS {
+        return Reply::refused(refusal::RECORD_UNFIT);
+    }
+    let found = lookup(&octets::streams(port), pair);
+    let stream = match found.stream {
+        Some(number) => number as u32,
+        None => BEST_EFFORT_STREAM,
+    };
+    Reply::granted(stream, found.compared)
 }

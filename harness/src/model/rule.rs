@@ -2,6 +2,7 @@
 //! words, then what its reply does to the registers.
 
 use super::frame::{self, Pair, FRAME_LENGTHS};
+use super::lookup::lookup;
 use super::port::{
     permitted_sum, share, Frame, Port, Stream, BEST_EFFORT, BEST_EFFORT_STREAM, CHARGES, CURRENT, DELAYS, DRAINING_TICKS, LAST,
     LEAST_PERMITTED, LINKS, MARK_NO, MARK_YES, NEXT, NOTHING, NOT_DRAINING, QUEUE_PLACES, RESERVED_QUEUES, STREAMS, VIDS,
@@ -33,6 +34,7 @@ fn on_record(call: &Given, port: &mut Port) -> Reply {
         Call::ReadRegister { offset } => port.registers.read(offset, port.is_open()),
         Call::WriteRegister { offset: CONTROL, value } => control(port, value),
         Call::WriteRegister { offset, value } => port.registers.write(offset, value),
+        Call::Lookup { .. } => unreachable!("a lookup is played on the octets, without 18 and 19"),
     }
 }
 
@@ -272,9 +274,9 @@ fn withdraw(port: &mut Port, number: usize) -> Reply {
     Reply::granted(0, 0)
 }
 
-/// The stream that is bound to a pair, if there is one: a port that is fit has no second.
+/// The stream that is bound to a pair, if there is one, by the lookup: a port that is fit has no second.
 fn bound_to(port: &Port, pair: &Pair) -> Option<usize> {
-    port.streams.iter().position(|stream| stream.is_bound() && stream.address == pair.address && stream.vid == pair.vid)
+    lookup(&port.streams, pair).stream
 }
 
 /// "Frame(octets, tag)": "A bound pair is an Arrive on its stream; all else is best effort."

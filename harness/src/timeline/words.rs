@@ -1,7 +1,7 @@
 //! A call and its reply in words, for a reader who does not know the numbers by heart: `arrive on stream 5, charge 100, tag 8: joins next, 100 left`.
 //! Replies may be anybody's: two that differ read differently, and one that no port can give to the call is told in its numbers.
 
-use crate::call::{hexadecimal, Call, Reply};
+use crate::call::{hexadecimal, Call, Reply, ADDRESS_OCTETS};
 use crate::model::capture::Refused;
 use crate::model::port::{BEST_EFFORT_STREAM, CURRENT, DRAINING_TICKS, LAST, NOTHING, QUEUES, STREAMS};
 use crate::model::refusal;
@@ -25,6 +25,7 @@ pub fn call(call: &Call) -> String {
         Call::Withdraw { stream } => format!("withdraw stream {stream}"),
         Call::ReadRegister { offset } => format!("read the register at offset {offset}"),
         Call::WriteRegister { offset, value } => format!("write {value} to the register at offset {offset}"),
+        Call::Lookup { address, vid } => format!("look up address {}, VID {vid}", hexadecimal(address)),
     }
 }
 
@@ -72,6 +73,7 @@ fn granted(call: &Call, first: u32, second: u32) -> Option<String> {
         Call::WriteRegister { offset: 0, value } if value & 2 != 0 => sent(first, second),
         Call::WriteRegister { offset: 0, value } if value & 1 != 0 => Some(purged(first, second)),
         Call::WriteRegister { .. } => (first == 0 && second == 0).then(|| String::from("writes")),
+        Call::Lookup { .. } => found(first, second),
     }
 }
 
@@ -104,6 +106,15 @@ fn sent(stream: u32, tag: u32) -> Option<String> {
     }
 }
 
+/// The stream that a lookup finds, or 255 for none, and the number of address octets compared, at most all of 64 bindings.
+fn found(stream: u32, compared: u32) -> Option<String> {
+    let can_be = compared <= (STREAMS * ADDRESS_OCTETS) as u32;
+    match stream {
+        BEST_EFFORT_STREAM => can_be.then(|| format!("finds no stream, {compared} address octets compared")),
+        stream => (can_be && stream < STREAMS as u32).then(|| format!("finds stream {stream}, {compared} address octets compared")),
+    }
+}
+
 #[cfg(test)]
 mod tests {
     use std::collections::HashSet;
@@ -126,6 +137,7 @@ mod tests {
             Call::WriteRegister { offset: 12, value: 7 },
             Call::WriteRegister { offset: 0, value: 1 },
             Call::WriteRegister { offset: 0, value: 3 },
+            Call::Lookup { address: [1, 0, 0x5e, 0, 0, 5], vid: 10 },
         ]
     }
 
@@ -157,6 +169,9 @@ mod tests {
         assert_eq!(said(&calls[10], 0, 0, 0), "6 write 7 to the register at offset 12: writes");
         assert_eq!(said(&calls[11], 0, 2, 204), "6 write 1 to the register at offset 0: purges 2 frames, 204 octets");
         assert_eq!(said(&calls[12], 0, 5, 7), "6 write 3 to the register at offset 0: sends stream 5, tag 7");
+        let lookup = "6 look up address 01 00 5e 00 00 05, VID 10: finds";
+        assert_eq!(said(&calls[13], 0, 5, 7), format!("{lookup} stream 5, 7 address octets compared"));
+        assert_eq!(said(&calls[13], 0, 255, 384), format!("{lookup} no stream, 384 address octets compared"));
     }
 
     #[test]
@@ -181,6 +196,7 @@ mod tests {
         assert!(odd(&calls[4], 0, 64, 7) && odd(&calls[4], 0, 254, 1) && odd(&calls[7], 0, 4, 1));
         assert!(odd(&calls[8], 0, 400, 0) && odd(&calls[8], 0, 0, 1) && odd(&calls[8], 25, 1, 0) && odd(&calls[8], 27, 0, 0));
         assert!(odd(&calls[9], 0, 3, 1) && odd(&calls[10], 0, 1, 0) && odd(&calls[12], 0, 64, 0));
+        assert!(odd(&calls[13], 0, 64, 6) && odd(&calls[13], 0, 254, 0) && odd(&calls[13], 0, 5, 385) && odd(&calls[13], 0, 255, 385));
     }
 
     #[test]

@@ -3,12 +3,13 @@
 
 use std::path::Path;
 
-use harness::call::{Call, Reply};
+use harness::call::{Call, Reply, ADDRESS_OCTETS};
 use harness::comparing::calls::{Charges, Profile, Weights, NEVER, ORDINARY};
 use harness::comparing::compared::Step;
 use harness::comparing::coverage::{prior_waits, Asked, Seen};
 use harness::comparing::draining::{ending, Freed};
 use harness::comparing::fit::Octets;
+use harness::comparing::lookups::{lookups_near, Looked, NONE};
 use harness::comparing::profiles::{
     self, any_profile, FEW_STREAMS, FULL_LINK, HARDLY_ANY_TRANSMITS, MANY_STREAMS, REGISTERS, WITHDRAWING, WRONG_ARGUMENTS,
 };
@@ -20,7 +21,7 @@ use harness::comparing::tests::lists::at_each_place;
 use harness::model;
 
 use super::Port;
-use crate::{Control, Controlled, Flags, Framed, Joined, Queue, Refusal, Register, Sent};
+use crate::{Control, Controlled, Flags, Framed, Joined, Lookup, Queue, Refusal, Register, Sent};
 
 /// The seed of the lists.
 const SEED: u64 = 1;
@@ -85,6 +86,23 @@ fn withdrawn_streams() -> Result<(), String> {
     run.demand(&[(Seen::GrantedAgain, 100), (Seen::GrantedAgainAtOnce, 25)])?;
     let asked = [Asked::Reservation, Asked::Arrival, Asked::Binding, Asked::Withdrawal];
     run.demand(&asked.map(|asked| (Seen::RefusedDraining(asked), 25)))
+}
+
+/// Lookups of a bound pair and of all that is near to it, after each call of lists that bind and withdraw.
+#[test]
+fn pairs_looked_up() -> Result<(), String> {
+    let mut run = run("pairs_looked_up");
+    for _ in 0..8 {
+        let mut random = run.next_list();
+        let profile = once_opened(WITHDRAWING);
+        let mut both = Both::open(&mut run, &profile.open(&mut random, false)).expect("L and K are in their ranges");
+        both.play_list_with_lookups(&mut run, &mut random, &profile, 150);
+    }
+    run.demand_none(Seen::Lookup(Looked::Refused))?;
+    let found = [Looked::Found, Looked::FoundDraining, Looked::NoneByVid, Looked::NoneByAddress, Looked::VidAbove];
+    let passed = [Looked::PastSameAddress, Looked::PastDraining].into_iter().chain((0..ADDRESS_OCTETS).map(Looked::PastAddressOctet));
+    let looked: Vec<_> = found.into_iter().chain(passed).map(|looked| (Seen::Lookup(looked), 100)).collect();
+    run.demand(&looked)
 }
 
 /// Registers that are read and written again and again, beside calls that raise each flag and each counter.
@@ -167,6 +185,15 @@ impl Both {
         }
     }
 
+    /// Plays the calls of one list, and after each of them lookups near what is bound then.
+    fn play_list_with_lookups(&mut self, run: &mut Run, random: &mut Random, profile: &Profile, calls: usize) {
+        for _ in 0..calls {
+            self.play_list(run, random, profile, 1);
+            let lookups = lookups_near(random, &self.octets.record);
+            lookups.iter().for_each(|lookup| self.play(run, lookup));
+        }
+    }
+
     /// Plays a call on both, which must do the same.
     fn play(&mut self, run: &mut Run, call: &Call) {
         let (prior_waited, ending) = (prior_waits(&self.octets.record), ending(call, &self.octets.record));
@@ -208,6 +235,7 @@ fn through(port: &mut Port, call: &Call) -> Reply {
         Call::Withdraw { stream } => numbers(port.withdraw(stream), |()| (0, 0)),
         Call::ReadRegister { offset } => numbers(read(port, offset), |register| (register, 0)),
         Call::WriteRegister { offset, value } => numbers(write(port, offset, value), |numbers| numbers),
+        Call::Lookup { ref address, vid } => numbers(Ok(port.lookup(address, vid)), of_lookup),
     }
 }
 
@@ -270,6 +298,11 @@ fn of_arrival(joined: Joined) -> (u32, u32) {
         Queue::Last => 3,
     };
     (queue, joined.left)
+}
+
+/// The stream, or 255 for none, and "the number of address octets so compared".
+fn of_lookup(lookup: Lookup) -> (u32, u32) {
+    (lookup.stream.map_or(NONE, u32::from), lookup.compared)
 }
 
 /// "stream (255 best effort, 254 nothing), tag (0 for nothing)".

@@ -2,6 +2,7 @@
 
 mod cases;
 mod envelope;
+mod lookups;
 mod names;
 mod refusals;
 mod registers;

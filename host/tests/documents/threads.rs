@@ -2,9 +2,9 @@
 
 use std::thread;
 
-use bunnysolder::{Counts, Queue, Sent, Status};
+use bunnysolder::{Counts, Lookup, Queue, Sent, Status};
 
-use crate::{joined, reserved, STREAM};
+use crate::{joined, reserved, ADDRESS, STREAM};
 
 /// A port goes to another thread with the frames that wait in it.
 #[test]
@@ -26,6 +26,19 @@ fn registers_are_read_by_several_threads() {
             let (status, counts) = reader.join().expect("the thread ends");
             assert_eq!(status, Status { open: true, interrupt: false });
             assert_eq!(counts, Counts { accepted: 1, discarded: 0, sent: 0 });
+        }
+    });
+}
+
+/// The bindings of a port are looked up by several threads at a time.
+#[test]
+fn bindings_are_looked_up_by_several_threads() {
+    let mut port = reserved();
+    assert_eq!(port.bind(STREAM, &ADDRESS, 1), Ok(()));
+    thread::scope(|scope| {
+        let seekers = [0; 4].map(|_| scope.spawn(|| port.lookup(&ADDRESS, 1)));
+        for seeker in seekers {
+            assert_eq!(seeker.join().expect("the thread ends"), Lookup { stream: Some(STREAM), compared: 6 });
         }
     });
 }

@@ -1,4 +1,4 @@
-//! Each of the nine calls and each access to a register, with good and bad arguments, tried on one record after another.
+//! Each of the nine calls, each access to a register and the lookup, with good and bad arguments, tried on one record after another.
 
 use crate::comparing::calls::each_call;
 use crate::comparing::compared::Compared;

@@ -8,6 +8,7 @@ use crate::comparing::coverage::Seen;
 use crate::comparing::fenced::{lend_given, lend_pair, Edge, EDGES};
 use crate::comparing::fit::Octets;
 use crate::comparing::lent::Lend;
+use crate::comparing::lookups::Looked;
 use crate::comparing::sides::Side;
 use crate::comparing::test::{Kind, Run, Test};
 use crate::comparing::tests::each_call::try_lengths;
@@ -68,13 +69,14 @@ fn between_fences(run: &mut Run, side: Side) -> Result<(), String> {
     run.demand(&[(Seen::Bound, 20), (Seen::FrameArrived, 20), (Seen::FrameBestEffort, 40), (Seen::FrameRefused(FRAME_LENGTH), 20)])?;
     run.demand(&[(Seen::Withdrawn, 40), (Seen::Freed, 20), (Seen::Refused(DRAINING), 20)])?;
     run.demand(&OF_ACCESSES.map(|seen| (seen, 20)))?;
+    run.demand(&[Looked::Found, Looked::NoneByVid, Looked::NoneByAddress, Looked::Refused].map(|looked| (Seen::Lookup(looked), 20)))?;
     run.demand(&[(Seen::RegisterRead, 40), (Seen::MaskWritten, 20), (Seen::ControlTicked, 10), (Seen::ControlTransmitted, 10)])
 }
 
-/// What a call is lent to be read alone: a read of a register the port, and every call but those that bring a frame the memory.
+/// What a call is lent to be read alone: a read of a register and a lookup the port, and every call but those that bring a frame the memory.
 fn lent_to_be_read(call: &Call) -> [bool; 2] {
     let brings = matches!(call, Call::Arrive { .. } | Call::BestEffort { .. } | Call::Frame { .. });
-    [matches!(call, Call::ReadRegister { .. }), !brings]
+    [matches!(call, Call::ReadRegister { .. } | Call::Lookup { .. }), !brings]
 }
 
 /// The proved calls, quick or not, write no octet of a slice that is lent to be read, not even the octet that stands there; and such a write is
@@ -95,7 +97,8 @@ fn slices_lent_to_be_read(run: &mut Run) -> Result<(), String> {
             run.coverage.add(Seen::WriteNoticed, u64::from(noticed));
         }
     }
-    run.demand(&[(Seen::WriteNoticed, 100), (Seen::RegisterRead, 500), (Seen::LineUp, 20), (Seen::LineDown, 20)])
+    run.demand(&[(Seen::WriteNoticed, 100), (Seen::RegisterRead, 500), (Seen::LineUp, 20), (Seen::LineDown, 20)])?;
+    run.demand(&[Looked::Found, Looked::NoneByVid, Looked::NoneByAddress].map(|looked| (Seen::Lookup(looked), 20)))
 }
 
 /// Whether a call on copies of a port and a memory, of which some may be read alone, writes neither those nor an octet outside.
@@ -105,5 +108,8 @@ fn kept_by(run: &mut Run, side: Side, call: &Call, octets: &Octets, reading: [bo
     let reply = (run.sides.play(side))(&call.given(), port.octets_mut(), memory.octets_mut());
     run.calls += 1;
     run.coverage.count_access(call, &reply);
+    if let Call::Lookup { address, vid } = call {
+        run.coverage.count_lookup(address, *vid, &reply, &octets.record);
+    }
     port.outside_kept()
 }

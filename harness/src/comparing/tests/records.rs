@@ -157,12 +157,12 @@ fn break_once(run: &mut Run, breach: &Breach, site: usize, open: bool) -> Result
     expect_unfit(run, &past, &after, !broken[1].is_empty())
 }
 
-/// Each call, on the same octets, is refused with 19 on both sides, or is not; 26 comes before that.
+/// Each call, on the same octets, is refused with 19 on both sides, or is not; 26 comes before that, and a lookup takes a record of any content.
 fn expect_unfit(run: &mut Run, octets: &Octets, calls: &[Call], unfit: bool) -> Result<(), String> {
     run.coverage.count(if unfit { Seen::UnfitRecord } else { Seen::FitRecord });
     let mut compared = Compared::guarded(SIDES, run, &octets.record, &octets.memory);
     for call in calls {
-        let unfit = unfit && !is_outside(call);
+        let unfit = unfit && !is_outside(call) && !matches!(call, Call::Lookup { .. });
         let words = if unfit { "19" } else { "anything but 19" };
         compared.lend_again(&octets.record, &octets.memory);
         compared.expect(run, call, |reply| (reply.refusal == RECORD_UNFIT) == unfit, words)?;

@@ -1,8 +1,5 @@
 -- `gates::refusals::bind` meets its contract. Test after test. Assumes nothing.
-use native.Mathlib.Omega.{arith}
-use mathlib.Core.Path.{refl, sym, _∙_}
-use borrow.Author.Tests.{not-false}
-use Rattle.ranges.proofs.RangeLaws.{within-bounds}
+use mathlib.Core.Path.{refl}
 use borrow.Author.Needs.{needs}
 use Rattle.gates.specs.FrameRefusals.{bindRefusal}
 use Rattle.gates.proofs.TestLaws.{at-found, past-is, past-is-not, past-unreserved, past-least, past-found, tests}
@@ -25,7 +22,6 @@ bind-spec =
     (λ c. search tests depth 12 fits 8000)
     (λ c κs. search needs)
     (λ c. search tests depth 12 fits 8000)
-    (λ c. omega (arith, within-bounds _ _ (c .before .before .before .before .before .before .before .before .before .before .before .before .before .before .args .vid) (sym (c .before .before .before .vid-fits .ensures) ∙ not-false _ (c .before .before .if5 .left)) .1))
     (λ c κs. search needs)
     (λ c κs. search needs)
     (λ c.
