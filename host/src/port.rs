@@ -23,6 +23,8 @@ mod wrapping;
 /// calls, which scan nothing. Their replies are the rule's own all the same, and that is proved:
 ///
 /// - each export does what its definition says, for every record, memory and argument (the contracts in `crates/exports/src`);
+/// - a lookup finds the lowest stream that is bound to the pair, and its number is the rule's (`finds-same`, `exact-number` and `number-within`,
+///   `crates/binding/proofs/FindingLaws.antt`);
 /// - a record of zeros, on which [`open`](Port::open) calls Open, is fit (`fresh-fits`, `crates/port_laws/proofs/FreshFit.antt`);
 /// - every call leaves a fit record fit, the granted Open among them (`stays-fit`, `crates/port_laws/proofs/StayLaws.antt`);
 /// - on a fit record the quick call equals the call in reply, record and memory (`quick-call`, `crates/port_laws/proofs/QuickLaws.antt`), so over

@@ -24,6 +24,11 @@ use Rattle.binding.specs.declared.Answer.{Answer}
 use Rattle.binding.specs.Finding.{comparedBack, comparedAt, lookupFrom, lookup, isBound}
 use Rattle.binding.specs.LookupClaims.{boundTo, firstFrom, firstBound, SameStream, reached, octetsCompared, goneThrough, ExactNumber, NumberWithin}
 
+-- what holds of both outcomes of a comparison holds of it
+either-way : (P : Comparison → Type 0) (e : Bool) (x y : Comparison) → P x → P y → P (cond e x y)
+either-way P true x y a b = a
+either-way P false x y a b = b
+
 module _ (a b : List ℕ) where
   -- whether octet i is the same in both
   abbrev same : ℕ → Bool
@@ -92,12 +97,19 @@ module _ (a b : List ℕ) where
   back-most : (n compared : ℕ) → comparedBack a b n compared .compared ≤ compared + n
   unfolding comparedBack
   back-most zero compared = omega arith
-  back-most (suc n) compared = told (same n) (back-most n (compared + 1))
-    where
-      told : (e : Bool) → comparedBack a b n (compared + 1) .compared ≤ compared + 1 + n
-          → cond e (comparedBack a b n (compared + 1)) (record { equal = false; compared = compared + 1 }) .compared ≤ compared + suc n
-      told true later = omega (arith, later)
-      told false later = omega arith
+  back-most (suc n) compared =
+      let later = back-most n (compared + 1) in
+      either-way (λ c. c .compared ≤ compared + suc n) (same n) (comparedBack a b n (compared + 1)) (record { equal = false; compared = compared + 1 })
+      (omega (arith, later)) (omega arith)
+
+  -- of equal addresses all octets are compared
+  back-whole : (n compared : ℕ) → comparedBack a b n compared .equal ≡ true → comparedBack a b n compared .compared ≡ compared + n
+  unfolding comparedBack
+  back-whole zero compared = λ is. omega arith
+  back-whole (suc n) compared =
+      let later = back-whole n (compared + 1) in
+      either-way (λ c. c .equal ≡ true → c .compared ≡ compared + suc n) (same n) (comparedBack a b n (compared + 1)) (record { equal = false; compared = compared + 1 })
+      (λ is. later is ∙ omega arith) (λ is. differ (sym is))
 
 module _ (p address : List ℕ) (vid : ℕ) where
   -- what is compared with a stream's binding: nothing where it is unbound or has another VID
@@ -118,13 +130,17 @@ module _ (p address : List ℕ) (vid : ℕ) where
   -- and never more than an address has
   most-at : (s compared : ℕ) → comparedAt p address vid s compared .compared ≤ compared + addressLength
   unfolding comparedAt
-  most-at s compared = told (boundAt p s && eqb (vidAt p s) vid)
-    where
-      told : (e : Bool)
-          → cond e (comparedBack (addressAt p s) address addressLength compared) (record { equal = false; compared = compared }) .compared
-          ≤ compared + addressLength
-      told true = back-most (addressAt p s) address addressLength compared
-      told false = omega arith
+  most-at s compared =
+      either-way (λ c. c .compared ≤ compared + addressLength) (boundAt p s && eqb (vidAt p s) vid) (comparedBack (addressAt p s) address addressLength compared)
+      (record { equal = false; compared = compared }) (back-most (addressAt p s) address addressLength compared) (omega arith)
+
+  -- of a binding that matches just as many
+  whole-at : (s compared : ℕ) → comparedAt p address vid s compared .equal ≡ true → comparedAt p address vid s compared .compared ≡ compared + addressLength
+  unfolding comparedAt
+  whole-at s compared =
+      either-way (λ c. c .equal ≡ true → c .compared ≡ compared + addressLength) (boundAt p s && eqb (vidAt p s) vid)
+      (comparedBack (addressAt p s) address addressLength compared) (record { equal = false; compared = compared })
+      (back-whole (addressAt p s) address addressLength compared) (λ is. differ (sym is))
 
   -- one turn of the lookup, by what comparing gave: the binding matches and is found, or it is passed over
   module _ (s compared : ℕ) (here : Comparison) (told : here ≡ comparedAt p address vid s compared) where
@@ -227,29 +243,6 @@ exact-number p address vid =
     let counted = number-from p address vid streamCount 0 0 in
     let same = ap (sumTo (octetsCompared p address vid)) (gone-all (lookup p address vid .found) ∙ ap goneThrough (finds-same p address vid)) in
     omega (arith, counted, same)
-
--- of equal addresses all octets are compared
-back-whole : (a b : List ℕ) (n compared : ℕ) → comparedBack a b n compared .equal ≡ true → comparedBack a b n compared .compared ≡ compared + n
-unfolding comparedBack
-back-whole a b zero compared e = omega arith
-back-whole a b (suc n) compared e = told (same a b n) (back-whole a b n (compared + 1)) e
-  where
-    told : (x : Bool) → (comparedBack a b n (compared + 1) .equal ≡ true → comparedBack a b n (compared + 1) .compared ≡ compared + 1 + n)
-        → cond x (comparedBack a b n (compared + 1)) (record { equal = false; compared = compared + 1 }) .equal ≡ true
-        → cond x (comparedBack a b n (compared + 1)) (record { equal = false; compared = compared + 1 }) .compared ≡ compared + suc n
-    told true later is = later is ∙ omega arith
-    told false later is = differ (sym is)
-
-whole-at : (p address : List ℕ) (vid s compared : ℕ) → comparedAt p address vid s compared .equal ≡ true
-    → comparedAt p address vid s compared .compared ≡ compared + addressLength
-unfolding comparedAt
-whole-at p address vid s compared = told (boundAt p s && eqb (vidAt p s) vid)
-  where
-    told : (x : Bool)
-        → cond x (comparedBack (addressAt p s) address addressLength compared) (record { equal = false; compared = compared }) .equal ≡ true
-        → cond x (comparedBack (addressAt p s) address addressLength compared) (record { equal = false; compared = compared }) .compared ≡ compared + addressLength
-    told true is = back-whole (addressAt p s) address addressLength compared is
-    told false is = differ (sym is)
 
 -- the ends of the number after so many octets, with n streams from s on
 abbrev Within : ℕ → ℕ → ℕ → Answer → Type 0

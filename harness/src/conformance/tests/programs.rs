@@ -11,7 +11,7 @@ use crate::capture::stored;
 use crate::conformance::tool::{run, Failure};
 
 /// The first line of what the command tells.
-const NAMED: &str = "the conformance set of edition 3\n";
+const NAMED: &str = "the conformance set of edition 4\n";
 /// Seconds that no program of these tests needs.
 const AMPLE: &str = "60";
 
@@ -276,7 +276,7 @@ fn captures_are_listed() {
 fn captures_are_written() {
     let folder = Folder::new("write");
     let (status, output, _) = folder.left(&["--only", "c1", "--only", "without_events", "--write"]);
-    let told = format!("the conformance set of edition 3: 21 captures, and what the rule prints of each, in {}\n", folder.0.display());
+    let told = format!("{}: 21 captures, and what the rule prints of each, in {}\n", NAMED.trim_end(), folder.0.display());
     assert_eq!((status, output), (0, told));
     let stored = stored::one("c1").expect("it is stored");
     let read = |name: &str| fs::read(folder.0.join(name)).expect(name);
