@@ -22,11 +22,11 @@ abbrev address : ℕ → ℕ → List ℕ
 address first last = first ∷ 0 ∷ 94 ∷ 0 ∷ 0 ∷ last ∷ []
 
 -- a record without a binding, and one in which streams 3 and 5 are bound, with VID 100 and addresses that end in 66 and 67
-abbrev none : List ℕ
-none = replicate {A = ℕ} recordLength 0
+abbrev bare : List ℕ
+bare = replicate {A = ℕ} recordLength 0
 
 abbrev two : List ℕ
-two = withBinding (withBinding none 3 (address 1 66) 100) 5 (address 1 67) 100
+two = withBinding (withBinding bare 3 (address 1 66) 100) 5 (address 1 67) 100
 
 -- what a lookup gives as two numbers: the stream, 255 where none is found, and the address octets compared
 abbrev numbers : Answer → List ℕ
