@@ -56,7 +56,7 @@ unfolding lookup lookupFrom comparedAt comparedBack twoOf boundAt vidAt addressA
 finds-no-vid = refl
 
 -- a binding that draining leaves is gone through, one that is dropped is not
-pub finds-draining : numbers (lookup (withDrain two 3 4) (address 1 67) 100) ≡ 5 ∷ 7 ∷ []
+pub finds-draining : numbers (lookup (withDrain two 3 1) (address 1 67) 100) ≡ 5 ∷ 7 ∷ []
 unfolding lookup lookupFrom comparedAt comparedBack twoOf boundAt vidAt addressAt withBinding withDrain
 finds-draining = refl
 
@@ -79,7 +79,7 @@ pub compares-vid : comparedAt two (address 1 66) 101 3 0 .compared ≡ 0
 unfolding comparedAt comparedBack twoOf boundAt vidAt addressAt withBinding
 compares-vid = refl
 
-pub compares-draining : comparedAt (withDrain two 3 4) (address 1 66) 100 3 0 .compared ≡ 6
+pub compares-draining : comparedAt (withDrain two 3 1) (address 1 66) 100 3 0 .compared ≡ 6
 unfolding comparedAt comparedBack twoOf boundAt vidAt addressAt withBinding withDrain
 compares-draining = refl
 
