@@ -7,15 +7,17 @@ use mathlib.Core.List.{List, [], _∷_}
 use native.Mathlib.Omega.{arith}
 use lib.ListN.{length, getD, length-set}
 use lib.Seq.{getD-set-same}
-use lib.Dec.{eqb}
+use lib.Dec.{eqb, ltb}
 use Rattle.lists.specs.Window.{put, Apart}
 use Rattle.lists.proofs.WindowLaws.{length-put, getD-put, get-apart, get-put}
 use Rattle.lists.proofs.TurnLaws.{iterate-keeps, iterate-each}
 use Rattle.octets.specs.Numbers.{fourOf, fourOctets, twoOf}
 use Rattle.octets.proofs.NumberLaws.{four-octets}
-use Rattle.register_block.specs.Layout.{blockLength, WholeBlock}
+use borrow.Author.Tests.{lt-ltb}
+use Rattle.record.specs.Layout.{streamCount}
+use Rattle.register_block.specs.Layout.{blockLength, WholeBlock, acceptedOctet, discardedOctet, discardFlag}
 use Rattle.register_block.specs.Fields.{flagAt, withFlag, withoutFlag, wordAt, withWord, bitOf}
-use Rattle.register_block.specs.Events.{raised, zeroed}
+use Rattle.register_block.specs.Events.{raised, forStream, accepted, discarded, withdrawn, zeroed}
 use Rattle.register_block.specs.Written.{clearedBy}
 
 -- no change is one of the length
@@ -147,3 +149,108 @@ module _ (b : List ℕ) (flag : ℕ) where
       by-bit : (t : Bool) → flagAt (cond t (withoutFlag b other) b) flag ≡ flagAt b flag
       by-bit true = flag-unflag-other other apart
       by-bit false = refl
+
+-- what is true of the block, and of it changed, is true of a change for whatever number,
+for-either : (G : List ℕ → Type 0) (s : ℕ) (change : List ℕ → List ℕ) (b : List ℕ) → G (change b) → G b → G (forStream s change b)
+for-either G s change b changed same = by-test (ltb s streamCount)
+  where
+    by-test : (t : Bool) → G (cond t (change b) b)
+    by-test true = changed
+    by-test false = same
+
+-- and for a stream the change is made
+for-stream : (s : ℕ) (change : List ℕ → List ℕ) (b : List ℕ) → s < streamCount → forStream s change b ≡ change b
+for-stream s change b below = ap (λ (t : Bool). cond t (change b) b) (lt-ltb s streamCount below)
+
+-- what a change for a stream does: nothing to the length,
+module _ (s : ℕ) (b : List ℕ) where
+  pub length-accepted : length (accepted s b) ≡ length b
+  unfolding accepted
+  length-accepted = for-either (λ l. length l ≡ length b) s (λ l. raised l (acceptedOctet s)) b (length-raised b (acceptedOctet s)) refl
+
+  length-counted : length (forStream s (λ l. raised l (discardedOctet s)) b) ≡ length b
+  length-counted = for-either (λ l. length l ≡ length b) s (λ l. raised l (discardedOctet s)) b (length-raised b (discardedOctet s)) refl
+
+  pub length-discarded : length (discarded s b) ≡ length b
+  unfolding discarded
+  length-discarded = length-flag (forStream s (λ l. raised l (discardedOctet s)) b) discardFlag ∙ length-counted
+
+  pub length-withdrawn : length (withdrawn s b) ≡ length b
+  unfolding withdrawn
+  length-withdrawn =
+      for-either (λ l. length l ≡ length b) s (λ l. withWord (withWord l (acceptedOctet s) 0) (discardedOctet s) 0) b
+      (length-word (withWord b (acceptedOctet s) 0) (discardedOctet s) 0 ∙ length-word b (acceptedOctet s) 0) refl
+
+  -- its own count is raised, or both begin anew,
+  module _ (below : s < streamCount) (whole : WholeBlock b) where
+    pub word-accepted : wordAt (accepted s b) (acceptedOctet s) ≡ (wordAt b (acceptedOctet s) + 1) % 2 ^ 32
+    unfolding accepted
+    word-accepted =
+        ap (λ (l : List ℕ). wordAt l (acceptedOctet s)) (for-stream s (λ l. raised l (acceptedOctet s)) b below)
+        ∙ word-raised b (acceptedOctet s) (omega (arith, below, whole))
+
+    pub word-discarded : wordAt (discarded s b) (discardedOctet s) ≡ (wordAt b (discardedOctet s) + 1) % 2 ^ 32
+    unfolding discarded
+    word-discarded =
+        word-flag (forStream s (λ l. raised l (discardedOctet s)) b) (discardedOctet s) discardFlag (omega arith)
+        ∙ ap (λ (l : List ℕ). wordAt l (discardedOctet s)) (for-stream s (λ l. raised l (discardedOctet s)) b below)
+        ∙ word-raised b (discardedOctet s) (omega (arith, below, whole))
+
+    withdrawn-so : withdrawn s b ≡ withWord (withWord b (acceptedOctet s) 0) (discardedOctet s) 0
+    unfolding withdrawn
+    withdrawn-so = for-stream s (λ l. withWord (withWord l (acceptedOctet s) 0) (discardedOctet s) 0) b below
+
+    pub accepted-withdrawn : wordAt (withdrawn s b) (acceptedOctet s) ≡ 0
+    accepted-withdrawn =
+        ap (λ (l : List ℕ). wordAt l (acceptedOctet s)) withdrawn-so
+        ∙ word-apart (withWord b (acceptedOctet s) 0) (acceptedOctet s) (discardedOctet s) 0 (λ k x y u v. omega arith)
+        ∙ word-word b (acceptedOctet s) 0 (omega (arith, below, whole))
+
+    pub discarded-withdrawn : wordAt (withdrawn s b) (discardedOctet s) ≡ 0
+    discarded-withdrawn =
+        ap (λ (l : List ℕ). wordAt l (discardedOctet s)) withdrawn-so
+        ∙ word-word (withWord b (acceptedOctet s) 0) (discardedOctet s) 0 (omega (arith, below, whole, length-word b (acceptedOctet s) 0))
+
+  -- and every word that lies apart is kept, those of other streams among them
+  module _ (at : ℕ) where
+    pub accepted-apart : Apart at 4 (acceptedOctet s) 4 → wordAt (accepted s b) at ≡ wordAt b at
+    unfolding accepted
+    accepted-apart apart =
+        for-either (λ l. wordAt l at ≡ wordAt b at) s (λ l. raised l (acceptedOctet s)) b (word-raised-apart b at (acceptedOctet s) apart) refl
+
+    pub discarded-apart : discardFlag < at → Apart at 4 (discardedOctet s) 4 → wordAt (discarded s b) at ≡ wordAt b at
+    unfolding discarded
+    discarded-apart above apart =
+        word-flag (forStream s (λ l. raised l (discardedOctet s)) b) at discardFlag above
+        ∙ for-either (λ l. wordAt l at ≡ wordAt b at) s (λ l. raised l (discardedOctet s)) b (word-raised-apart b at (discardedOctet s) apart) refl
+
+    pub withdrawn-apart : Apart at 4 (acceptedOctet s) 4 → Apart at 4 (discardedOctet s) 4 → wordAt (withdrawn s b) at ≡ wordAt b at
+    unfolding withdrawn
+    withdrawn-apart first second =
+        for-either (λ l. wordAt l at ≡ wordAt b at) s (λ l. withWord (withWord l (acceptedOctet s) 0) (discardedOctet s) 0) b
+        (word-apart (withWord b (acceptedOctet s) 0) at (discardedOctet s) 0 second ∙ word-apart b at (acceptedOctet s) 0 first) refl
+
+  -- a flag is raised by a discard alone
+  module _ (flag : ℕ) (low : flag < acceptedOctet 0) where
+    pub flag-accepted : flagAt (accepted s b) flag ≡ flagAt b flag
+    unfolding accepted
+    flag-accepted =
+        for-either (λ l. flagAt l flag ≡ flagAt b flag) s (λ l. raised l (acceptedOctet s)) b (flag-raised b flag (acceptedOctet s) (omega (arith, low))) refl
+
+    flag-counted : flagAt (forStream s (λ l. raised l (discardedOctet s)) b) flag ≡ flagAt b flag
+    flag-counted =
+        for-either (λ l. flagAt l flag ≡ flagAt b flag) s (λ l. raised l (discardedOctet s)) b (flag-raised b flag (discardedOctet s) (omega (arith, low))) refl
+
+    pub flag-discarded : (flag ≡ discardFlag → ⊥) → flagAt (discarded s b) flag ≡ flagAt b flag
+    unfolding discarded
+    flag-discarded other = flag-other (forStream s (λ l. raised l (discardedOctet s)) b) flag discardFlag other ∙ flag-counted
+
+    pub flag-withdrawn : flagAt (withdrawn s b) flag ≡ flagAt b flag
+    unfolding withdrawn
+    flag-withdrawn =
+        for-either (λ l. flagAt l flag ≡ flagAt b flag) s (λ l. withWord (withWord l (acceptedOctet s) 0) (discardedOctet s) 0) b
+        (flag-word (withWord b (acceptedOctet s) 0) flag (discardedOctet s) 0 (omega (arith, low)) ∙ flag-word b flag (acceptedOctet s) 0 (omega (arith, low))) refl
+
+  pub discard-flagged : WholeBlock b → flagAt (discarded s b) discardFlag ≡ true
+  unfolding discarded
+  discard-flagged whole = flag-flag (forStream s (λ l. raised l (discardedOctet s)) b) discardFlag (omega (arith, whole, length-counted))

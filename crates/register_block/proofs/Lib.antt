@@ -2,5 +2,6 @@
 pub mod TestLaws
 pub mod BlockLaws
 pub mod WrittenLaws
+pub mod ChoiceLaws
 pub mod LineLaws
 pub mod BlockCases

@@ -3,10 +3,14 @@ use Prim.Native.Nat.{ℕ, zero, suc, _+_, _^_, _≤_, _<_}
 use mathlib.Core.Path.{_≡_, refl, ap, _∙_}
 use mathlib.Core.Bool.{Bool, true, false, cond, _&&_}
 use mathlib.Core.List.{List}
+use mathlib.Core.Logic.{⊎-elim}
 use native.Mathlib.Omega.{arith}
+use borrow.Author.Tests.{ne-eqb}
+use Rattle.lists.specs.Window.{Apart}
+use Rattle.lists.proofs.Order.{eq-or-not}
 use lib.ListN.{length}
 use lib.Dec.{eqb}
-use Rattle.register_block.specs.Layout.{WholeBlock, flagsOffset, maskOffset, discardFlag, purgeFlag, nothingFlag, flagCount, maskOctet, registerLength}
+use Rattle.register_block.specs.Layout.{WholeBlock, flagsOffset, maskOffset, choiceOffset, discardFlag, purgeFlag, nothingFlag, flagCount, maskOctet, choiceOctet, registerLength}
 use Rattle.register_block.specs.Fields.{flagAt, withoutFlag, wordAt, withWord, bitOf, bit0, bit1, bit2}
 use Rattle.register_block.specs.Written.{clearedBy, flagsCleared, writtenAt}
 use Rattle.register_block.proofs.BlockLaws.{length-word, length-cleared, word-word, word-apart, word-unflag, flag-word, flag-cleared, flag-cleared-other}
@@ -51,36 +55,62 @@ flag-flags b (suc (suc (suc n))) number below whole = absurd (omega (arith, belo
 
 module _ (offset number : ℕ) (b : List ℕ) where
   -- a write by its offset
-  by-offset : (G : List ℕ → Type 0) → G (flagsCleared number b) → G (withWord b maskOctet number) → G b → G (writtenAt offset number b)
+  by-offset : (G : List ℕ → Type 0) → G (flagsCleared number b) → G (withWord b maskOctet number) → G (withWord b choiceOctet number) → G b
+      → G (writtenAt offset number b)
   unfolding writtenAt
-  by-offset G flags mask none = told (eqb offset flagsOffset) (eqb offset maskOffset)
+  by-offset G flags mask choice none = told (eqb offset flagsOffset) (eqb offset maskOffset) (eqb offset choiceOffset)
     where
-      told : (x y : Bool) → G (cond x (flagsCleared number b) (cond y (withWord b maskOctet number) b))
-      told true y = flags
-      told false true = mask
-      told false false = none
+      told : (x y z : Bool) → G (cond x (flagsCleared number b) (cond y (withWord b maskOctet number) (cond z (withWord b choiceOctet number) b)))
+      told true y z = flags
+      told false true z = mask
+      told false false true = choice
+      told false false false = none
 
   -- no write changes the length, nor a counter
   pub length-written : length (writtenAt offset number b) ≡ length b
-  length-written = by-offset (λ l. length l ≡ length b) (length-flags number b) (length-word b maskOctet number) refl
+  length-written = by-offset (λ l. length l ≡ length b) (length-flags number b) (length-word b maskOctet number) (length-word b choiceOctet number) refl
 
-  pub word-written : (at : ℕ) → maskOctet + registerLength ≤ at → wordAt (writtenAt offset number b) at ≡ wordAt b at
-  word-written at above =
-      by-offset (λ l. wordAt l at ≡ wordAt b at) (word-flags b at number (omega (arith, above)))
-      (word-apart b at maskOctet number (λ k x y u v. omega (arith, above, x, y, u, v))) refl
+  pub word-written : (at : ℕ) → flagCount ≤ at → Apart at 4 maskOctet 4 → Apart at 4 choiceOctet 4 → wordAt (writtenAt offset number b) at ≡ wordAt b at
+  word-written at above mask choice =
+      by-offset (λ l. wordAt l at ≡ wordAt b at) (word-flags b at number above) (word-apart b at maskOctet number mask) (word-apart b at choiceOctet number choice)
+      refl
 
   -- a flag is cleared by a one at its bit in a write to the flags, and by no other write
   pub flag-written : (flag : ℕ) → flag < flagCount → WholeBlock b
       → flagAt (writtenAt offset number b) flag ≡ cond (eqb offset flagsOffset && bitOf number (2 ^ flag)) false (flagAt b flag)
   unfolding writtenAt
-  flag-written flag below whole = told (eqb offset flagsOffset) (eqb offset maskOffset)
+  flag-written flag below whole = told (eqb offset flagsOffset) (eqb offset maskOffset) (eqb offset choiceOffset)
     where
-      told : (x y : Bool) → flagAt (cond x (flagsCleared number b) (cond y (withWord b maskOctet number) b)) flag ≡ cond (x && bitOf number (2 ^ flag)) false (flagAt b flag)
-      told true y = flag-flags b flag number below whole
-      told false true = flag-word b flag maskOctet number (omega (arith, below))
+      told : (x y z : Bool) → flagAt (cond x (flagsCleared number b) (cond y (withWord b maskOctet number) (cond z (withWord b choiceOctet number) b))) flag
+          ≡ cond (x && bitOf number (2 ^ flag)) false (flagAt b flag)
+      told true y z = flag-flags b flag number below whole
+      told false true z = flag-word b flag maskOctet number (omega (arith, below))
+      told false false true = flag-word b flag choiceOctet number (omega (arith, below))
+      told false false false = refl
+
+  -- "kept as written", all 32 bits: the mask takes a write to 12, the choice one to 28, and neither any other
+  pub mask-written : WholeBlock b → wordAt (writtenAt offset number b) maskOctet ≡ cond (eqb offset maskOffset) number (wordAt b maskOctet)
+  unfolding writtenAt
+  mask-written whole =
+      ⊎-elim
+      (λ (is : offset ≡ maskOffset). rw (is) (word-word b maskOctet number (omega (arith, whole))))
+      (λ (isnt : offset ≡ maskOffset → ⊥). rw (ne-eqb offset maskOffset isnt) (told (eqb offset flagsOffset) (eqb offset choiceOffset)))
+      (eq-or-not offset maskOffset)
+    where
+      told : (x z : Bool) → wordAt (cond x (flagsCleared number b) (cond z (withWord b choiceOctet number) b)) maskOctet ≡ wordAt b maskOctet
+      told true z = word-flags b maskOctet number (omega arith)
+      told false true = word-apart b maskOctet choiceOctet number (λ k x y u v. omega arith)
       told false false = refl
 
--- "12 the interrupt mask, kept as written": all 32 bits of it
-pub mask-written : (number : ℕ) (b : List ℕ) → WholeBlock b → wordAt (writtenAt maskOffset number b) maskOctet ≡ number
-unfolding writtenAt
-mask-written number b whole = word-word b maskOctet number (omega (arith, whole))
+  pub choice-written : WholeBlock b → wordAt (writtenAt offset number b) choiceOctet ≡ cond (eqb offset choiceOffset) number (wordAt b choiceOctet)
+  unfolding writtenAt
+  choice-written whole =
+      ⊎-elim
+      (λ (is : offset ≡ choiceOffset). rw (is) (word-word b choiceOctet number (omega (arith, whole))))
+      (λ (isnt : offset ≡ choiceOffset → ⊥). rw (ne-eqb offset choiceOffset isnt) (told (eqb offset flagsOffset) (eqb offset maskOffset)))
+      (eq-or-not offset choiceOffset)
+    where
+      told : (x y : Bool) → wordAt (cond x (flagsCleared number b) (cond y (withWord b maskOctet number) b)) choiceOctet ≡ wordAt b choiceOctet
+      told true y = word-flags b choiceOctet number (omega arith)
+      told false true = word-apart b choiceOctet maskOctet number (λ k x y u v. omega arith)
+      told false false = refl

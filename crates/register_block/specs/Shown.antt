@@ -3,8 +3,9 @@ use Prim.Native.Nat.{ℕ, _+_, _^_}
 use mathlib.Core.Path.{_≡_}
 use mathlib.Core.Bool.{Bool, true, cond, _&&_, _||_}
 use mathlib.Core.List.{List}
-use lib.Dec.{eqb}
-use Rattle.register_block.specs.Layout.{statusOffset, flagsOffset, maskOffset, acceptedOffset, discardedOffset, sentOffset, discardFlag, purgeFlag, nothingFlag, maskOctet, sentOctet, acceptedOctet, discardedOctet}
+use lib.Dec.{eqb, ltb}
+use Rattle.record.specs.Layout.{streamCount}
+use Rattle.register_block.specs.Layout.{statusOffset, flagsOffset, maskOffset, acceptedOffset, discardedOffset, sentOffset, choiceOffset, discardFlag, purgeFlag, nothingFlag, maskOctet, sentOctet, choiceOctet, acceptedOctet, discardedOctet}
 use Rattle.register_block.specs.Fields.{flagAt, wordAt, bitOf, bit0, bit1, bit2}
 
 -- "8 flags (bit 0 discard, bit 1 purge of at least one frame, bit 2 nothing to send)"
@@ -38,12 +39,22 @@ pub record LineExactly (b : List ℕ) : Type 0 where
 unfoldable pub statusOf : Bool → List ℕ → ℕ
 statusOf opened b = cond opened bit0 0 + cond (lineUp b) bit1 0
 
+-- the stream "chosen by a new register at offset 28 (0 at opening, kept as written)"
+abbrev pub chosen : List ℕ → ℕ
+chosen b = wordAt b choiceOctet
+
+-- "Offsets 16 and 20 show the counts of the stream chosen": the count that stands at this octet of each stream; "a number above 63 there makes both read
+-- zero"
+unfoldable pub shownCount : (ℕ → ℕ) → List ℕ → ℕ
+shownCount octet b = cond (ltb (chosen b) streamCount) (wordAt b (octet (chosen b))) 0
+
 -- the register at each offset, of a port that is open or not; control "reads zero", and "Other offsets read zero"
 unfoldable pub registerAt : Bool → List ℕ → ℕ → ℕ
 registerAt opened b offset =
     cond (eqb offset statusOffset) (statusOf opened b)
     (cond (eqb offset flagsOffset) (flagsOf b)
     (cond (eqb offset maskOffset) (maskOf b)
-    (cond (eqb offset acceptedOffset) (wordAt b acceptedOctet)
-    (cond (eqb offset discardedOffset) (wordAt b discardedOctet)
-    (cond (eqb offset sentOffset) (wordAt b sentOctet) 0)))))
+    (cond (eqb offset acceptedOffset) (shownCount acceptedOctet b)
+    (cond (eqb offset discardedOffset) (shownCount discardedOctet b)
+    (cond (eqb offset sentOffset) (wordAt b sentOctet)
+    (cond (eqb offset choiceOffset) (chosen b) 0))))))

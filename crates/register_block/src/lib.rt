@@ -1,17 +1,18 @@
-// The register block in the octets that the host lends behind a port's record: flags, mask and counters read and written in place. The layout and the
-// definitions are in specs/. Nothing here knows of ports: what a reply does to the block is said above.
+// The register block in the octets that the host lends behind a port's record: flags, mask, choice and counters read and written in place. The layout and
+// the definitions are in specs/. Nothing here knows of calls: what a reply does to the block is said above.
 ghost use mathlib.Core.Path.{_≡_};
 ghost use mathlib.Core.Bool.{cond};
 ghost use Prim.Native.Nat.{_+_, _≤_, _<_};
 ghost use lib.ListN.{length};
-ghost use Rattle.register_block.specs.Layout.{WholeBlock};
+ghost use Rattle.record.specs.Layout.{streamCount};
+ghost use Rattle.register_block.specs.Layout.{WholeBlock, acceptedOctet, discardedOctet};
 ghost use Rattle.register_block.specs.Fields.{flagAt, withFlag, withoutFlag, wordAt, withWord, bitOf};
-ghost use Rattle.register_block.specs.Events.{raised, accepted, discarded, purged, sent, sentNothing, zeroed};
-ghost use Rattle.register_block.specs.Shown.{flagsOf, sharesOne, lineUp, statusOf, registerAt};
+ghost use Rattle.register_block.specs.Events.{forStream, raised, accepted, discarded, withdrawn, purged, sent, sentNothing, zeroed};
+ghost use Rattle.register_block.specs.Shown.{flagsOf, sharesOne, lineUp, statusOf, shownCount, registerAt};
 ghost use Rattle.register_block.specs.Written.{clearedBy, flagsCleared, writtenAt};
 
-// The octets of the block, with room for two counts of each of 64 streams.
-pub const LENGTH: usize = 528;
+// The octets of the block, which ends with the counts of the last stream.
+pub const LENGTH: usize = COUNTS + record::STREAMS as usize * COUNTS_LENGTH;
 
 // The last register's offset, and the octets of each register.
 pub const LAST_OFFSET: u32 = 60;
@@ -33,6 +34,8 @@ const DISCARDED_OFFSET: u32 = 20;
 
 const SENT_OFFSET: u32 = 24;
 
+const CHOICE_OFFSET: u32 = 28;
+
 // The weights of the first three bits of a number.
 pub const BIT_0: u32 = 1;
 
@@ -47,14 +50,22 @@ const PURGE_FLAG: usize = 1;
 
 const NOTHING_FLAG: usize = 2;
 
-// Where the mask and the counters begin.
+// Where the mask, the count of frames sent and the choice begin.
 const MASK: usize = 4;
 
 const SENT: usize = 8;
 
-const ACCEPTED: usize = 16;
+const CHOICE: usize = 12;
 
-const DISCARDED: usize = 20;
+// Where the counts of stream 0 begin, the octets of a stream's two, and those of one.
+const COUNTS: usize = 16;
+
+const COUNTS_LENGTH: usize = 8;
+
+const COUNT_LENGTH: usize = REGISTER_LENGTH as usize;
+
+// The number of streams, as a choice is compared with it.
+const STREAMS: u32 = record::STREAMS as u32;
 
 // A flag's octet: 1 is up, any other down.
 const UP: u8 = 1;
@@ -121,22 +132,83 @@ fn raise(block: &mut [u8], octet: usize)
     );
 }
 
-// A frame of either sort was accepted.
-pub fn accept(block: &mut [u8])
-    requires { ⌜ WholeBlock (now block) ⌝ }
-    ensures { λ _. ⌜ now (block .exit) ≡ accepted (now (block .entry)) ⌝ }
+// Where the count of a stream's accepted frames begins.
+fn accepted_at(stream: u8) -> usize
+    ensures { λ r. ⌜ r ≡ acceptedOctet stream ⌝ }
 {
-    raise(block, ACCEPTED);
+    COUNTS + stream as usize * COUNTS_LENGTH
 }
 
-// A frame was discarded. The count is raised first: the compiler then keeps it apart from that of an accepted frame, and each is one read and one
-// write of four octets.
-pub fn discard(block: &mut [u8])
-    requires { ⌜ WholeBlock (now block) ⌝ }
-    ensures { λ _. ⌜ now (block .exit) ≡ discarded (now (block .entry)) ⌝ }
+// Where the count of a stream's discards begins.
+fn discarded_at(stream: u8) -> usize
+    ensures { λ r. ⌜ r ≡ discardedOctet stream ⌝ }
 {
-    raise(block, DISCARDED);
+    accepted_at(stream) + COUNT_LENGTH
+}
+
+// The accepted frames of a stream.
+pub fn accepted_of(block: &[u8], stream: u8) -> u32
+    requires { ⌜ WholeBlock (now block) × (stream < streamCount) ⌝ }
+    ensures { λ r. ⌜ r ≡ wordAt (now (block .entry)) (acceptedOctet stream) ⌝ }
+{
+    word_at(block, accepted_at(stream))
+}
+
+// The discards of a stream.
+pub fn discarded_of(block: &[u8], stream: u8) -> u32
+    requires { ⌜ WholeBlock (now block) × (stream < streamCount) ⌝ }
+    ensures { λ r. ⌜ r ≡ wordAt (now (block .entry)) (discardedOctet stream) ⌝ }
+{
+    word_at(block, discarded_at(stream))
+}
+
+// A frame of a stream was accepted.
+pub fn accept(block: &mut [u8], stream: u8)
+    requires { ⌜ WholeBlock (now block) ⌝ }
+    ensures { λ _. ⌜ now (block .exit) ≡ accepted stream (now (block .entry)) ⌝ }
+{
+    if stream < record::STREAMS {
+        return raise(block, accepted_at(stream));
+    }
+}
+
+// Raises the count of a stream's discards.
+fn count_discard(block: &mut [u8], stream: u8)
+    requires { ⌜ WholeBlock (now block) ⌝ }
+    ensures { λ _. ⌜ now (block .exit) ≡ forStream stream (λ l. raised l (discardedOctet stream)) (now (block .entry)) ⌝ }
+{
+    if stream < record::STREAMS {
+        return raise(block, discarded_at(stream));
+    }
+}
+
+// A frame of a stream was discarded. The count is raised first: the compiler then keeps it apart from that of an accepted frame, and each is one read
+// and one write of four octets.
+pub fn discard(block: &mut [u8], stream: u8)
+    requires { ⌜ WholeBlock (now block) ⌝ }
+    ensures { λ _. ⌜ now (block .exit) ≡ discarded stream (now (block .entry)) ⌝ }
+{
+    count_discard(block, stream);
     put_flag(block, DISCARD_FLAG);
+}
+
+// Sets both counts of a stream to 0.
+fn clear_counts(block: &mut [u8], stream: u8)
+    requires { ⌜ WholeBlock (now block) × (stream < streamCount) ⌝ }
+    ensures { λ _. ⌜ now (block .exit) ≡ withWord (withWord (now (block .entry)) (acceptedOctet stream) 0) (discardedOctet stream) 0 ⌝ }
+{
+    put_word(block, accepted_at(stream), 0);
+    put_word(block, discarded_at(stream), 0);
+}
+
+// A stream was withdrawn.
+pub fn withdraw(block: &mut [u8], stream: u8)
+    requires { ⌜ WholeBlock (now block) ⌝ }
+    ensures { λ _. ⌜ now (block .exit) ≡ withdrawn stream (now (block .entry)) ⌝ }
+{
+    if stream < record::STREAMS {
+        return clear_counts(block, stream);
+    }
 }
 
 // A tick has purged at least one frame.
@@ -228,6 +300,30 @@ fn status(opened: bool, block: &[u8]) -> u32
     weighted(opened, BIT_0) + weighted(line_up(block), BIT_1)
 }
 
+// The accepted frames of the chosen stream, 0 where no stream is chosen.
+fn chosen_accepted(block: &[u8]) -> u32
+    requires { ⌜ WholeBlock (now block) ⌝ }
+    ensures { λ r. ⌜ r ≡ shownCount acceptedOctet (now (block .entry)) ⌝ }
+{
+    let choice = word_at(block, CHOICE);
+    if choice < STREAMS {
+        return accepted_of(block, choice as u8);
+    }
+    0
+}
+
+// The discards of the chosen stream, 0 where no stream is chosen.
+fn chosen_discarded(block: &[u8]) -> u32
+    requires { ⌜ WholeBlock (now block) ⌝ }
+    ensures { λ r. ⌜ r ≡ shownCount discardedOctet (now (block .entry)) ⌝ }
+{
+    let choice = word_at(block, CHOICE);
+    if choice < STREAMS {
+        return discarded_of(block, choice as u8);
+    }
+    0
+}
+
 // The register at an offset, of a port that is open or not.
 pub fn register_at(opened: bool, block: &[u8], offset: u32) -> u32
     requires { ⌜ WholeBlock (now block) ⌝ }
@@ -243,13 +339,16 @@ pub fn register_at(opened: bool, block: &[u8], offset: u32) -> u32
         return word_at(block, MASK);
     }
     if offset == ACCEPTED_OFFSET {
-        return word_at(block, ACCEPTED);
+        return chosen_accepted(block);
     }
     if offset == DISCARDED_OFFSET {
-        return word_at(block, DISCARDED);
+        return chosen_discarded(block);
     }
     if offset == SENT_OFFSET {
         return word_at(block, SENT);
+    }
+    if offset == CHOICE_OFFSET {
+        return word_at(block, CHOICE);
     }
     0
 }
@@ -284,5 +383,8 @@ pub fn write_at(block: &mut [u8], offset: u32, number: u32)
     }
     if offset == MASK_OFFSET {
         return put_word(block, MASK, number);
+    }
+    if offset == CHOICE_OFFSET {
+        return put_word(block, CHOICE, number);
     }
 }
