@@ -1,5 +1,5 @@
-// The calls of a port, its register accesses and its lookup for a host in C or Rust, over the slice and the memory that the host lends. The refusal,
-// or 0, is returned, and the two reply numbers are left in `first` and `second`. None asks anything of its caller; a contract is that of the call in
+// The calls of a port, its register accesses, its counts and its lookup for a host in C or Rust, over the slice and the memory that the host lends. The
+// refusal, or 0, is returned, and the two reply numbers are left in `first` and `second`. None asks anything of its caller; a contract is that of the call in
 // `registers`.
 pub mod alone;
 pub mod unscanned;
@@ -9,6 +9,7 @@ ghost use Rattle.steps.specs.Call.{terms, opening, reserving, withdrawing, arri
 ghost use Rattle.steps.specs.Outcome.{outcome};
 ghost use Rattle.registers.specs.Calls.{portCall};
 ghost use Rattle.registers.specs.Accesses.{registerRead, registerWrite};
+ghost use Rattle.registers.specs.StreamCounts.{portCounts};
 ghost use Rattle.registers.specs.PortLookup.{portLookup};
 ghost use Rattle.exports.specs.Handed.{handed};
 
@@ -201,6 +202,22 @@ pub extern "C" fn bunnysolder_register_write(
     ensures { λ r. ⌜ outcome (handed r (now (first .exit)) (now (second .exit))) (now (port .exit)) (now (memory .entry)) ≡ registerWrite offset value (now (port .entry)) (now (memory .entry)) ⌝ }
 {
     let reply = registers::accesses::write(port, memory, offset, value);
+    *first = reply.first;
+    *second = reply.second;
+    reply.refusal
+}
+
+// The accepted frames and the discards of a stream.
+#[no_mangle]
+pub extern "C" fn bunnysolder_stream_counts(
+    port: &[u8],
+    stream: u8,
+    first: &mut u32,
+    second: &mut u32,
+) -> u8
+    ensures { λ r. ⌜ handed r (now (first .exit)) (now (second .exit)) ≡ portCounts stream (now (port .entry)) ⌝ }
+{
+    let reply = registers::counts::of_stream(port, stream);
     *first = reply.first;
     *second = reply.second;
     reply.refusal

@@ -1,5 +1,5 @@
 // What each call does where record and memory are long enough: its own refusals, in document 01's order, then its step. The definitions are in specs/.
-mod refusals;
+pub mod refusals;
 
 use binding::Lookup;
 use stream::Reply;

@@ -24,7 +24,7 @@ const LINK_RANGE: u8 = 3;
 
 const DELAY_RANGE: u8 = 4;
 
-const STREAM_RANGE: u8 = 5;
+pub const STREAM_RANGE: u8 = 5;
 
 const RESERVED_ALREADY: u8 = 6;
 

@@ -19,8 +19,8 @@ use Rattle.record.specs.Head.{openAt, queueAt, withQueue}
 use Rattle.record.specs.Entry.{streamAt}
 use Rattle.header.specs.Header.{chargeOf, lengthFits}
 use Rattle.fitness.specs.Fit.{lentRefusal}
-use Rattle.steps.specs.Call.{framing}
-use Rattle.steps.specs.Outcome.{Outcome, outcome, refused, gated}
+use Rattle.steps.specs.Call.{Call, framing}
+use Rattle.steps.specs.Outcome.{Outcome, outcome, refused, gated, performed}
 use Rattle.steps.proofs.OutcomeLaws.{grants, refuses}
 use Rattle.steps.specs.Roles.{roleAt}
 use Rattle.steps.specs.Moves.{moved}
@@ -33,7 +33,13 @@ use Rattle.gates.specs.Refusals.{arriveRefusal, bestEffortRefusal}
 use Rattle.gates.specs.FrameRefusals.{frameRefusal}
 use Rattle.gates.proofs.NumberLaws.{Outside, outside-low, outside-high, low-test, high-test}
 use Rattle.gates.specs.Becoming.{becoming, becomes, frameStep}
+use Rattle.gates.specs.Table.{refusalOf, stepOf}
 use Rattle.port.specs.Calls.{called}
+use Rattle.port.specs.Quick.{lengthRefusal, quicklyCalled}
+
+-- what a call does where 18 and 19 refuse nothing
+abbrev made : Call → List ℕ → List ℕ → Outcome
+made c = performed (refusalOf c) (stepOf c)
 
 -- a closed port refuses with 1 what a frame becomes
 becomes-closed : (p m : List ℕ) (charge tag : ℕ) (found : Lookup) → openAt p ≡ false → becomes p m charge tag found ≡ refused 1 p m
@@ -51,15 +57,23 @@ frames-becomes p m octets tag fits = told (openAt p) refl
     told true e = rw fits
     told false e = rw (becomes-closed p m (chargeOf octets) tag (frameLookup p octets) e)
 
--- reply, record and memory are those of that call, for every record and memory
-pub frame-becomes : (p m octets : List ℕ) (tag : ℕ) → lengthFits octets ≡ true
-    → called (framing octets tag) p m ≡ called (becoming octets tag (frameLookup p octets)) p m
-frame-becomes p m octets tag fits =
-    ap (gated (lentRefusal p m) p m) (frames-becomes p m octets tag fits) ∙ told (frameLookup p octets)
+-- reply, record and memory are those of that call, for every record and memory, whatever of 18 and 19 is asked first
+becomes-behind : (g : ℕ) (p m octets : List ℕ) (tag : ℕ) → lengthFits octets ≡ true
+    → gated g p m (made (framing octets tag) p m) ≡ gated g p m (made (becoming octets tag (frameLookup p octets)) p m)
+becomes-behind g p m octets tag fits = ap (gated g p m) (frames-becomes p m octets tag fits) ∙ told (frameLookup p octets)
   where
-    told : (found : Lookup) → gated (lentRefusal p m) p m (becomes p m (chargeOf octets) tag found) ≡ called (becoming octets tag found) p m
+    told : (found : Lookup) → gated g p m (becomes p m (chargeOf octets) tag found) ≡ gated g p m (made (becoming octets tag found) p m)
     told (Bound s) = refl
     told Unbound = refl
+
+-- by a call and by a quick call
+pub frame-becomes : (p m octets : List ℕ) (tag : ℕ) → lengthFits octets ≡ true
+    → called (framing octets tag) p m ≡ called (becoming octets tag (frameLookup p octets)) p m
+frame-becomes p m = becomes-behind (lentRefusal p m) p m
+
+pub quick-frame-becomes : (p m octets : List ℕ) (tag : ℕ) → lengthFits octets ≡ true
+    → quicklyCalled (framing octets tag) p m ≡ quicklyCalled (becoming octets tag (frameLookup p octets)) p m
+quick-frame-becomes p m = becomes-behind (lengthRefusal p m) p m
 
 -- and an open port refuses any other frame with 17
 pub frame-refused : (p octets : List ℕ) → openAt p ≡ true → lengthFits octets ≡ false → frameRefusal p octets ≡ 17

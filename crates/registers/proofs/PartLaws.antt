@@ -17,6 +17,7 @@ use Rattle.stream.specs.Replies.{refusedBy}
 use Rattle.record.specs.Layout.{recordLength, memoryLength}
 use Rattle.record.specs.Queues.{queuesAt}
 use Rattle.steps.specs.Call.{Call}
+use Rattle.port_laws.specs.Counting.{countsAs}
 use Rattle.steps.specs.Outcome.{Outcome, outcome, gated, refused}
 use Rattle.steps.proofs.OutcomeLaws.{same-outcome, grants, refuses}
 use Rattle.registers.specs.Lent.{portLength, WholePort, recordPart, blockPart, inBlock, shortRefusal, portRefusal}
@@ -91,15 +92,15 @@ module _ (call : Call → List ℕ → List ℕ → Outcome) (c : Call) (p m : L
   short g r told some e =
       same-outcome r (refusedBy g) p p m m told refl refl
       ∙ sym (refuses g p m _ some)
-      ∙ ap (λ (n : ℕ). gated n p m (withNote c (blockPart p) (call c (recordPart p) m))) e
+      ∙ ap (λ (n : ℕ). gated n p m (withNote (countsAs (recordPart p) c) (blockPart p) (call c (recordPart p) m))) e
 
   -- any other is made on the record, and noted in the block
-  pub done : (g : ℕ) (r : Reply) (q b n : List ℕ) → g ≡ 0 → g ≡ shortRefusal p m → outcome r q n ≡ call c (recordPart p) m → b ≡ q ++ noted c r (blockPart p)
+  pub done : (g : ℕ) (r : Reply) (q b n : List ℕ) → g ≡ 0 → g ≡ shortRefusal p m → outcome r q n ≡ call c (recordPart p) m → b ≡ q ++ noted (countsAs (recordPart p) c) r (blockPart p)
       → outcome r b n ≡ registered call c p m
   unfolding registered
   done g r q b n zero e made noted-so =
-      same-outcome r r b (q ++ noted c r (blockPart p)) n n refl noted-so refl
-      ∙ ap (withNote c (blockPart p)) made
+      same-outcome r r b (q ++ noted (countsAs (recordPart p) c) r (blockPart p)) n n refl noted-so refl
+      ∙ ap (withNote (countsAs (recordPart p) c) (blockPart p)) made
       ∙ sym (grants (shortRefusal p m) p m _ (sym e ∙ zero))
 
 -- the refusal of what is lent for a port, as code asks it: of a slice that is too short,

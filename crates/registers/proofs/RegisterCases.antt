@@ -4,30 +4,42 @@ use mathlib.Core.Path.{_≡_, refl}
 use mathlib.Core.Bool.{true, false}
 use mathlib.Core.List.{List, [], _∷_, _++_}
 use lib.ListN.{replicate}
-use Rattle.lists.specs.Turns.{iterate}
+use Rattle.lists.specs.Turns.{iterate, allTo}
+use Rattle.lists.specs.Equal.{octetsEqual}
 use Rattle.octets.specs.Numbers.{twoOf, fourOf, fourOctets}
 use Rattle.stream.specs.Replies.{granted}
 use Rattle.record.specs.Layout.{recordLength}
 use Rattle.record.specs.Queues.{queuesAt}
 use Rattle.record.specs.Head.{openAt, priorAt}
+use Rattle.record.specs.Entry.{boundAt, vidAt, addressAt}
+use Rattle.header.specs.Header.{chargeOf, lengthFits, taggedFrame, vidOf}
+use Rattle.binding.specs.Finding.{comparedBack, comparedAt, lookupFrom, lookup, frameLookup}
 use Rattle.fitness.specs.Fit.{recordFits, lentRefusal}
 use Rattle.steps.specs.Call.{Call, opening, reserving, withdrawing, arriving, ticking, transmitting, joiningBestEffort, binding, framing}
 use Rattle.steps.specs.Outcome.{Outcome, outcome, refused}
 use Rattle.gates.specs.Refusals.{closedRefusal}
 use Rattle.port.specs.Quick.{lengthRefusal}
-use Rattle.register_block.specs.Layout.{maskOffset, discardFlag, purgeFlag, nothingFlag, maskOctet, sentOctet, acceptedOctet}
+use Rattle.port_laws.specs.Cases.{caseAddress, caseTagged}
+use Rattle.register_block.specs.Layout.{maskOffset, discardFlag, purgeFlag, nothingFlag, maskOctet, sentOctet, acceptedOctet, discardedOctet}
 use Rattle.register_block.specs.Fields.{flagAt, withFlag, wordAt, withWord}
-use Rattle.register_block.specs.Events.{raised, zeroed}
+use Rattle.register_block.specs.Events.{raised, accepted, discarded, withdrawn, zeroed}
 use Rattle.register_block.specs.Written.{writtenAt}
 use Rattle.registers.specs.Lent.{blockPart, inBlock, shortRefusal, portRefusal}
-use Rattle.registers.specs.Notes.{openNoted, frameNoted, tickNoted, transmitNoted, noted}
+use Rattle.registers.specs.Notes.{openNoted, withdrawNoted, arrivalNoted, tickNoted, transmitNoted, noted}
 use Rattle.registers.specs.Calls.{registered, portCall, quickPortCall}
 use Rattle.registers.specs.PortLookup.{portLookup}
+use Rattle.registers.specs.StreamCounts.{portCounts}
 use Rattle.registers.specs.Accesses.{offsetRefusal, readBy, named, inTurn, writtenBy, writeBy, registerRead, registerWrite}
 
--- the front of a block with no flag up, this mask, and no counts
+-- the front of a block with no flag up, this mask, nothing sent, stream 0 chosen and without counts, and these counts of stream 1
+abbrev blockOf : ℕ → ℕ → ℕ → List ℕ
+blockOf mask acceptances discards = 0 ∷ 0 ∷ 0 ∷ 0 ∷ (fourOctets mask ++ (replicate {A = ℕ} 16 0 ++ (fourOctets acceptances ++ fourOctets discards)))
+
 abbrev blockWith : ℕ → List ℕ
-blockWith mask = 0 ∷ 0 ∷ 0 ∷ 0 ∷ (fourOctets mask ++ replicate {A = ℕ} 16 0)
+blockWith mask = blockOf mask 0 0
+
+abbrev counted : List ℕ
+counted = blockOf 0 11 13
 
 abbrev quiet : List ℕ
 quiet = blockWith 0
@@ -38,9 +50,23 @@ unfolding openNoted zeroed iterate flagAt
 refused-open = refl
 
 -- "Of refusals only 14 sets a flag or count"
-charge-refused : flagAt (frameNoted 13 quiet) discardFlag ≡ false
-unfolding frameNoted flagAt withFlag raised withWord wordAt fourOf twoOf
+charge-refused : flagAt (arrivalNoted 1 13 quiet) discardFlag ≡ false
+unfolding arrivalNoted accepted discarded flagAt withFlag raised withWord wordAt fourOf twoOf
 charge-refused = refl
+
+-- "Accepted and discarded counts are to be held for each stream": a discard counts as one
+discard-counted : wordAt (arrivalNoted 1 14 counted) (discardedOctet 1) ≡ 14
+unfolding arrivalNoted accepted discarded withFlag raised withWord wordAt fourOf twoOf
+discard-counted = refl
+
+-- and a refused withdrawal keeps both counts, which a granted one begins anew
+refused-withdrawal : wordAt (withdrawNoted 1 25 counted) (acceptedOctet 1) ≡ 11
+unfolding withdrawNoted withdrawn withWord wordAt fourOf twoOf
+refused-withdrawal = refl
+
+withdrawal-counts-anew : wordAt (noted (withdrawing 1) (granted 0 0) counted) (discardedOctet 1) ≡ 0
+unfolding withdrawNoted withdrawn withWord wordAt fourOf twoOf
+withdrawal-counts-anew = refl
 
 -- "purge of at least one frame"
 no-frame-purged : flagAt (tickNoted 0 0 quiet) purgeFlag ≡ false
@@ -52,17 +78,17 @@ nothing-sent : wordAt (transmitNoted 0 254 quiet) sentOctet ≡ 0
 unfolding transmitNoted wordAt fourOf twoOf withFlag raised withWord
 nothing-sent = refl
 
--- "Offsets 16, 20 and 24 count frames of both sorts accepted [..]": best effort's and Frame's too, and no reservation
-best-effort-counted : wordAt (noted (joiningBestEffort 84 7) (granted 84 0) quiet) acceptedOctet ≡ 1
-unfolding frameNoted wordAt fourOf twoOf raised withWord
-best-effort-counted = refl
+-- "for each stream": an arrival counts for its stream, and neither a frame of best effort nor a reservation counts
+arrival-counted : wordAt (noted (arriving 1 84 7) (granted 1 0) counted) (acceptedOctet 1) ≡ 12
+unfolding arrivalNoted accepted wordAt fourOf twoOf raised withWord
+arrival-counted = refl
 
-frame-counted : wordAt (noted (framing [] 7) (granted 84 0) quiet) acceptedOctet ≡ 1
-unfolding frameNoted wordAt fourOf twoOf raised withWord
-frame-counted = refl
+best-effort-not-counted : wordAt (noted (joiningBestEffort 84 7) (granted 84 0) quiet) (acceptedOctet 0) ≡ 0
+unfolding arrivalNoted accepted wordAt fourOf twoOf raised withWord
+best-effort-not-counted = refl
 
-reservation-not-counted : wordAt (noted (reserving 5 200) (granted 400 0) quiet) acceptedOctet ≡ 0
-unfolding frameNoted wordAt fourOf twoOf raised withWord
+reservation-not-counted : wordAt (noted (reserving 1 200) (granted 400 0) counted) (acceptedOctet 1) ≡ 11
+unfolding arrivalNoted accepted wordAt fourOf twoOf raised withWord
 reservation-not-counted = refl
 
 -- "bit 2 nothing to send": it is told by the stream that Transmit replies, and not by the tag
@@ -72,7 +98,7 @@ nothing-told = refl
 
 -- what a host lends: a record of zeros, which is closed, and a block with this mask
 abbrev lentWith : ℕ → List ℕ
-lentWith mask = replicate {A = ℕ} recordLength 0 ++ (blockWith mask ++ replicate {A = ℕ} 504 0)
+lentWith mask = replicate {A = ℕ} recordLength 0 ++ (blockWith mask ++ replicate {A = ℕ} 496 0)
 
 abbrev lent : List ℕ
 lent = lentWith 0
@@ -95,9 +121,23 @@ unfolding registered shortRefusal lentRefusal recordFits priorAt queuesAt length
 quick-call-of-unfit = refl
 
 -- "refusals set nothing but 14's": an arrival that this call refuses with 13
-refused-not-counted : wordAt (blockPart (registered (λ c p m. refused 13 p m) (arriving 5 83 7) lent [] .port)) acceptedOctet ≡ 0
-unfolding registered shortRefusal queuesAt frameNoted wordAt fourOf twoOf raised withWord withFlag
+refused-not-counted : wordAt (blockPart (registered (λ c p m. refused 13 p m) (arriving 1 83 7) lent [] .port)) (acceptedOctet 1) ≡ 0
+unfolding registered shortRefusal queuesAt arrivalNoted accepted discarded wordAt fourOf twoOf raised withWord withFlag
 refused-not-counted = refl
+
+-- "frames bound to it too": a Frame of the pair of stream 1, which this call grants, counts for stream 1; so does a discard of it
+abbrev bound : List ℕ
+bound =
+    replicate {A = ℕ} 80 0
+    ++ (1 ∷ 1 ∷ 0 ∷ 200 ∷ 0 ∷ 200 ∷ 0 ∷ 1 ∷ 0 ∷ 100 ∷ (caseAddress ++ (replicate {A = ℕ} 992 0 ++ (counted ++ replicate {A = ℕ} 496 0))))
+
+frame-counted : wordAt (blockPart (registered (λ c p m. outcome (granted 1 0) p m) (framing (caseTagged 60) 7) bound [] .port)) (acceptedOctet 1) ≡ 12
+unfolding registered shortRefusal queuesAt allTo octetsEqual boundAt vidAt addressAt chargeOf lengthFits taggedFrame vidOf comparedBack comparedAt lookupFrom lookup frameLookup arrivalNoted accepted discarded wordAt fourOf twoOf raised withWord withFlag
+frame-counted = refl
+
+frame-discarded : wordAt (blockPart (registered (λ c p m. refused 14 p m) (framing (caseTagged 60) 7) bound [] .port)) (discardedOctet 1) ≡ 14
+unfolding registered shortRefusal queuesAt allTo octetsEqual boundAt vidAt addressAt chargeOf lengthFits taggedFrame vidOf comparedBack comparedAt lookupFrom lookup frameLookup arrivalNoted accepted discarded wordAt fourOf twoOf raised withWord withFlag
+frame-discarded = refl
 
 -- 18 is asked before 19 of a slice that is too short for record and block, by one octet or by all
 one-octet-short : shortRefusal (replicate {A = ℕ} 1615 0) [] ≡ 18
@@ -198,3 +238,16 @@ mask-reply = refl
 lookup-short : portLookup [] 100 (replicate {A = ℕ} 1615 0) .refusal ≡ 19
 unfolding portLookup
 lookup-short = refl
+
+-- the counts of a stream, its accepted frames first; 19 of a slice that is an octet too short is asked first, and 64 is no stream
+counts-told : portCounts 1 bound ≡ granted 11 13
+unfolding portCounts wordAt fourOf twoOf
+counts-told = refl
+
+counts-short : portCounts 64 (replicate {A = ℕ} 1615 0) .refusal ≡ 19
+unfolding portCounts
+counts-short = refl
+
+counts-of-none : portCounts 64 bound .refusal ≡ 5
+unfolding portCounts wordAt fourOf twoOf
+counts-of-none = refl

@@ -2,10 +2,12 @@
 // Withdraw, Arrive, Tick, Transmit, Best effort, Bind and Frame. Each makes the call on the record, and then does to the block what its reply says.
 // None asks anything of its caller. The definitions are in specs/.
 pub mod accesses;
+pub mod counts;
 pub mod lookup;
 mod notes;
 pub mod quick;
 
+use binding::Lookup;
 use stream::Reply;
 ghost use mathlib.Core.Path.{_≡_};
 ghost use Rattle.steps.specs.Call.{terms, opening, reserving, withdrawing, arriving, ticking, transmitting, joiningBestEffort, binding, framing};
@@ -66,7 +68,9 @@ pub fn withdraw(port: &mut [u8], memory: &[u8], stream: u8) -> Reply
     if refusal != 0 {
         return steps::refused(refusal);
     }
-    port::withdraw(&mut port[..record::RECORD_LENGTH], memory, stream)
+    let reply = port::withdraw(&mut port[..record::RECORD_LENGTH], memory, stream);
+    notes::withdraw(port, stream, reply.refusal);
+    reply
 }
 
 // Arrive(s, a, tag).
@@ -84,7 +88,7 @@ pub fn arrive(port: &mut [u8], memory: &mut [u8], stream: u8, charge: u32, tag: 
         charge,
         tag,
     );
-    notes::frame(port, reply.refusal);
+    notes::arrive(port, stream, reply.refusal);
     reply
 }
 
@@ -122,9 +126,7 @@ pub fn best_effort(port: &mut [u8], memory: &mut [u8], charge: u32, tag: u32) ->
     if refusal != 0 {
         return steps::refused(refusal);
     }
-    let reply = port::best_effort(&mut port[..record::RECORD_LENGTH], memory, charge, tag);
-    notes::frame(port, reply.refusal);
-    reply
+    port::best_effort(&mut port[..record::RECORD_LENGTH], memory, charge, tag)
 }
 
 // Bind(s, address, VID).
@@ -150,7 +152,7 @@ pub fn bind(
     )
 }
 
-// Frame(octets, tag).
+// Frame(octets, tag): the call that it becomes; a frame that becomes none, since its length is outside its range, is refused on the record.
 pub fn frame(port: &mut [u8], memory: &mut [u8], octets: &[u8], tag: u32) -> Reply
     ensures { λ r. ⌜ outcome r (now (port .exit)) (now (memory .exit)) ≡ portCall (framing (now (octets .entry)) tag) (now (port .entry)) (now (memory .entry)) ⌝ }
 {
@@ -158,7 +160,12 @@ pub fn frame(port: &mut [u8], memory: &mut [u8], octets: &[u8], tag: u32) -> Rep
     if refusal != 0 {
         return steps::refused(refusal);
     }
-    let reply = port::frame(&mut port[..record::RECORD_LENGTH], memory, octets, tag);
-    notes::frame(port, reply.refusal);
-    reply
+    if !header::length_fits(octets) {
+        return port::frame(&mut port[..record::RECORD_LENGTH], memory, octets, tag);
+    }
+    let charge = header::charge(octets);
+    match binding::finding::of_frame(&port[..record::RECORD_LENGTH], octets) {
+        Lookup::Bound(stream) => arrive(port, memory, stream, charge, tag),
+        Lookup::Unbound => best_effort(port, memory, charge, tag),
+    }
 }

@@ -4,7 +4,7 @@ ghost use mathlib.Core.Path.{_≡_};
 ghost use Rattle.register_block.specs.Layout.{WholeBlock};
 ghost use Rattle.register_block.specs.Written.{writtenAt};
 ghost use Rattle.registers.specs.Lent.{WholePort, inBlock};
-ghost use Rattle.registers.specs.Notes.{openNoted, frameNoted, tickNoted, transmitNoted};
+ghost use Rattle.registers.specs.Notes.{openNoted, withdrawNoted, arrivalNoted, tickNoted, transmitNoted};
 
 // An Open in the block, by its refusal or 0.
 fn open_in(block: &mut [u8], refusal: u8)
@@ -16,16 +16,26 @@ fn open_in(block: &mut [u8], refusal: u8)
     }
 }
 
-// A call that brings a frame, in the block, by its refusal or 0.
-fn frame_in(block: &mut [u8], refusal: u8)
+// A Withdraw of a stream in the block, by its refusal or 0.
+fn withdraw_in(block: &mut [u8], stream: u8, refusal: u8)
     requires { ⌜ WholeBlock (now block) ⌝ }
-    ensures { λ _. ⌜ now (block .exit) ≡ frameNoted refusal (now (block .entry)) ⌝ }
+    ensures { λ _. ⌜ now (block .exit) ≡ withdrawNoted stream refusal (now (block .entry)) ⌝ }
 {
     if refusal == 0 {
-        return register_block::accept(block);
+        return register_block::withdraw(block, stream);
+    }
+}
+
+// An Arrive on a stream in the block, by its refusal or 0.
+fn arrive_in(block: &mut [u8], stream: u8, refusal: u8)
+    requires { ⌜ WholeBlock (now block) ⌝ }
+    ensures { λ _. ⌜ now (block .exit) ≡ arrivalNoted stream refusal (now (block .entry)) ⌝ }
+{
+    if refusal == 0 {
+        return register_block::accept(block, stream);
     }
     if refusal == stream::DISCARD {
-        return register_block::discard(block);
+        return register_block::discard(block, stream);
     }
 }
 
@@ -64,12 +74,20 @@ pub(crate) fn open(port: &mut [u8], refusal: u8)
     open_in(&mut port[record::RECORD_LENGTH..], refusal);
 }
 
-// A call that brings a frame, in the slice.
-pub(crate) fn frame(port: &mut [u8], refusal: u8)
+// A Withdraw of a stream in the slice.
+pub(crate) fn withdraw(port: &mut [u8], stream: u8, refusal: u8)
     requires { ⌜ WholePort (now port) ⌝ }
-    ensures { λ _. ⌜ now (port .exit) ≡ inBlock (frameNoted refusal) (now (port .entry)) ⌝ }
+    ensures { λ _. ⌜ now (port .exit) ≡ inBlock (withdrawNoted stream refusal) (now (port .entry)) ⌝ }
 {
-    frame_in(&mut port[record::RECORD_LENGTH..], refusal);
+    withdraw_in(&mut port[record::RECORD_LENGTH..], stream, refusal);
+}
+
+// An Arrive on a stream in the slice.
+pub(crate) fn arrive(port: &mut [u8], stream: u8, refusal: u8)
+    requires { ⌜ WholePort (now port) ⌝ }
+    ensures { λ _. ⌜ now (port .exit) ≡ inBlock (arrivalNoted stream refusal) (now (port .entry)) ⌝ }
+{
+    arrive_in(&mut port[record::RECORD_LENGTH..], stream, refusal);
 }
 
 // A Tick in the slice.

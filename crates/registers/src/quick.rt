@@ -1,5 +1,6 @@
 // The quick calls of a port with its registers, for a host that alone writes the slice: nothing is scanned. On a fit record each equals the call of the
 // same name.
+use binding::Lookup;
 use stream::Reply;
 ghost use mathlib.Core.Path.{_≡_};
 ghost use Rattle.steps.specs.Call.{terms, opening, reserving, withdrawing, arriving, ticking, transmitting, joiningBestEffort, binding, framing};
@@ -43,7 +44,9 @@ pub fn withdraw(port: &mut [u8], memory: &[u8], stream: u8) -> Reply
     if refusal != 0 {
         return steps::refused(refusal);
     }
-    port::quick::withdraw(&mut port[..record::RECORD_LENGTH], memory, stream)
+    let reply = port::quick::withdraw(&mut port[..record::RECORD_LENGTH], memory, stream);
+    crate::notes::withdraw(port, stream, reply.refusal);
+    reply
 }
 
 // Arrive(s, a, tag).
@@ -61,7 +64,7 @@ pub fn arrive(port: &mut [u8], memory: &mut [u8], stream: u8, charge: u32, tag: 
         charge,
         tag,
     );
-    crate::notes::frame(port, reply.refusal);
+    crate::notes::arrive(port, stream, reply.refusal);
     reply
 }
 
@@ -99,9 +102,7 @@ pub fn best_effort(port: &mut [u8], memory: &mut [u8], charge: u32, tag: u32) ->
     if refusal != 0 {
         return steps::refused(refusal);
     }
-    let reply = port::quick::best_effort(&mut port[..record::RECORD_LENGTH], memory, charge, tag);
-    crate::notes::frame(port, reply.refusal);
-    reply
+    port::quick::best_effort(&mut port[..record::RECORD_LENGTH], memory, charge, tag)
 }
 
 // Bind(s, address, VID).
@@ -127,7 +128,7 @@ pub fn bind(
     )
 }
 
-// Frame(octets, tag).
+// Frame(octets, tag): the call that it becomes; a frame that becomes none, since its length is outside its range, is refused on the record.
 pub fn frame(port: &mut [u8], memory: &mut [u8], octets: &[u8], tag: u32) -> Reply
     ensures { λ r. ⌜ outcome r (now (port .exit)) (now (memory .exit)) ≡ quickPortCall (framing (now (octets .entry)) tag) (now (port .entry)) (now (memory .entry)) ⌝ }
 {
@@ -135,7 +136,12 @@ pub fn frame(port: &mut [u8], memory: &mut [u8], octets: &[u8], tag: u32) -> Rep
     if refusal != 0 {
         return steps::refused(refusal);
     }
-    let reply = port::quick::frame(&mut port[..record::RECORD_LENGTH], memory, octets, tag);
-    crate::notes::frame(port, reply.refusal);
-    reply
+    if !header::length_fits(octets) {
+        return port::quick::frame(&mut port[..record::RECORD_LENGTH], memory, octets, tag);
+    }
+    let charge = header::charge(octets);
+    match binding::finding::of_frame(&port[..record::RECORD_LENGTH], octets) {
+        Lookup::Bound(stream) => arrive(port, memory, stream, charge, tag),
+        Lookup::Unbound => best_effort(port, memory, charge, tag),
+    }
 }

@@ -1,9 +1,9 @@
 -- `registers::arrive` meets its contract. The call on the record; then its note in the block. Assumes nothing.
 use native.Mathlib.Omega.{arith}
 use mathlib.Core.Path.{_∙_}
-use Rattle.registers.specs.Notes.{frameNoted}
-use Rattle.registers.proofs.PartLaws.{whole-port, part-long, replaced-long, replaced-in, short, done}
 use Rattle.port.specs.Calls.{called}
+use Rattle.registers.specs.Notes.{arrivalNoted}
+use Rattle.registers.proofs.PartLaws.{whole-port, part-long, replaced-long, replaced-in, short, done}
 use borrow.Author.Needs.{needs}
 use Rattle.registers.proofs.arrive.Statement.{statement}
 use Rattle.registers.proofs.arrive.Tie as tie
@@ -32,8 +32,8 @@ slice-aggregate-arrive c = part-long _ _ _ (c .before .if1 .left) (c .before .be
 arrive-requires : tie.Need-arrive-requires
 arrive-requires c κs = search needs
 
-frame-requires : tie.Need-frame-requires
-frame-requires c κs = replaced-long _ _ _ (c .before .before .before .before .before .before .before .before .if1 .left) (c .before .before .before .before .before .before .before .before .before .lengths .ensures) (c .before .before .before .before .before .arrive .last .0) (c .before .before .before .before .before .arrive .kept .0)
+arrive-requires-2 : tie.Need-arrive-requires-2
+arrive-requires-2 c κs = replaced-long _ _ _ (c .before .before .before .before .before .before .before .before .if1 .left) (c .before .before .before .before .before .before .before .before .before .lengths .ensures) (c .before .before .before .before .before .arrive .last .0) (c .before .before .before .before .before .arrive .kept .0)
 
 same-length-3 : tie.Need-same-length-3
 same-length-3 c = search needs
@@ -42,7 +42,7 @@ same-length-4 : tie.Need-same-length-4
 same-length-4 c = search needs
 
 returns-2 : tie.Need-returns-2
-returns-2 c = done called _ _ _ _ _ _ _ _ (c .before .before .before .before .before .before .before .before .before .before .before .if1 .left) (c .before .before .before .before .before .before .before .before .before .before .before .before .lengths .ensures) (c .before .before .before .before .before .before .before .before .arrive .ensures) (c .before .before .frame .ensures ∙ replaced-in _ _ _ (c .before .before .before .before .before .before .before .before .before .before .before .if1 .left) (c .before .before .before .before .before .before .before .before .before .before .before .before .lengths .ensures) (c .before .before .before .before .before .before .before .before .arrive .last .0) (c .before .before .before .before .before .before .before .before .arrive .kept .0) (frameNoted _))
+returns-2 c = done called _ _ _ _ _ _ _ _ (c .before .before .before .before .before .before .before .before .before .before .before .if1 .left) (c .before .before .before .before .before .before .before .before .before .before .before .before .lengths .ensures) (c .before .before .before .before .before .before .before .before .arrive .ensures) (c .before .before .arrive2 .ensures ∙ replaced-in _ _ _ (c .before .before .before .before .before .before .before .before .before .before .before .if1 .left) (c .before .before .before .before .before .before .before .before .before .before .before .before .lengths .ensures) (c .before .before .before .before .before .before .before .before .arrive .last .0) (c .before .before .before .before .before .before .before .before .arrive .kept .0) (arrivalNoted _ _))
 
 pub arrive-spec : {M : Type 1} → statement M
 arrive-spec =
@@ -56,7 +56,7 @@ arrive-spec =
     slice-relend-prefix-arrive
     slice-aggregate-arrive
     arrive-requires
-    frame-requires
+    arrive-requires-2
     same-length-3
     same-length-4
     returns-2)

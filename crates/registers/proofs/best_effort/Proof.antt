@@ -1,9 +1,8 @@
--- `registers::best_effort` meets its contract. The call on the record; then its note in the block. Assumes nothing.
+-- `registers::best_effort` meets its contract. The call on the record. Assumes nothing.
 use native.Mathlib.Omega.{arith}
-use mathlib.Core.Path.{_∙_}
-use Rattle.registers.specs.Notes.{frameNoted}
-use Rattle.registers.proofs.PartLaws.{whole-port, part-long, replaced-long, replaced-in, short, done}
+use mathlib.Core.Path.{refl}
 use Rattle.port.specs.Calls.{called}
+use Rattle.registers.proofs.PartLaws.{whole-port, part-long, short, done}
 use borrow.Author.Needs.{needs}
 use Rattle.registers.proofs.best_effort.Statement.{statement}
 use Rattle.registers.proofs.best_effort.Tie as tie
@@ -32,9 +31,6 @@ slice-aggregate-best-effort c = part-long _ _ _ (c .before .if1 .left) (c .befor
 best-effort-requires : tie.Need-best-effort-requires
 best-effort-requires c κs = search needs
 
-frame-requires : tie.Need-frame-requires
-frame-requires c κs = replaced-long _ _ _ (c .before .before .before .before .before .before .before .before .if1 .left) (c .before .before .before .before .before .before .before .before .before .lengths .ensures) (c .before .before .before .before .before .best-effort .last .0) (c .before .before .before .before .before .best-effort .kept .0)
-
 same-length-3 : tie.Need-same-length-3
 same-length-3 c = search needs
 
@@ -42,7 +38,7 @@ same-length-4 : tie.Need-same-length-4
 same-length-4 c = search needs
 
 returns-2 : tie.Need-returns-2
-returns-2 c = done called _ _ _ _ _ _ _ _ (c .before .before .before .before .before .before .before .before .before .before .before .if1 .left) (c .before .before .before .before .before .before .before .before .before .before .before .before .lengths .ensures) (c .before .before .before .before .before .before .before .before .best-effort .ensures) (c .before .before .frame .ensures ∙ replaced-in _ _ _ (c .before .before .before .before .before .before .before .before .before .before .before .if1 .left) (c .before .before .before .before .before .before .before .before .before .before .before .before .lengths .ensures) (c .before .before .before .before .before .before .before .before .best-effort .last .0) (c .before .before .before .before .before .before .before .before .best-effort .kept .0) (frameNoted _))
+returns-2 c = done called _ _ _ _ _ _ _ _ (c .before .before .before .before .before .before .before .if1 .left) (c .before .before .before .before .before .before .before .before .lengths .ensures) (c .before .before .before .before .best-effort .ensures) refl
 
 pub best-effort-spec : {M : Type 1} → statement M
 best-effort-spec =
@@ -56,7 +52,6 @@ best-effort-spec =
     slice-relend-prefix-best-effort
     slice-aggregate-best-effort
     best-effort-requires
-    frame-requires
     same-length-3
     same-length-4
     returns-2)

@@ -1,9 +1,12 @@
--- `registers::frame` meets its contract. The call on the record; then its note in the block. Assumes nothing.
+-- `registers::frame` meets its contract. The call that the frame becomes; one of a length outside its range on the record. Assumes nothing.
 use native.Mathlib.Omega.{arith}
-use mathlib.Core.Path.{_∙_}
-use Rattle.registers.specs.Notes.{frameNoted}
-use Rattle.registers.proofs.PartLaws.{whole-port, part-long, replaced-long, replaced-in, short, done}
+use mathlib.Core.Path.{_∙_, sym}
+use borrow.Author.Tests.{not-true, not-false}
+use Rattle.header.proofs.HeaderLaws.{header-whole}
 use Rattle.port.specs.Calls.{called}
+use Rattle.port_laws.proofs.FrameLaws.{frame-becomes}
+use Rattle.registers.proofs.PartLaws.{whole-port, part-long, short}
+use Rattle.registers.proofs.FrameLaws.{frame-arrives, frame-joins, frame-outside}
 use borrow.Author.Needs.{needs}
 use Rattle.registers.proofs.frame.Statement.{statement}
 use Rattle.registers.proofs.frame.Tie as tie
@@ -23,17 +26,17 @@ same-length-2 c = search needs
 returns : tie.Need-returns
 returns c = short called _ _ _ _ _ (c .refused .ensures) (c .before .if1 .taken) (c .before .before .lengths .ensures)
 
+length-fits-requires : tie.Need-length-fits-requires
+length-fits-requires c κs = search needs
+
 slice-relend-prefix-frame : tie.Need-slice-relend-prefix-frame
-slice-relend-prefix-frame c = let long = whole-port _ _ _ (c .if1 .left) (c .before .lengths .ensures) in omega (arith, long)
+slice-relend-prefix-frame c = let long = whole-port _ _ _ (c .before .before .if1 .left) (c .before .before .before .lengths .ensures) in omega (arith, long)
 
 slice-aggregate-frame : tie.Need-slice-aggregate-frame
-slice-aggregate-frame c = part-long _ _ _ (c .before .if1 .left) (c .before .before .lengths .ensures)
+slice-aggregate-frame c = part-long _ _ _ (c .before .before .before .if1 .left) (c .before .before .before .before .lengths .ensures)
 
 frame-requires : tie.Need-frame-requires
 frame-requires c κs = search needs
-
-frame-requires-2 : tie.Need-frame-requires-2
-frame-requires-2 c κs = replaced-long _ _ _ (c .before .before .before .before .before .before .before .before .if1 .left) (c .before .before .before .before .before .before .before .before .before .lengths .ensures) (c .before .before .before .before .before .frame .last .0) (c .before .before .before .before .before .frame .kept .0)
 
 same-length-3 : tie.Need-same-length-3
 same-length-3 c = search needs
@@ -42,7 +45,49 @@ same-length-4 : tie.Need-same-length-4
 same-length-4 c = search needs
 
 returns-2 : tie.Need-returns-2
-returns-2 c = done called _ _ _ _ _ _ _ _ (c .before .before .before .before .before .before .before .before .before .before .before .if1 .left) (c .before .before .before .before .before .before .before .before .before .before .before .before .lengths .ensures) (c .before .before .before .before .before .before .before .before .frame .ensures) (c .before .before .frame2 .ensures ∙ replaced-in _ _ _ (c .before .before .before .before .before .before .before .before .before .before .before .if1 .left) (c .before .before .before .before .before .before .before .before .before .before .before .before .lengths .ensures) (c .before .before .before .before .before .before .before .before .frame .last .0) (c .before .before .before .before .before .before .before .before .frame .kept .0) (frameNoted _))
+returns-2 c = frame-outside called _ _ _ _ _ _ _ _ _ (c .before .before .before .before .before .before .before .before .before .if1 .left) (c .before .before .before .before .before .before .before .before .before .before .lengths .ensures) (c .before .before .before .before .before .before .before .before .length-fits .ensures) (not-true _ (c .before .before .before .before .before .before .before .if2 .taken)) (c .before .before .before .before .frame .ensures)
+
+charge-requires : tie.Need-charge-requires
+charge-requires c κs = sym (c .before .length-fits .ensures) ∙ not-false _ (c .if2 .left)
+
+slice-reshare-prefix-of-frame : tie.Need-slice-reshare-prefix-of-frame
+slice-reshare-prefix-of-frame c = let long = whole-port _ _ _ (c .before .before .before .if1 .left) (c .before .before .before .before .lengths .ensures) in omega (arith, long)
+
+slice-aggregate-of-frame : tie.Need-slice-aggregate-of-frame
+slice-aggregate-of-frame c = part-long _ _ _ (c .before .before .before .before .if1 .left) (c .before .before .before .before .before .lengths .ensures)
+
+of-frame-requires : tie.Need-of-frame-requires
+of-frame-requires c κs = (let long = part-long _ _ _ (c .before .before .before .before .if1 .left) (c .before .before .before .before .before .lengths .ensures) in omega (arith, long), header-whole _ (sym (c .before .before .before .length-fits .ensures) ∙ not-false _ (c .before .before .if2 .left)))
+
+enum-known-stream : tie.Need-enum-known-stream
+enum-known-stream c = search needs
+
+arrive-requires : tie.Need-arrive-requires
+arrive-requires c κs = search needs
+
+enum-told : tie.Need-enum-told
+enum-told c = search needs
+
+best-effort-requires : tie.Need-best-effort-requires
+best-effort-requires c κs = search needs
+
+same-length-5 : tie.Need-same-length-5
+same-length-5 c = search needs
+
+same-length-6 : tie.Need-same-length-6
+same-length-6 c = search needs
+
+returns-3 : tie.Need-returns-3
+returns-3 c = frame-arrives called frame-becomes _ _ _ _ _ _ _ _ _ (c .before .before .before .before .before .before .before .before .before .before .before .before .before .before .length-fits .ensures) (not-false _ (c .before .before .before .before .before .before .before .before .before .before .before .before .before .if2 .left)) (c .before .before .before .before .before .before .before .before .before .before .of-frame .ensures) (c .before .before .before .before .before .before .before .before .stream .given .1) (c .before .before .before .before .before .before .before .before .before .before .before .before .charge .ensures) (c .before .before .before .before .arrive .ensures)
+
+same-length-7 : tie.Need-same-length-7
+same-length-7 c = search needs
+
+same-length-8 : tie.Need-same-length-8
+same-length-8 c = search needs
+
+returns-4 : tie.Need-returns-4
+returns-4 c = frame-joins called frame-becomes _ _ _ _ _ _ _ _ (c .before .before .before .before .before .before .before .before .before .before .before .before .before .length-fits .ensures) (not-false _ (c .before .before .before .before .before .before .before .before .before .before .before .before .if2 .left)) (c .before .before .before .before .before .before .before .before .before .of-frame .ensures) (c .before .before .before .before .before .before .before .enum-told .given .1) (c .before .before .before .before .before .before .before .before .before .before .before .charge .ensures) (c .before .before .before .before .best-effort .ensures)
 
 pub frame-spec : {M : Type 1} → statement M
 frame-spec =
@@ -53,10 +98,24 @@ frame-spec =
     same-length
     same-length-2
     returns
+    length-fits-requires
     slice-relend-prefix-frame
     slice-aggregate-frame
     frame-requires
-    frame-requires-2
     same-length-3
     same-length-4
-    returns-2)
+    returns-2
+    charge-requires
+    slice-reshare-prefix-of-frame
+    slice-aggregate-of-frame
+    of-frame-requires
+    enum-known-stream
+    arrive-requires
+    enum-told
+    best-effort-requires
+    same-length-5
+    same-length-6
+    returns-3
+    same-length-7
+    same-length-8
+    returns-4)

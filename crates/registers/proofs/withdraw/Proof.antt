@@ -1,8 +1,9 @@
--- `registers::withdraw` meets its contract. The call on the record. Assumes nothing.
+-- `registers::withdraw` meets its contract. The call on the record; then its note in the block. Assumes nothing.
 use native.Mathlib.Omega.{arith}
-use mathlib.Core.Path.{refl}
-use Rattle.registers.proofs.PartLaws.{whole-port, part-long, short, done}
+use mathlib.Core.Path.{_∙_}
 use Rattle.port.specs.Calls.{called}
+use Rattle.registers.specs.Notes.{withdrawNoted}
+use Rattle.registers.proofs.PartLaws.{whole-port, part-long, replaced-long, replaced-in, short, done}
 use borrow.Author.Needs.{needs}
 use Rattle.registers.proofs.withdraw.Statement.{statement}
 use Rattle.registers.proofs.withdraw.Tie as tie
@@ -28,11 +29,14 @@ slice-aggregate-withdraw c = part-long _ _ _ (c .before .if1 .left) (c .before .
 withdraw-requires : tie.Need-withdraw-requires
 withdraw-requires c κs = search needs
 
+withdraw-requires-2 : tie.Need-withdraw-requires-2
+withdraw-requires-2 c κs = replaced-long _ _ _ (c .before .before .before .before .before .if1 .left) (c .before .before .before .before .before .before .lengths .ensures) (c .before .before .before .withdraw .last .0) (c .before .before .before .withdraw .kept .0)
+
 same-length-2 : tie.Need-same-length-2
 same-length-2 c = search needs
 
 returns-2 : tie.Need-returns-2
-returns-2 c = done called _ _ _ _ _ _ _ _ (c .before .before .before .before .if1 .left) (c .before .before .before .before .before .lengths .ensures) (c .before .before .withdraw .ensures) refl
+returns-2 c = done called _ _ _ _ _ _ _ _ (c .before .before .before .before .before .before .before .before .if1 .left) (c .before .before .before .before .before .before .before .before .before .lengths .ensures) (c .before .before .before .before .before .before .withdraw .ensures) (c .before .before .withdraw2 .ensures ∙ replaced-in _ _ _ (c .before .before .before .before .before .before .before .before .if1 .left) (c .before .before .before .before .before .before .before .before .before .lengths .ensures) (c .before .before .before .before .before .before .withdraw .last .0) (c .before .before .before .before .before .before .withdraw .kept .0) (withdrawNoted _ _))
 
 pub withdraw-spec : {M : Type 1} → statement M
 withdraw-spec =
@@ -45,5 +49,6 @@ withdraw-spec =
     slice-relend-prefix-withdraw
     slice-aggregate-withdraw
     withdraw-requires
+    withdraw-requires-2
     same-length-2
     returns-2)

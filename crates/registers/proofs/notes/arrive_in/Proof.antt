@@ -1,9 +1,9 @@
--- `registers::notes::frame_in` meets its contract. Test after test. Assumes nothing.
-use Rattle.registers.specs.Notes.{frameNoted}
+-- `registers::notes::arrive_in` meets its contract. Test after test. Assumes nothing.
 use borrow.Author.Tests.{eq-eqb, ne-eqb}
+use Rattle.registers.specs.Notes.{arrivalNoted}
 use borrow.Author.Needs.{needs}
-use Rattle.registers.proofs.notes.frame_in.Statement.{statement}
-use Rattle.registers.proofs.notes.frame_in.Tie as tie
+use Rattle.registers.proofs.notes.arrive_in.Statement.{statement}
+use Rattle.registers.proofs.notes.arrive_in.Tie as tie
 
 accept-requires : tie.Need-accept-requires
 accept-requires c κs = search needs
@@ -12,7 +12,7 @@ same-length : tie.Need-same-length
 same-length c = search needs
 
 returns : tie.Need-returns
-unfolding frameNoted
+unfolding arrivalNoted
 returns c = simp (eq-eqb _ _ (c .before .before .before .before .if1 .taken)) (c .before .before .accept .ensures)
 
 discard-requires : tie.Need-discard-requires
@@ -22,15 +22,15 @@ same-length-2 : tie.Need-same-length-2
 same-length-2 c = search needs
 
 returns-2 : tie.Need-returns-2
-unfolding frameNoted
+unfolding arrivalNoted
 returns-2 c = simp (eq-eqb _ _ (c .before .before .before .before .if2 .taken), ne-eqb _ _ (c .before .before .before .before .before .if1 .left)) (c .before .before .discard .ensures)
 
 returns-3 : tie.Need-returns-3
-unfolding frameNoted
+unfolding arrivalNoted
 returns-3 c = simp (ne-eqb _ _ (c .if2 .left), ne-eqb _ _ (c .before .if1 .left))
 
-pub frame-in-spec : {M : Type 1} → statement M
-frame-in-spec =
+pub arrive-in-spec : {M : Type 1} → statement M
+arrive-in-spec =
     tie.close
     (tie.spec
     accept-requires
