@@ -34,7 +34,7 @@ use Rattle.port_laws.proofs.OpenLaws.{opened-open, opened-queues, opened-link, 
 use Rattle.guarantee.specs.Events.{reservedSent, bestEffortSent, Made, made, Event, eventsAfter, events}
 use Rattle.guarantee.specs.Claims.{LinkCondition}
 use Rattle.guarantee.specs.Demand3.{CallList, queuesIn, eventsIn, LinkHolds, Promised, Demand3}
-use Rattle.guarantee.specs.Beyond.{SentByReply, RepliedAlone}
+use Rattle.guarantee.specs.Beyond.{SentByReply, RepliedAlone, AlikeWithdrawals}
 use Rattle.guarantee.specs.Withdrawal.{WithdrawalHolds}
 use Rattle.guarantee.proofs.Reservation.{free}
 use Rattle.guarantee.proofs.Run.{View, octets, quiet, Run}
@@ -43,7 +43,7 @@ use Rattle.guarantee.proofs.Purge.{no-purge}
 use Rattle.guarantee.proofs.Delay.{sent-by-reply, all-sent}
 use Rattle.guarantee.proofs.Conforming.{prompt}
 use Rattle.guarantee.proofs.OwnRun.{replied-alone}
-use Rattle.guarantee.proofs.Alone.{alike}
+use Rattle.guarantee.proofs.Alone.{alike, withdrawals-alike}
 use Rattle.guarantee.proofs.WithdrawalRun.{withdrawal-holds}
 use Rattle.guarantee.proofs.Tied.{tied-empty}
 use Rattle.guarantee.proofs.Held.{Holds, reservationAt, seenAt, seen-below, seen-above, seen-free}
@@ -154,6 +154,11 @@ module _ (l : CallList) where
   run : Run last (shareOf (l .terms .link)) 0 emptyView (eventsIn l)
   run = (emptyView, quiet tt refl (λ role. refl) (λ s. refl), later-plays .run)
 
+-- another list's, in a port with as many queues
+other-run : (l other : CallList) → Run (last l) (shareOf (other .terms .link)) 0 emptyView (eventsIn other)
+other-run l other =
+    subst (λ (place : ℕ). Run place (shareOf (other .terms .link)) 0 emptyView (eventsIn other)) (ap (λ (q : ℕ). q - 1) (queues-same (other .port) (l .port))) (run other)
+
 -- the Open's reply tells the share
 pub opened-reply : (l : CallList) → called (opening (l .terms)) (l .port) (l .memory) .reply ≡ granted (shareOf (l .terms .link)) 0
 opened-reply l = ap (λ (o : Outcome). o .reply) (opened-so l)
@@ -182,8 +187,7 @@ demand-3 l =
     record {
       promised = promised-by-less l (shareOf (l .terms .link)) (omega arith);
       alike = λ other s.
-          alike (last l) (shareOf (l .terms .link)) (shareOf (other .terms .link)) s (eventsIn l) (eventsIn other) emptyView emptyView refl (run l)
-          (subst (λ (place : ℕ). Run place (shareOf (other .terms .link)) 0 emptyView (eventsIn other)) (ap (λ (q : ℕ). q - 1) (queues-same (other .port) (l .port))) (run other));
+          alike (last l) (shareOf (l .terms .link)) (shareOf (other .terms .link)) s (eventsIn l) (eventsIn other) emptyView emptyView refl (run l) (other-run l other);
       records = (refl, later-plays l .records);
       says = (λ e. differ (sym e), later-plays l .says);
       marks = (λ e. refl, later-plays l .marks);
@@ -199,6 +203,11 @@ sent-as-replied l link =
 -- and to a stream's own offers a port replies what the stream replies by itself
 pub replied-as-alone : (l : CallList) → RepliedAlone (queuesIn l - 1) (eventsIn l)
 replied-as-alone l = replied-alone (last l) (shareOf (l .terms .link)) emptyView (eventsIn l) (omega (arith, queues-least (l .port))) (run l) (opened-sound l)
+
+-- and lists that are alike in one stream's own calls have the same of its withdrawals granted
+pub alike-withdrawals : (l other : CallList) (s : ℕ) → AlikeWithdrawals s (eventsIn l) (eventsIn other)
+alike-withdrawals l other s =
+    withdrawals-alike (last l) (shareOf (l .terms .link)) (shareOf (other .terms .link)) s (eventsIn l) (eventsIn other) emptyView emptyView refl (run l) (other-run l other)
 
 -- and a withdrawn stream drains until the tick whose number is that of the queues, and its number is free from that tick on
 pub withdrawals : (l : CallList) → WithdrawalHolds (queuesIn l) (eventsIn l)
