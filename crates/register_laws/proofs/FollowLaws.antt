@@ -21,6 +21,7 @@ use Rattle.steps.specs.Outcome.{Outcome, outcome, gated, refused}
 use Rattle.steps.proofs.OutcomeLaws.{grants, refuses}
 use Rattle.port.specs.Calls.{called}
 use Rattle.port_laws.specs.Lists.{replies}
+use Rattle.port_laws.specs.Counting.{countsAs}
 use Rattle.port_laws.proofs.CallKeeps.{either}
 use Rattle.port_laws.proofs.SameLength.{record-length}
 use Rattle.register_block.specs.Layout.{controlOffset}
@@ -41,17 +42,41 @@ unfolding shortRefusal
 whole-short p m whole = ap (λ (b : Bool). cond b (cond (ltb (length m) (memoryLength (queuesAt p))) 18 19) 0) (le-ltb (length p) portLength whole)
 
 -- and the call is made on the record and noted in the block
-whole-call : (call : Call → List ℕ → List ℕ → Outcome) (c : Call) (p m : List ℕ) → WholePort p → registered call c p m ≡ withNote c (blockPart p) (call c (recordPart p) m)
+whole-call : (call : Call → List ℕ → List ℕ → Outcome) (c : Call) (p m : List ℕ) → WholePort p → registered call c p m ≡ withNote (countsAs (recordPart p) c) (blockPart p) (call c (recordPart p) m)
 unfolding registered
-whole-call call c p m whole = grants (shortRefusal p m) p m (withNote c (blockPart p) (call c (recordPart p) m)) (whole-short p m whole)
+whole-call call c p m whole = grants (shortRefusal p m) p m (withNote (countsAs (recordPart p) c) (blockPart p) (call c (recordPart p) m)) (whole-short p m whole)
 
--- slice and memory of o are those of x, the record alone, after calls that replied the same, with the block behind as these happenings leave it
+-- the calls among happenings
+abbrev pub onlyCalls : List Happening → List Happening
+onlyCalls [] = []
+onlyCalls (replied c r ∷ hs) = replied c r ∷ onlyCalls hs
+onlyCalls (written offset number ∷ hs) = onlyCalls hs
+
+-- calls as they happen on a record alone
+abbrev pub happenOn : List Call → List ℕ → List ℕ → List Happening
+happenOn [] p m = []
+happenOn (c ∷ cs) p m = let o = called c p m in replied (countsAs p c) (o .reply) ∷ happenOn cs (o .port) (o .memory)
+
+-- slice and memory of o are those of x, the record alone, after calls that happened alike, with the block behind as these happenings leave it
 pub record Follows (p m q n : List ℕ) (cs : List Call) (hs : List Happening) (o x : Outcome) : Type 0 where
   pub whole : WholePort (o .port)
   pub same-record : recordPart (o .port) ≡ x .port
   pub same-memory : o .memory ≡ x .memory
   pub block : blockPart (o .port) ≡ notedAll hs (blockPart p)
-  pub told : repliesIn hs ≡ replies called cs q n
+  pub calls : onlyCalls hs ≡ happenOn cs q n
+
+-- so the calls reply the same
+replies-only : (hs : List Happening) → repliesIn (onlyCalls hs) ≡ repliesIn hs
+replies-only [] = refl
+replies-only (replied c r ∷ hs) = ap (λ (rs : List Reply). r ∷ rs) (replies-only hs)
+replies-only (written offset number ∷ hs) = replies-only hs
+
+replies-on : (cs : List Call) (p m : List ℕ) → repliesIn (happenOn cs p m) ≡ replies called cs p m
+replies-on [] p m = refl
+replies-on (c ∷ cs) p m = let o = called c p m in ap (λ (rs : List Reply). o .reply ∷ rs) (replies-on cs (o .port) (o .memory))
+
+pub told : (p m q n : List ℕ) (cs : List Call) (hs : List Happening) (o x : Outcome) → Follows p m q n cs hs o x → repliesIn hs ≡ replies called cs q n
+told p m q n cs hs o x f = sym (replies-only hs) ∙ ap repliesIn (f .calls) ∙ replies-on cs q n
 
 module _ (p m : List ℕ) (whole : WholePort p) where
   -- where nothing happens
@@ -62,24 +87,24 @@ module _ (p m : List ℕ) (whole : WholePort p) where
         same-record = ap recordPart same ∙ sym record-kept;
         same-memory = kept ∙ sym memory-kept;
         block = ap blockPart same;
-        told = refl;
+        calls = refl;
       }
 
   -- a call
   pub call-follows : (c : Call) → Follows p m (recordPart p) m (c ∷ []) (repliedTo (c ∷ []) p m) (portCall c p m) (called c (recordPart p) m)
   call-follows c =
       let x = called c (recordPart p) m in
-      let b = noted c (x .reply) (blockPart p) in
+      let b = noted (countsAs (recordPart p) c) (x .reply) (blockPart p) in
       let made = whole-call called c p m whole in
       let long : length (x .port) ≡ recordLength = record-length c (recordPart p) m ∙ record-long p whole in
-      let behind : length b ≡ length p - recordLength = length-noted c (x .reply) (blockPart p) ∙ block-long p in
+      let behind : length b ≡ length p - recordLength = length-noted (countsAs (recordPart p) c) (x .reply) (blockPart p) ∙ block-long p in
       rw made
       (record {
         whole = omega (arith, length-append (x .port) b, long, behind, whole);
         same-record = take-at (x .port) b recordLength long;
         same-memory = refl;
         block = drop-at (x .port) b recordLength long;
-        told = refl;
+        calls = refl;
       })
 
 -- the replies of calls after calls, and what both leave
@@ -97,6 +122,17 @@ replies-both [] ks = refl
 replies-both (replied c r ∷ hs) ks = ap (λ (rs : List Reply). r ∷ rs) (replies-both hs ks)
 replies-both (written offset number ∷ hs) ks = replies-both hs ks
 
+calls-both : (hs ks : List Happening) → onlyCalls (hs ++ ks) ≡ onlyCalls hs ++ onlyCalls ks
+calls-both [] ks = refl
+calls-both (replied c r ∷ hs) ks = ap (λ (ls : List Happening). replied c r ∷ ls) (calls-both hs ks)
+calls-both (written offset number ∷ hs) ks = calls-both hs ks
+
+on-both : (cs ds : List Call) (o : Outcome)
+    → happenOn (cs ++ ds) (o .port) (o .memory) ≡ happenOn cs (o .port) (o .memory) ++ happenOn ds (inTurn called o cs .port) (inTurn called o cs .memory)
+on-both [] ds o = refl
+on-both (c ∷ cs) ds o =
+    ap (λ (hs : List Happening). replied (countsAs (o .port) c) (called c (o .port) (o .memory) .reply) ∷ hs) (on-both cs ds (called c (o .port) (o .memory)))
+
 noted-both : (hs ks : List Happening) (b : List ℕ) → notedAll (hs ++ ks) b ≡ notedAll ks (notedAll hs b)
 noted-both [] ks b = refl
 noted-both (h ∷ hs) ks b = noted-both hs ks (note h b)
@@ -111,10 +147,10 @@ follows-both p m x cs ds hs ks o u first second =
       same-record = second .same-record;
       same-memory = second .same-memory;
       block = second .block ∙ ap (notedAll ks) (first .block) ∙ sym (noted-both hs ks (blockPart p));
-      told =
-          replies-both hs ks
-          ∙ ap₂ _++_ (first .told) (second .told ∙ ap₂ (λ (q n : List ℕ). replies called ds q n) (first .same-record) (first .same-memory))
-          ∙ sym (replies-after called cs ds x);
+      calls =
+          calls-both hs ks
+          ∙ ap₂ _++_ (first .calls) (second .calls ∙ ap₂ (λ (q n : List ℕ). happenOn ds q n) (first .same-record) (first .same-memory))
+          ∙ sym (on-both cs ds x);
     }
 
 -- calls in turn, from a port that is what the record alone is
@@ -163,7 +199,7 @@ module _ (offset number : ℕ) (p m : List ℕ) (whole : WholePort p) where
         same-record = take-at (recordPart p) b recordLength long;
         same-memory = refl;
         block = drop-at (recordPart p) b recordLength long;
-        told = refl;
+        calls = refl;
       })
 
   -- a write that makes no call, by its two gates
@@ -226,7 +262,7 @@ follows-at p m q n cs hs o u x y same so f =
       same-record = ap recordPart (sym (same .0)) ∙ f .same-record ∙ so .0;
       same-memory = sym (same .1) ∙ f .same-memory ∙ so .1;
       block = ap blockPart (sym (same .0)) ∙ f .block;
-      told = f .told;
+      calls = f .calls;
     }
 
 -- and every list of them: the record and the memory after it are those after its calls on the record alone, which reply the same, and the block is what the

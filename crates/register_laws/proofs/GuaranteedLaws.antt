@@ -3,7 +3,7 @@ use Rattle.steps.specs.Call.{opening}
 use Rattle.guarantee.proofs.Theorem.{demand-3}
 use Rattle.register_laws.specs.Uses.{UseList, openedBy}
 use Rattle.register_laws.specs.Guaranteed.{callsIn, Guaranteed}
-use Rattle.register_laws.proofs.FollowLaws.{call-follows, list-follows}
+use Rattle.register_laws.proofs.FollowLaws.{told, call-follows, list-follows}
 use Rattle.register_laws.proofs.OpenedLaws.{opened-whole, opened-reply, opened-record}
 
 pub guaranteed : (l : UseList) → Guaranteed l
@@ -13,7 +13,7 @@ guaranteed l =
     record {
       opens-record = opened-record l;
       demand-3 = demand-3 (callsIn l (opened-record l));
-      replied = rest .told;
+      replied = told _ _ _ _ _ _ _ _ rest;
       record-left = rest .same-record;
       memory-left = rest .same-memory;
       opened-reply = opened-reply l;

@@ -2,10 +2,13 @@
 pub mod NoteLaws
 pub mod FollowLaws
 pub mod RuleLaws
+pub mod FieldLaws
+pub mod SinceLaws
 pub mod HistoryLaws
 pub mod OpenedLaws
 pub mod Histories
 pub mod GuaranteedLaws
+pub mod AlikeLaws
 pub mod ControlLaws
 pub mod QuickRegisters
 pub mod ReadLaws

@@ -8,11 +8,11 @@ use lib.Dec.{eqb}
 use Rattle.stream.specs.declared.Reply.{Reply}
 use Rattle.steps.specs.Call.{Call, opening, reserving, withdrawing, arriving, ticking, transmitting, joiningBestEffort, binding, framing}
 use Rattle.sending.specs.Sending.{nothing}
-use Rattle.register_block.specs.Layout.{sentOctet, acceptedOctet, discardedOctet, discardFlag, purgeFlag, nothingFlag}
-use Rattle.register_block.specs.Events.{raised, accepted, discarded, purged, sent, sentNothing, zeroed}
-use Rattle.register_block.proofs.BlockLaws.{length-flag, length-raised, length-zeroed}
+use Rattle.register_block.specs.Layout.{sentOctet, purgeFlag, nothingFlag}
+use Rattle.register_block.specs.Events.{accepted, discarded, withdrawn, purged, sent, sentNothing, zeroed}
+use Rattle.register_block.proofs.BlockLaws.{length-flag, length-raised, length-zeroed, length-accepted, length-discarded, length-withdrawn}
 use Rattle.register_block.proofs.WrittenLaws.{length-written}
-use Rattle.registers.specs.Notes.{openNoted, frameNoted, tickNoted, transmitNoted, noted}
+use Rattle.registers.specs.Notes.{openNoted, withdrawNoted, arrivalNoted, tickNoted, transmitNoted, noted}
 use Rattle.register_laws.specs.Happenings.{Happening, replied, written, note, notedAll}
 
 -- what is true of both is true of whichever a test chooses
@@ -22,22 +22,22 @@ either-block G false x y g h = h
 
 module _ (G : List ℕ → Type 0) (b : List ℕ) (same : G b) where
   -- each call's note is one of these changes, or none
-  pub by-note : (c : Call) (r : Reply) → G (zeroed b) → G (accepted b) → G (discarded b) → G (purged b) → G (sent b) → G (sentNothing b) → G (noted c r b)
-  unfolding openNoted frameNoted tickNoted transmitNoted
-  by-note (opening t) r z a d p s n = either-block G (eqb (r .refusal) 0) _ _ z same
-  by-note (reserving s′ permitted) r z a d p s n = same
-  by-note (withdrawing s′) r z a d p s n = same
-  by-note (arriving s′ charge tag) r z a d p s n = either-block G (eqb (r .refusal) 0) _ _ a (either-block G (eqb (r .refusal) 14) _ _ d same)
-  by-note ticking r z a d p s n = either-block G (eqb (r .refusal) 0) _ _ (either-block G (eqb (r .first) 0) _ _ same p) same
-  by-note transmitting r z a d p s n = either-block G (eqb (r .refusal) 0) _ _ (either-block G (eqb (r .first) nothing) _ _ n s) same
-  by-note (joiningBestEffort charge tag) r z a d p s n = either-block G (eqb (r .refusal) 0) _ _ a (either-block G (eqb (r .refusal) 14) _ _ d same)
-  by-note (binding s′ address vid) r z a d p s n = same
-  by-note (framing octets tag) r z a d p s n = either-block G (eqb (r .refusal) 0) _ _ a (either-block G (eqb (r .refusal) 14) _ _ d same)
+  pub by-note : (c : Call) (r : Reply) → G (zeroed b) → ((i : ℕ) → G (withdrawn i b)) → ((i : ℕ) → G (accepted i b)) → ((i : ℕ) → G (discarded i b)) → G (purged b)
+      → G (sent b) → G (sentNothing b) → G (noted c r b)
+  unfolding openNoted withdrawNoted arrivalNoted tickNoted transmitNoted
+  by-note (opening t) r z w a d p s n = either-block G (eqb (r .refusal) 0) _ _ z same
+  by-note (reserving i permitted) r z w a d p s n = same
+  by-note (withdrawing i) r z w a d p s n = either-block G (eqb (r .refusal) 0) _ _ (w i) same
+  by-note (arriving i charge tag) r z w a d p s n = either-block G (eqb (r .refusal) 0) _ _ (a i) (either-block G (eqb (r .refusal) 14) _ _ (d i) same)
+  by-note ticking r z w a d p s n = either-block G (eqb (r .refusal) 0) _ _ (either-block G (eqb (r .first) 0) _ _ same p) same
+  by-note transmitting r z w a d p s n = either-block G (eqb (r .refusal) 0) _ _ (either-block G (eqb (r .first) nothing) _ _ n s) same
+  by-note (joiningBestEffort charge tag) r z w a d p s n = same
+  by-note (binding i address vid) r z w a d p s n = same
+  by-note (framing octets tag) r z w a d p s n = same
 
 pub length-noted : (c : Call) (r : Reply) (b : List ℕ) → length (noted c r b) ≡ length b
 length-noted c r b =
-    by-note (λ l. length l ≡ length b) b refl c r (length-zeroed b) (length-raised b acceptedOctet)
-    (length-flag (raised b discardedOctet) discardFlag ∙ length-raised b discardedOctet)
+    by-note (λ l. length l ≡ length b) b refl c r (length-zeroed b) (λ i. length-withdrawn i b) (λ i. length-accepted i b) (λ i. length-discarded i b)
     (length-flag b purgeFlag) (length-raised b sentOctet) (length-flag b nothingFlag)
 
 -- every happening, and a list of them

@@ -19,7 +19,13 @@ use Rattle.steps.specs.Outcome.{Outcome, gated}
 use Rattle.steps.proofs.OutcomeLaws.{grants, let-through}
 use Rattle.opening.specs.Opening.{openedRecord, openStep}
 use Rattle.gates.specs.Refusals.{openRefusal}
+use Rattle.gates.specs.Becoming.{becoming}
+use Rattle.header.specs.Header.{lengthFits}
+use Rattle.binding.specs.declared.Lookup.{Lookup}
+use Rattle.binding.specs.declared.Lookup.the-variants.{Bound, Unbound}
+use Rattle.binding.specs.Finding.{frameLookup}
 use Rattle.port.specs.Calls.{called}
+use Rattle.port_laws.specs.Counting.{countsAs}
 use Rattle.port_laws.proofs.GateNumbers.{open-taken}
 use Rattle.port_laws.proofs.StayLaws.{stays-fit}
 use Rattle.port_laws.proofs.StayOpen.{stays-open}
@@ -34,7 +40,7 @@ use Rattle.registers.proofs.PartLaws.{enough, block-long}
 use Rattle.register_laws.specs.Uses.{Use, calling, reading, writing, used, lent, callsOf, UseList, openedBy, leftBy}
 use Rattle.register_laws.specs.Happenings.{Happening, written, repliedTo, writeHappens, happens, happenings, happeningsIn, notedAll}
 use Rattle.register_laws.specs.History.{sortOf, grantedOpen, isReply}
-use Rattle.register_laws.proofs.FollowLaws.{Follows, call-follows, use-follows, list-follows}
+use Rattle.register_laws.proofs.FollowLaws.{Follows, told, call-follows, use-follows, list-follows}
 
 -- an open port grants no Open
 no-open : (t : Terms) (p m : List ℕ) → openAt p ≡ true → called (opening t) p m .reply .refusal ≡ 0 → ⊥
@@ -48,7 +54,7 @@ no-open t p m opened e =
 abbrev NoOpen : Happening → Type 0
 NoOpen h = isReply grantedOpen h ≡ false
 
-call-no-open : (c : Call) (p m : List ℕ) → openAt p ≡ true → grantedOpen (sortOf c) (called c p m .reply) ≡ false
+call-no-open : (c : Call) (p m : List ℕ) → openAt p ≡ true → grantedOpen (sortOf (countsAs p c)) (called c p m .reply) ≡ false
 call-no-open (opening t) p m opened = ne-eqb (called (opening t) p m .reply .refusal) 0 (no-open t p m opened)
 call-no-open (reserving s permitted) p m opened = refl
 call-no-open (withdrawing s) p m opened = refl
@@ -57,7 +63,12 @@ call-no-open ticking p m opened = refl
 call-no-open transmitting p m opened = refl
 call-no-open (joiningBestEffort charge tag) p m opened = refl
 call-no-open (binding s address vid) p m opened = refl
-call-no-open (framing octets tag) p m opened = refl
+call-no-open (framing octets tag) p m opened = by-found (lengthFits octets) (frameLookup p octets)
+  where
+    by-found : (fits : Bool) (found : Lookup) → grantedOpen (sortOf (cond fits (becoming octets tag found) (framing octets tag))) (called (framing octets tag) p m .reply) ≡ false
+    by-found true (Bound s) = refl
+    by-found true Unbound = refl
+    by-found false found = refl
 
 -- the port stays open in calls one after the other,
 turn-open : (cs : List Call) (x : Outcome) → openAt (x .port) ≡ true → openAt (inTurn called x cs .port) ≡ true
@@ -70,7 +81,7 @@ calls-no-open [] p m whole opened = tt
 calls-no-open (c ∷ cs) p m whole opened =
     let f = call-follows p m whole c in
     let o = portCall c p m in (
-      ap (λ (rs : List Reply). grantedOpen (sortOf c) (firstOf rs)) (f .told) ∙ call-no-open c (recordPart p) m opened,
+      ap (λ (rs : List Reply). grantedOpen (sortOf (countsAs (recordPart p) c)) (firstOf rs)) (told _ _ _ _ _ _ _ _ f) ∙ call-no-open c (recordPart p) m opened,
       calls-no-open cs (o .port) (o .memory) (f .whole) (ap openAt (f .same-record) ∙ stays-open c (recordPart p) m opened),
     )
   where
@@ -114,7 +125,7 @@ module _ (l : UseList) where
   opens = call-follows (l .port) (l .memory) opened-whole (opening (l .terms))
 
   pub opened-reply : openedBy l .reply ≡ called (opening (l .terms)) (recordPart (l .port)) (l .memory) .reply
-  opened-reply = first-same (openedBy l .reply) (called (opening (l .terms)) (recordPart (l .port)) (l .memory) .reply) [] [] (opens .told)
+  opened-reply = first-same (openedBy l .reply) (called (opening (l .terms)) (recordPart (l .port)) (l .memory) .reply) [] [] (told _ _ _ _ _ _ _ _ opens)
     where
       first-same : (r s : Reply) (rs ss : List Reply) → _≡_ {A = List Reply} (r ∷ rs) (s ∷ ss) → r ≡ s
       first-same r s rs ss e = ap (λ (xs : List Reply). headOf xs) e

@@ -20,6 +20,7 @@ use Rattle.steps.specs.Outcome.{Outcome, outcome, gated}
 use Rattle.steps.proofs.OutcomeLaws.{refuses}
 use Rattle.port.specs.Calls.{called}
 use Rattle.port.specs.Quick.{lengthRefusal, quicklyCalled}
+use Rattle.port_laws.specs.Counting.{countsAs}
 use Rattle.port_laws.proofs.CallKeeps.{either}
 use Rattle.port_laws.proofs.QuickLaws.{same-refusal, quick-call}
 use Rattle.port_laws.proofs.StayLaws.{stays-fit}
@@ -40,7 +41,7 @@ Fit p m = recordFits (recordPart p) m ≡ true
 -- a quick call is the call
 pub quick-registered : (c : Call) (p m : List ℕ) → Fit p m → quickPortCall c p m ≡ portCall c p m
 unfolding registered
-quick-registered c p m fit = ap (λ (o : Outcome). gated (shortRefusal p m) p m (withNote c (blockPart p) o)) (quick-call c (recordPart p) m fit)
+quick-registered c p m fit = ap (λ (o : Outcome). gated (shortRefusal p m) p m (withNote (countsAs (recordPart p) c) (blockPart p) o)) (quick-call c (recordPart p) m fit)
 
 -- the lengths alone refuse what 18 and 19 refuse
 quick-lent : (p m : List ℕ) → Fit p m → portRefusal lengthRefusal p m ≡ portRefusal lentRefusal p m
@@ -61,7 +62,7 @@ fit-call c p m fit =
     let f = call-follows p m (enough p m free) c in
     ap₂ recordFits (f .same-record) (f .same-memory) ∙ stays-fit c (recordPart p) m fit)
     (λ (some : shortRefusal p m ≡ 0 → ⊥).
-    subst (λ (o : Outcome). Fit (o .port) (o .memory)) (sym (refuses (shortRefusal p m) p m (withNote c (blockPart p) (called c (recordPart p) m)) some)) fit)
+    subst (λ (o : Outcome). Fit (o .port) (o .memory)) (sym (refuses (shortRefusal p m) p m (withNote (countsAs (recordPart p) c) (blockPart p) (called c (recordPart p) m)) some)) fit)
     (eq-or-not (shortRefusal p m) 0)
 
 -- so do calls in turn, and the quick ones are they

@@ -1,14 +1,16 @@
 -- What a read replies after every list of uses from a granted Open. Assumes nothing.
 use Prim.Native.Nat.{ℕ}
 use mathlib.Core.Path.{_≡_, refl, sym, ap, ap₂, _∙_}
-use mathlib.Core.Bool.{Bool, true}
+use mathlib.Core.Bool.{Bool, true, false, cond}
 use mathlib.Core.List.{List, [], _∷_}
 use native.Mathlib.Omega.{arith}
 use lib.ListN.{length}
 use lib.Seq.{getD-take}
-use lib.Dec.{eqb}
+use lib.Dec.{eqb, ltb}
+use borrow.Author.Tests.{ltb-true}
+use Rattle.stream.specs.declared.Reply.{Reply}
 use Rattle.stream.specs.Replies.{granted}
-use Rattle.record.specs.Layout.{recordLength}
+use Rattle.record.specs.Layout.{recordLength, streamCount}
 use Rattle.record.specs.Queues.{queuesAt, HasMemory}
 use Rattle.record.specs.Head.{openAt}
 use Rattle.fitness.specs.Fit.{recordFits, lentRefusal}
@@ -19,16 +21,18 @@ use Rattle.steps.proofs.OutcomeLaws.{grants}
 use Rattle.port.specs.Calls.{called}
 use Rattle.port_laws.proofs.StayLaws.{stays-fit}
 use Rattle.port_laws.proofs.StayOpen.{stays-open, stays-long}
-use Rattle.register_block.specs.Layout.{controlOffset, statusOffset, flagsOffset, maskOffset, acceptedOffset, discardedOffset, sentOffset}
-use Rattle.register_block.specs.Shown.{registerAt}
+use Rattle.register_block.specs.Layout.{controlOffset, statusOffset, flagsOffset, maskOffset, acceptedOffset, discardedOffset, sentOffset, choiceOffset, acceptedOctet, discardedOctet}
+use Rattle.register_block.specs.Fields.{wordAt}
+use Rattle.register_block.specs.Shown.{chosen, shownCount, registerAt}
 use Rattle.registers.specs.Lent.{WholePort, recordPart, blockPart, shortRefusal, portRefusal}
 use Rattle.registers.specs.Accesses.{offsetRefusal, inTurn, readBy}
 use Rattle.registers.proofs.PartLaws.{lent-else}
+use Rattle.registers.proofs.CountLaws.{counts-stream-of}
 use Rattle.register_laws.specs.Uses.{lent, allCalls, UseList, openedBy, leftBy}
-use Rattle.register_laws.specs.History.{Reads, ReadsTell}
+use Rattle.register_laws.specs.History.{Sort, acceptanceOf, discardOf, countSince, CountsSince, lastWritten, ofChosen, Reads, ReadsTell, CountsTell}
 use Rattle.register_laws.proofs.FollowLaws.{call-follows, list-follows, whole-short}
 use Rattle.register_laws.proofs.OpenedLaws.{opened-whole, opened-opened, opened-fit, opened-long}
-use Rattle.register_laws.proofs.Histories.{accepted-counts, discarded-counts, sent-counts}
+use Rattle.register_laws.proofs.Histories.{accepted-counts, discarded-counts, sent-counts, mask-kept, choice-kept}
 
 -- an open port with a fit record and its memory
 record Ready (p m : List ℕ) : Type 0 where
@@ -92,6 +96,19 @@ module _ (l : UseList) where
       ∙ grants (portRefusal lentRefusal left left-memory) left left-memory done not-refused
       ∙ ap (λ (n : ℕ). outcome (granted n 0) left left-memory) (ap (λ (b : Bool). registerAt b (blockPart left) offset) (sym (open-part left) ∙ ready .opened) ∙ shows)
 
+  -- the counts of the chosen stream are those since it began
+  chosen-count : (octet : ℕ → ℕ) (test : ℕ → Sort → Reply → Bool) → CountsSince octet test → shownCount octet (blockPart left) ≡ ofChosen l (countSince test l)
+  unfolding shownCount
+  chosen-count octet test counts = ap shownOf (choice-kept l) ∙ by-test (ltb (lastWritten choiceOffset l) streamCount) refl
+    where
+      shownOf : ℕ → ℕ
+      shownOf s = cond (ltb s streamCount) (wordAt (blockPart left) (octet s)) 0
+
+      by-test : (b : Bool) → ltb (lastWritten choiceOffset l) streamCount ≡ b
+          → cond b (wordAt (blockPart left) (octet (lastWritten choiceOffset l))) 0 ≡ cond b (countSince test l (lastWritten choiceOffset l)) 0
+      by-test true t = counts l (lastWritten choiceOffset l) (ltb-true (lastWritten choiceOffset l) streamCount t)
+      by-test false t = refl
+
   pub reads-tell : ReadsTell l
   unfolding offsetRefusal registerAt
   reads-tell =
@@ -99,8 +116,12 @@ module _ (l : UseList) where
         control = reads controlOffset 0 refl refl;
         status = reads statusOffset _ refl refl;
         flags = reads flagsOffset _ refl refl;
-        mask = reads maskOffset _ refl refl;
-        accepted = reads acceptedOffset _ refl (accepted-counts l);
-        discarded = reads discardedOffset _ refl (discarded-counts l);
+        mask = reads maskOffset _ refl (mask-kept l);
+        accepted = reads acceptedOffset _ refl (chosen-count acceptedOctet acceptanceOf accepted-counts);
+        discarded = reads discardedOffset _ refl (chosen-count discardedOctet discardOf discarded-counts);
         sent = reads sentOffset _ refl (sent-counts l);
+        choice = reads choiceOffset _ refl (choice-kept l);
       }
+
+  pub counts-tell : CountsTell l
+  counts-tell s below = sym (counts-stream-of s left (granted (countSince acceptanceOf l s) (countSince discardOf l s)) whole-left below (sym (ap₂ granted (accepted-counts l s below) (discarded-counts l s below))))

@@ -1,17 +1,20 @@
--- What happens to a port's register block in a list of uses: each call's reply, and each write to a register that is not refused.
+-- What happens to a port's register block in a list of uses: each call, as that which it counts as, with its reply, and each write to a register that is
+-- not refused.
 use Prim.Native.Nat.{ℕ}
 use mathlib.Core.Bool.{cond}
 use mathlib.Core.List.{List, [], _∷_, _++_}
 use lib.Dec.{eqb}
 use Rattle.stream.specs.declared.Reply.{Reply}
 use Rattle.steps.specs.Call.{Call}
+use Rattle.port_laws.specs.Counting.{countsAs}
 use Rattle.register_block.specs.Written.{writtenAt}
+use Rattle.registers.specs.Lent.{recordPart}
 use Rattle.registers.specs.Notes.{noted}
 use Rattle.registers.specs.Calls.{portCall}
 use Rattle.registers.specs.Accesses.{registerWrite}
 use Rattle.register_laws.specs.Uses.{Use, calling, reading, writing, used, callsOf, UseList, openedBy}
 
--- a call with its reply, or a number written to a register
+-- a call as that which it counts as, so that a Frame of a stream's pair is the arrival, with its reply; or a number written to a register
 pub data Happening : Type 0 where
   replied : Call → Reply → Happening
   written : ℕ → ℕ → Happening
@@ -19,7 +22,7 @@ pub data Happening : Type 0 where
 -- the calls one after the other, each with its reply
 abbrev pub repliedTo : List Call → List ℕ → List ℕ → List Happening
 repliedTo [] p m = []
-repliedTo (c ∷ cs) p m = let o = portCall c p m in replied c (o .reply) ∷ repliedTo cs (o .port) (o .memory)
+repliedTo (c ∷ cs) p m = let o = portCall c p m in replied (countsAs (recordPart p) c) (o .reply) ∷ repliedTo cs (o .port) (o .memory)
 
 -- a write that makes these calls; one that makes none is written where it is not refused
 abbrev pub writeHappens : ℕ → ℕ → List ℕ → List ℕ → List Call → List Happening

@@ -2,6 +2,7 @@
 pub mod Uses
 pub mod Happenings
 pub mod History
+pub mod Alike
 pub mod Controls
 pub mod Guaranteed
 pub mod Cases

@@ -3,7 +3,8 @@ use Prim.Native.Nat.{ℕ, _^_}
 use mathlib.Core.Path.{_≡_}
 use mathlib.Core.Bool.{true, false}
 use mathlib.Core.List.{List, [], _∷_, _++_}
-use Rattle.steps.specs.Call.{terms, opening, ticking, transmitting}
+use Rattle.stream.specs.Replies.{granted}
+use Rattle.steps.specs.Call.{terms, opening, withdrawing, ticking, transmitting}
 use Rattle.fitness.specs.Fit.{recordFits}
 use Rattle.port_laws.specs.Lists.{replies, freshMemory}
 use Rattle.register_block.specs.Layout.{controlOffset, discardFlag, purgeFlag, nothingFlag}
@@ -12,7 +13,8 @@ use Rattle.register_block.specs.Shown.{flagsOf, maskOf, lineUp, ShareOne, statu
 use Rattle.registers.specs.Lent.{recordPart, blockPart}
 use Rattle.registers.specs.Calls.{portCall}
 use Rattle.registers.specs.Accesses.{inTurn, registerWrite}
-use Rattle.register_laws.specs.Uses.{Use, writing, quicklyUsed, lent, ran, UseList, leftBy}
+use Rattle.registers.specs.StreamCounts.{portCounts}
+use Rattle.register_laws.specs.Uses.{Use, calling, writing, quicklyUsed, lent, ran, UseList, leftBy}
 use Rattle.register_laws.specs.Happenings.{happenings, repliesIn}
 use Rattle.register_laws.specs.History.{Reads}
 use Rattle.register_laws.specs.Controls.{controlWrites}
@@ -29,12 +31,21 @@ listOf us opened = record { port = freshPort; memory = freshMemory; terms = term
 abbrev pub clearedUses : List Use
 clearedUses = controlUses ++ (writing 8 1 ∷ [])
 
+-- and with the stream withdrawn at the end
+abbrev pub withdrawnUses : List Use
+withdrawnUses = controlUses ++ (calling (withdrawing 5) ∷ [])
+
 pub record HistoriesSay : Type 0 where
   pub opens : Opens controlUses
-  -- `reads-tell`: three frames were accepted, one discarded, two sent
+  -- `reads-tell`: stream 5 is chosen; three frames of it were accepted, one discarded; two were sent
   pub accepted : Reads (listOf controlUses opens) 16 3
   pub discarded : Reads (listOf controlUses opens) 20 1
   pub sent : Reads (listOf controlUses opens) 24 2
+  pub choice : Reads (listOf controlUses opens) 28 5
+  -- `counts-tell`: so they are read without a choice, and none is counted of another stream; both counts are 0 once the stream is withdrawn
+  pub counted : portCounts 5 (leftBy (listOf controlUses opens) .port) ≡ granted 3 1
+  pub other-counted : portCounts 6 (leftBy (listOf controlUses opens) .port) ≡ granted 0 0
+  pub withdrawn-counted : portCounts 5 (leftBy (listOf withdrawnUses opens) .port) ≡ granted 0 0
   -- `discard-flags`, `purge-flags`, `nothing-flags`: there was one of each since the Open
   pub discard-up : flagAt (blockPart (leftBy (listOf controlUses opens) .port)) discardFlag ≡ true
   pub purge-up : flagAt (blockPart (leftBy (listOf controlUses opens) .port)) purgeFlag ≡ true
@@ -48,11 +59,11 @@ pub record HistoriesSay : Type 0 where
   pub controls-replies : (p m : List ℕ) → repliesIn (happenings (controlWrites (3 ∷ 1 ∷ [])) p m) ≡ replies portCall (ticking ∷ transmitting ∷ ticking ∷ []) p m
   -- `control-named`: a control write of 3 is a tick and then a transmit, in reply, slice and memory
   pub both-bits : (p m : List ℕ) → registerWrite controlOffset 3 p m ≡ inTurn portCall (lent p m) (ticking ∷ transmitting ∷ [])
-  -- `reads-tell`: control reads zero, and status, flags and mask are read as the block has them, of an open port
+  -- `reads-tell`: control reads zero, status and flags are read as the block has them, of an open port, and the mask as it was written
   pub control : Reads (listOf controlUses opens) 0 0
   pub status : Reads (listOf controlUses opens) 4 (statusOf true (blockPart (leftBy (listOf controlUses opens) .port)))
   pub flags : Reads (listOf controlUses opens) 8 (flagsOf (blockPart (leftBy (listOf controlUses opens) .port)))
-  pub mask : Reads (listOf controlUses opens) 12 (maskOf (blockPart (leftBy (listOf controlUses opens) .port)))
+  pub mask : Reads (listOf controlUses opens) 12 5
   -- `line-exactly`: a mask that shares its highest one with the flags raises the line, and a line that is up shows such a one
   pub line-up : (b : List ℕ) → bitOf (flagsOf b) (2 ^ 2) ≡ true → bitOf (maskOf b) (2 ^ 2) ≡ true → lineUp b ≡ true
   pub line-shows : (b : List ℕ) → lineUp b ≡ true → ShareOne (flagsOf b) (maskOf b)

@@ -35,11 +35,16 @@ module _ (s : ℕ) (p : List ℕ) where
   pub counts-none : (r : Reply) → r ≡ refusedBy 5 → WholePort p → streamCount ≤ s → r ≡ portCounts s p
   counts-none r told whole above = by-tests false true r (le-ltb (length p) portLength whole) (le-leb streamCount s above) told
 
-  -- and a stream, whose counts are read in the block's part
+  -- and a stream
+  pub counts-stream-of : (r : Reply) → WholePort p → s < streamCount → r ≡ granted (wordAt (blockPart p) (acceptedOctet s)) (wordAt (blockPart p) (discardedOctet s))
+      → r ≡ portCounts s p
+  counts-stream-of r whole below told = by-tests false false r (le-ltb (length p) portLength whole) (lt-leb streamCount s below) told
+
+  -- whose counts code reads in the block's part
   pub counts-stream : (accepted discarded : ℕ) (r : Reply) → WholePort p → s < streamCount
       → accepted ≡ wordAt (midOf recordLength (length p - recordLength) p) (acceptedOctet s)
       → discarded ≡ wordAt (midOf recordLength (length p - recordLength) p) (discardedOctet s) → r ≡ granted accepted discarded → r ≡ portCounts s p
   counts-stream accepted discarded r whole below first second told =
-      by-tests false false r (le-ltb (length p) portLength whole) (lt-leb streamCount s below)
+      counts-stream-of r whole below
       (told
       ∙ ap₂ granted (first ∙ ap (λ (b : List ℕ). wordAt b (acceptedOctet s)) (block-mid p)) (second ∙ ap (λ (b : List ℕ). wordAt b (discardedOctet s)) (block-mid p)))
