@@ -1,2 +1,3 @@
 -- A list of control writes, and what demand 3 says of it.
 pub mod Controlled
+pub mod Crowded
