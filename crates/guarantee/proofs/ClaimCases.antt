@@ -18,7 +18,7 @@ use Rattle.port_laws.specs.Counting.{Action, toTick, toTransmit, toReserve, toW
 use Rattle.guarantee.specs.Events.{Sent, reservedSent, bestEffortSent, none, marked, Made, broughtBy, isTransmit, sentBy, Event, eventsAfter, bothRuns}
 use Rattle.guarantee.specs.Claims.{isTick, tickCount, reservedCharge, reservedOctets, Idle, Linked, PurgesNothing, replyOfSent, SaysWhatItSends, AlikeMarked, SameRecord, Sends, isOfferOf, offer, offers, Offered, isWithdrawOf, isReserveOf, isArriveOf, remaining, grants, answers, Alike, NotByHost}
 use Rattle.guarantee.specs.Own.{own, ownReplies}
-use Rattle.guarantee.specs.Beyond.{RepliedAlone}
+use Rattle.guarantee.specs.Beyond.{RepliedAlone, withdrawalGrants}
 use Rattle.guarantee.specs.Instances.{replied, markedFrame, quietTick, purgingTick, joinsCurrent, currentFrame, sendsReserved, joinsNext, discardedArrival, tooSmall, epoch, offered, joinsTwice, sendsTwice, grantOf5, allowed, denied, withdrawalOf5, withdrawalRefused, withdrawalOf6, refusalOf6, joinsOther, joinsBestEffort, mixed, tagOf, chargeIn, stacking}
 
 -- the charge and the number of a sent frame
@@ -350,6 +350,10 @@ transmit-not-alike t = differ t
 
 records-alike : SameRecord joinsTwice
 records-alike = refl
+
+-- which of a stream's withdrawals are granted, and no other stream's
+withdrawals-told : withdrawalGrants 5 (withdrawalOf5 ∷ withdrawalOf6 ∷ quietTick ∷ withdrawalRefused ∷ []) ≡ true ∷ false ∷ []
+withdrawals-told = refl
 
 -- where a reservation is granted in one list and refused in the other nothing is said of the replies
 grants-differ : Alike 5 allowed denied

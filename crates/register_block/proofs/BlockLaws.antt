@@ -251,6 +251,6 @@ module _ (s : ℕ) (b : List ℕ) where
         for-either (λ l. flagAt l flag ≡ flagAt b flag) s (λ l. withWord (withWord l (acceptedOctet s) 0) (discardedOctet s) 0) b
         (flag-word (withWord b (acceptedOctet s) 0) flag (discardedOctet s) 0 (omega (arith, low)) ∙ flag-word b flag (acceptedOctet s) 0 (omega (arith, low))) refl
 
-  pub discard-flagged : WholeBlock b → flagAt (discarded s b) discardFlag ≡ true
+  pub discarded-flag : WholeBlock b → flagAt (discarded s b) discardFlag ≡ true
   unfolding discarded
-  discard-flagged whole = flag-flag (forStream s (λ l. raised l (discardedOctet s)) b) discardFlag (omega (arith, whole, length-counted))
+  discarded-flag whole = flag-flag (forStream s (λ l. raised l (discardedOctet s)) b) discardFlag (omega (arith, whole, length-counted))

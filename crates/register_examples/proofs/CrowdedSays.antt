@@ -35,7 +35,7 @@ use Rattle.register_laws.proofs.OpenedLaws.{opened-record}
 use Rattle.register_laws.proofs.Histories.{accepted-counts, discarded-counts}
 use Rattle.register_laws.proofs.ReadLaws.{counts-tell}
 use Rattle.register_laws.proofs.AlikeLaws.{counts-alike}
-use Rattle.register_laws.proofs.HistoriesSay.{it-opens, histories-say}
+use Rattle.register_examples.proofs.HistoriesSay.{it-opens, histories-say}
 use Rattle.register_examples.specs.Crowded.{crowdedUses, ownCalls, ownGrants, CrowdedSays}
 
 -- the events of a list of uses, by the quick calls

@@ -1,3 +1,3 @@
--- A list of control writes, and what demand 3 says of it.
+-- Lists with register accesses, and what demand 3 and the theorems of the registers say of them.
 pub mod Controlled
 pub mod Crowded

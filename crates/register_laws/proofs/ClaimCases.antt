@@ -38,6 +38,10 @@ discards-one = refl
 other-discards-none : howMany (isReply (discardOf 6)) frames ≡ 0
 other-discards-none = refl
 
+-- a frame of best effort is none of a stream's
+best-effort-uncounted : isThere (isReply (acceptanceOf 5)) (replied (joiningBestEffort 84 3) (granted 84 0) ∷ []) ≡ false
+best-effort-uncounted = refl
+
 -- "since the latest opening or granted withdrawal": a withdrawal of the stream begins, and neither a refused one nor another stream's does
 since-withdrawal : howMany (isReply (acceptanceOf 5)) (since (isReply (beginning 5)) (framesWith (replied (withdrawing 5) (granted 0 0)))) ≡ 1
 since-withdrawal = refl

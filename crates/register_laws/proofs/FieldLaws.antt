@@ -10,7 +10,7 @@ use Rattle.record.specs.Layout.{streamCount}
 use Rattle.steps.specs.Call.{Call}
 use Rattle.register_block.specs.Layout.{WholeBlock, blockLength, maskOffset, choiceOffset, discardFlag, purgeFlag, nothingFlag, flagCount, maskOctet, sentOctet, choiceOctet, acceptedOctet, discardedOctet}
 use Rattle.register_block.specs.Fields.{wordAt, flagAt}
-use Rattle.register_block.proofs.BlockLaws.{word-raised, word-raised-apart, word-flag, word-zeroed, flag-zeroed, flag-flag, flag-other, flag-raised, word-accepted, word-discarded, accepted-withdrawn, discarded-withdrawn, accepted-apart, discarded-apart, withdrawn-apart, flag-accepted, flag-discarded, flag-withdrawn, discard-flagged}
+use Rattle.register_block.proofs.BlockLaws.{word-raised, word-raised-apart, word-flag, word-zeroed, flag-zeroed, flag-flag, flag-other, flag-raised, word-accepted, word-discarded, accepted-withdrawn, discarded-withdrawn, accepted-apart, discarded-apart, withdrawn-apart, flag-accepted, flag-discarded, flag-withdrawn, discarded-flag}
 use Rattle.register_block.proofs.WrittenLaws.{word-written, flag-written, mask-written, choice-written}
 use Rattle.registers.specs.Notes.{arrivalNoted, withdrawNoted, noted}
 use Rattle.register_laws.specs.Happenings.{Happening, replied, written, note}
@@ -122,7 +122,7 @@ discard-flag (replied c r) b whole =
     told-by f b (λ k x. cond (grantedOpen k x) false (cond (discard k x) true (f b)))
     (at-open f b false (flag-zeroed b discardFlag whole (omega arith)))
     (flag-withdraws discardFlag (omega arith) b)
-    (λ i. discards f b true i (flag-accepted i b discardFlag (omega arith)) (discard-flagged i b whole))
+    (λ i. discards f b true i (flag-accepted i b discardFlag (omega arith)) (discarded-flag i b whole))
     (tick-keeps f b (flag-other b discardFlag purgeFlag (λ e. omega arith)))
     (transmit-keeps f b (flag-raised b discardFlag sentOctet (omega arith)) (flag-other b discardFlag nothingFlag (λ e. omega arith)))
     (λ x. refl) c r

@@ -12,6 +12,4 @@ pub mod AlikeLaws
 pub mod ControlLaws
 pub mod QuickRegisters
 pub mod ReadLaws
-pub mod CasesHold
-pub mod HistoriesSay
 pub mod ClaimCases

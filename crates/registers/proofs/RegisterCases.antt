@@ -6,12 +6,13 @@ use mathlib.Core.List.{List, [], _∷_, _++_}
 use lib.ListN.{replicate}
 use Rattle.lists.specs.Turns.{iterate, allTo}
 use Rattle.lists.specs.Equal.{octetsEqual}
+use Rattle.lists.specs.Window.{put}
 use Rattle.octets.specs.Numbers.{twoOf, fourOf, fourOctets}
 use Rattle.stream.specs.Replies.{granted}
 use Rattle.record.specs.Layout.{recordLength}
 use Rattle.record.specs.Queues.{queuesAt}
 use Rattle.record.specs.Head.{openAt, priorAt}
-use Rattle.record.specs.Entry.{boundAt, vidAt, addressAt}
+use Rattle.record.specs.Entry.{streamAt, boundAt, vidAt, addressAt}
 use Rattle.header.specs.Header.{chargeOf, lengthFits, taggedFrame, vidOf}
 use Rattle.binding.specs.Finding.{comparedBack, comparedAt, lookupFrom, lookup, frameLookup}
 use Rattle.fitness.specs.Fit.{recordFits, lentRefusal}
@@ -132,12 +133,17 @@ bound =
     ++ (1 ∷ 1 ∷ 0 ∷ 200 ∷ 0 ∷ 200 ∷ 0 ∷ 1 ∷ 0 ∷ 100 ∷ (caseAddress ++ (replicate {A = ℕ} 992 0 ++ (counted ++ replicate {A = ℕ} 496 0))))
 
 frame-counted : wordAt (blockPart (registered (λ c p m. outcome (granted 1 0) p m) (framing (caseTagged 60) 7) bound [] .port)) (acceptedOctet 1) ≡ 12
-unfolding registered shortRefusal queuesAt allTo octetsEqual boundAt vidAt addressAt chargeOf lengthFits taggedFrame vidOf comparedBack comparedAt lookupFrom lookup frameLookup arrivalNoted accepted discarded wordAt fourOf twoOf raised withWord withFlag
+unfolding registered shortRefusal queuesAt allTo octetsEqual boundAt vidAt addressAt chargeOf lengthFits taggedFrame vidOf comparedBack comparedAt lookupFrom lookup frameLookup streamAt withdrawn arrivalNoted accepted discarded wordAt fourOf twoOf raised withWord withFlag
 frame-counted = refl
 
 frame-discarded : wordAt (blockPart (registered (λ c p m. refused 14 p m) (framing (caseTagged 60) 7) bound [] .port)) (discardedOctet 1) ≡ 14
-unfolding registered shortRefusal queuesAt allTo octetsEqual boundAt vidAt addressAt chargeOf lengthFits taggedFrame vidOf comparedBack comparedAt lookupFrom lookup frameLookup arrivalNoted accepted discarded wordAt fourOf twoOf raised withWord withFlag
+unfolding registered shortRefusal queuesAt allTo octetsEqual boundAt vidAt addressAt chargeOf lengthFits taggedFrame vidOf comparedBack comparedAt lookupFrom lookup frameLookup streamAt withdrawn arrivalNoted accepted discarded wordAt fourOf twoOf raised withWord withFlag
 frame-discarded = refl
+
+-- and the tick that frees a withdrawn stream counts nothing, and begins nothing anew: here one that this call takes the reservation of stream 1 at
+last-tick-keeps : wordAt (blockPart (registered (λ c p m. outcome (granted 0 0) (put p 80 (0 ∷ [])) m) ticking bound [] .port)) (acceptedOctet 1) ≡ 11
+unfolding registered shortRefusal queuesAt tickNoted withFlag wordAt fourOf twoOf streamAt withdrawn withWord
+last-tick-keeps = refl
 
 -- 18 is asked before 19 of a slice that is too short for record and block, by one octet or by all
 one-octet-short : shortRefusal (replicate {A = ℕ} 1615 0) [] ≡ 18
@@ -244,9 +250,9 @@ counts-told : portCounts 1 bound ≡ granted 11 13
 unfolding portCounts wordAt fourOf twoOf
 counts-told = refl
 
-counts-short : portCounts 64 (replicate {A = ℕ} 1615 0) .refusal ≡ 19
+counts-short-slice : portCounts 64 (replicate {A = ℕ} 1615 0) .refusal ≡ 19
 unfolding portCounts
-counts-short = refl
+counts-short-slice = refl
 
 counts-of-none : portCounts 64 bound .refusal ≡ 5
 unfolding portCounts wordAt fourOf twoOf
