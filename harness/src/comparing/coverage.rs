@@ -311,7 +311,7 @@ impl Coverage {
             }
             Call::Withdraw { .. } => self.count(Seen::Withdrawn),
             Call::Frame { .. } => unreachable!("a Frame is counted as the call that it becomes"),
-            Call::ReadRegister { .. } | Call::WriteRegister { .. } | Call::Lookup { .. } => (),
+            Call::ReadRegister { .. } | Call::WriteRegister { .. } | Call::Lookup { .. } | Call::StreamCounts { .. } => (),
         }
     }
 
