@@ -5,6 +5,7 @@ use std::ops::RangeInclusive;
 
 use crate::call::Call;
 use crate::comparing::compared::Step;
+use crate::comparing::counts::any_question;
 use crate::comparing::fit::no_mark;
 use crate::comparing::lookups::any_lookup;
 use crate::comparing::random::Random;
@@ -122,8 +123,9 @@ pub const ORDINARY: Profile = Profile {
     edges: 0,
 };
 
-/// Each of the nine calls, each access to a register, and the lookup, with good and bad arguments, to be tried on a port of any length and content.
-pub fn each_call(random: &mut Random, record: &[u8]) -> [Call; 31] {
+/// Each of the nine calls, each access to a register, the lookup and the question for a stream's counts, with good and bad arguments, to be tried on
+/// a port of any length and content.
+pub fn each_call(random: &mut Random, record: &[u8]) -> [Call; 35] {
     let zeros = [0; RECORD_OCTETS];
     let record = if record.len() < RECORD_OCTETS { &zeros } else { record };
     let profile = ORDINARY;
@@ -153,12 +155,16 @@ pub fn each_call(random: &mut Random, record: &[u8]) -> [Call; 31] {
         any_read(random, false),
         any_read(random, false),
         any_read(random, true),
-        any_write(random, false),
-        any_write(random, false),
-        any_write(random, true),
+        any_write(random, record, false),
+        any_write(random, record, false),
+        any_write(random, record, false),
+        any_write(random, record, true),
         any_lookup(random, record, false),
         any_lookup(random, record, false),
         any_lookup(random, record, true),
+        any_question(random, false),
+        any_question(random, false),
+        any_question(random, true),
     ]
 }
 
@@ -183,7 +189,7 @@ impl Profile {
             7 => self.frame(random, record, edge),
             8 => self.withdraw(random, record, edge),
             9 => any_read(random, edge),
-            10 => any_write(random, edge),
+            10 => any_write(random, record, edge),
             _ => return Step::HostWrites { at: layout::OPEN, octet: no_mark(random) },
         })
     }

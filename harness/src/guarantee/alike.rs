@@ -106,7 +106,7 @@ fn any_other(random: &mut Random, playing: &mut Playing, stream: u8) {
         5 => ORDINARY.bind(random, record, false),
         6 => Call::Withdraw { stream: another },
         7 => any_read(random, false),
-        8 => any_write(random, false),
+        8 => any_write(random, record, false),
         _ => ORDINARY.frame(random, record, false),
     };
     other(playing, call, stream);
