@@ -1,5 +1,5 @@
-//! The kind `guarantee`: demand 3 held against lists of calls through the proved calls and quick calls, and through the model, each test with
-//! lists of one manner. To each list others are written that are alike in one stream's own calls.
+//! The kind `guarantee`: demand 3, and what is claimed of a stream's counts, held against lists of calls through the proved calls and quick calls, and
+//! through the model, each test with lists of one manner. To each list others are written that are alike in one stream's own calls.
 
 use crate::call::Call;
 use crate::comparing::calls::Profile;
@@ -300,7 +300,8 @@ fn hold_one(run: &mut Run, side: Side, events: &[Event]) -> Result<Found, String
     let found = (run.sides.check)(events).map_err(|broken| report(run, side, events, &broken))?;
     run.calls += events.len() as u64;
     let numbers = (run.sides.numbers)(events).map_err(|broken| report(run, side, events, &broken))?;
-    for (shown, times) in found.shown().into_iter().chain(numbers.shown()) {
+    let counts = (run.sides.counts)(events).map_err(|broken| report(run, side, events, &broken))?;
+    for (shown, times) in found.shown().into_iter().chain(numbers.shown()).chain(counts.shown()) {
         run.coverage.add(Seen::Shown(shown), times);
     }
     Ok(found)
@@ -313,13 +314,15 @@ fn hold_pair(run: &mut Run, random: &mut Random, side: Side, events: &[Event]) -
     let other = alike::write(random, run.sides.play(side), &begin, events, stream);
     (run.sides.check)(&other).map_err(|broken| report(run, side, &other, &broken))?;
     (run.sides.numbers)(&other).map_err(|broken| report(run, side, &other, &broken))?;
+    (run.sides.counts)(&other).map_err(|broken| report(run, side, &other, &broken))?;
     run.calls += other.len() as u64;
     match (run.sides.pair)(events, &other, stream).map_err(|words| format!("{}, {side}: {words}", run.place))? {
-        Some(Alike { arrivals, frames, withdrawals }) => {
+        Some(Alike { arrivals, frames, withdrawals, counts }) => {
             run.coverage.count(Seen::Shown(Pair));
             run.coverage.add(Seen::Shown(ArrivalCompared), arrivals);
             run.coverage.add(Seen::Shown(FrameCompared), frames);
             run.coverage.add(Seen::Shown(WithdrawalCompared), withdrawals);
+            run.coverage.add(Seen::Shown(CountCompared), counts);
         }
         None => run.coverage.count(Seen::Shown(PairApart)),
     }
