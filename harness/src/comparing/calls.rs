@@ -90,7 +90,8 @@ pub enum Charges {
 #[derive(Clone)]
 pub struct Profile {
     pub weights: Weights,
-    /// The calls name streams below this number.
+    /// The calls name streams from this number on, and below the next.
+    pub first: usize,
     pub streams: usize,
     /// The L of an Open.
     pub links: RangeInclusive<u32>,
@@ -116,6 +117,7 @@ pub const ORDINARY: Profile = Profile {
         write_register: 1,
         close: 0,
     },
+    first: 0,
     streams: STREAMS,
     links: LINKS,
     permitted: Permitted::NearFree,
@@ -217,9 +219,9 @@ impl Profile {
 
     /// A Withdraw, most often of a stream that is reserved and does not drain; one at an edge has its stream there, or any.
     fn withdraw(&self, random: &mut Random, record: &[u8], edge: bool) -> Call {
-        let any = random.below(self.streams);
+        let any = self.any_stream(random);
         let taking = |stream: &usize| is_reserved(record, *stream) && !is_draining(record, *stream);
-        let stream = (any..self.streams).chain(0..any).find(taking).unwrap_or(any) as u8;
+        let stream = (any..self.streams).chain(self.first..any).find(taking).unwrap_or(any) as u8;
         if edge && random.chance(50) {
             return Call::Withdraw { stream: edge_stream(random, record) };
         }
@@ -279,11 +281,16 @@ impl Profile {
         charge.clamp(LEAST_CHARGE, LARGEST_CHARGE)
     }
 
+    /// Any stream of this profile.
+    fn any_stream(&self, random: &mut Random) -> usize {
+        self.first + random.below(self.streams - self.first)
+    }
+
     /// A stream of this profile, most often the next one from any on that is reserved or not, as asked.
     fn stream(&self, random: &mut Random, record: &[u8], reserved: bool) -> u8 {
-        let any = random.below(self.streams);
+        let any = self.any_stream(random);
         let asked = |stream: &usize| is_reserved(record, *stream) == reserved;
-        let mut from_any_on = (any..self.streams).chain(0..any);
+        let mut from_any_on = (any..self.streams).chain(self.first..any);
         if random.chance(90) {
             return from_any_on.find(asked).unwrap_or(any) as u8;
         }

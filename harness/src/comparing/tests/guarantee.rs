@@ -139,7 +139,8 @@ fn lists_of_any_calls(run: &mut Run) -> Result<(), String> {
     demand(run, &[(TwinsList, 1_000), (Twin, 5_000), (Pair, 4_000), (ArrivalCompared, 80_000)])?;
     demand(run, &[(FrameArrival, 30_000), (FrameBestEffort, 60_000), (FrameCompared, 40_000)])?;
     demand(run, &[(Withdrawal, 3_000), (RefusedDraining, 10_000), (RefusedFree, 500), (GrantedAgain, 1_000), (WithdrawalCompared, 500)])?;
-    demand(run, &[(ControlTick, 10_000), (ControlTransmit, 20_000)])
+    demand(run, &[(CountAsked, 25_000), (CountShown, 7_000), (CountOfNone, 1_000), (DiscardsTold, 15_000), (CountedAnew, 1_500)])?;
+    demand(run, &[(ControlTick, 10_000), (ControlTransmit, 20_000), (CountCompared, 12_000)])
 }
 
 /// Conforming streams beside streams that overfill.
@@ -151,6 +152,7 @@ fn beside_overfilled_streams(run: &mut Run) -> Result<(), String> {
     demand(run, &[(Conforming, 50_000), (ConformingSent, 40_000), (ConformingAfterFirst, 10_000)])?;
     demand(run, &[(BeginningList, 1_000), (Beginning, 6_000), (BeginningSent, 6_000), (BeginningAfterFirst, 4_000)])?;
     demand(run, &[(ControlTick, 4_000), (ControlTransmit, 50_000)])?;
+    demand(run, &[(CountAsked, 25_000), (CountShown, 7_000), (DiscardsTold, 15_000), (CountCompared, 14_000)])?;
     demand(run, &[(Pair, 2_000), (ArrivalCompared, 50_000), (FrameArrival, 70_000), (FrameBestEffort, 9_000), (FrameCompared, 25_000)])
 }
 
@@ -198,6 +200,7 @@ fn of_withdrawn_streams(run: &mut Run) -> Result<(), String> {
     demand(run, &[(Link(ByBoth), 700), (SentInTime, 60_000), (SentAfterThird, 2_000), (SentAsLast, 20_000)])?;
     demand(run, &[(Withdrawal, 4_000), (RefusedDraining, 15_000), (RefusedFree, 300), (GrantedAgain, 2_000)])?;
     demand(run, &[(Withdrawn, 20_000), (WithdrawnSent, 20_000), (WithdrawnAfterFirst, 5_000), (Conforming, 10_000), (Beginning, 4_000)])?;
+    demand(run, &[(CountAsked, 7_000), (CountedAnew, 3_000), (CountCompared, 5_000)])?;
     demand(run, &[(Pair, 1_200), (ArrivalCompared, 50_000), (FrameCompared, 20_000), (WithdrawalCompared, 1_500)])
 }
 
@@ -205,7 +208,7 @@ fn of_withdrawn_streams(run: &mut Run) -> Result<(), String> {
 fn of_withdrawn_streams_where_ticks_purge(run: &mut Run) -> Result<(), String> {
     hold(run, &PROVED, 500, in_manner(&WITHDRAWN_AND_SHORT))?;
     demand(run, &[(Link(Failed), 400), (Purging, 80), (Withdrawal, 2_000), (RefusedDraining, 8_000), (GrantedAgain, 1_000)])?;
-    demand(run, &[(Pair, 600), (ArrivalCompared, 25_000), (WithdrawalCompared, 800)])
+    demand(run, &[(Pair, 600), (ArrivalCompared, 25_000), (WithdrawalCompared, 800), (CountedAnew, 1_500), (CountCompared, 2_500)])
 }
 
 /// A link with time left: between any two ticks a transmit sends nothing, or best effort.
@@ -225,7 +228,7 @@ fn in_full_queues(run: &mut Run) -> Result<(), String> {
     run.demand_none(Seen::Shown(Link(Failed)))?;
     demand(run, &[(SentInTime, 80_000), (SentAfterThird, 100), (Conforming, 10_000), (ConformingAfterFirst, 300)])?;
     demand(run, &[(SentAsNext, 6_000), (SentAsLast, 20_000), (Beginning, 6_000), (TwinsList, 150), (Twin, 60_000)])?;
-    demand(run, &[(Pair, 150), (ArrivalCompared, 60_000), (FrameArrival, 70_000), (FrameCompared, 50_000)])
+    demand(run, &[(Pair, 150), (ArrivalCompared, 60_000), (FrameArrival, 70_000), (FrameCompared, 50_000), (CountCompared, 20_000)])
 }
 
 /// All 64 streams over many ticks.
@@ -234,7 +237,7 @@ fn of_many_streams_in_long_lists(run: &mut Run) -> Result<(), String> {
     run.demand_none(Seen::Shown(Link(Failed)))?;
     demand(run, &[(SentInTime, 100_000), (Conforming, 60_000), (ConformingAfterFirst, 2_000)])?;
     demand(run, &[(SentAsNext, 3_000), (SentAsLast, 40_000), (Beginning, 1_500), (BeginningAfterFirst, 500)])?;
-    demand(run, &[(Pair, 80), (ArrivalCompared, 2_000), (FrameArrival, 60_000), (FrameCompared, 1_500)])
+    demand(run, &[(Pair, 80), (ArrivalCompared, 2_000), (FrameArrival, 60_000), (FrameCompared, 1_500), (CountAsked, 18_000)])
 }
 
 /// The model keeps the demand too; faults that cannot be seeded in the exports are seeded there.
@@ -248,6 +251,7 @@ fn of_the_model(run: &mut Run) -> Result<(), String> {
     demand(run, &[(SentInTime, 5_000), (Conforming, 3_000), (Pair, 100), (ArrivalCompared, 5_000)])?;
     demand(run, &[(FrameArrival, 10_000), (FrameBestEffort, 2_500), (FrameCompared, 8_000)])?;
     demand(run, &[(Withdrawal, 200), (Withdrawn, 500), (RefusedDraining, 500), (GrantedAgain, 100)])?;
+    demand(run, &[(CountAsked, 7_000), (CountShown, 2_000), (DiscardsTold, 4_000), (CountedAnew, 200), (CountCompared, 7_000)])?;
     demand(run, &[(ControlTick, 500), (ControlTransmit, 5_000)])
 }
 
