@@ -53,7 +53,7 @@ fn as_the_call_on_fit_records(run: &mut Run) -> Result<(), String> {
     run.demand(&[(Seen::Withdrawn, 10_000), (Seen::Freed, 4_000), (Seen::FrameRefused(DRAINING), 500)])?;
     run.demand(&OF_DRAINING.map(|seen| (seen, 300)))?;
     run.demand(&EVERY_COUNT.map(|count| (Seen::CountWrapped(count), 1_000)))?;
-    run.demand(&OF_COUNTS.map(|counting| (Seen::Counting(counting), 500)))?;
+    run.demand(&OF_COUNTS.map(|counting| (Seen::Counting(counting), 300)))?;
     run.demand(&[Counting::Zeroed, Counting::KeptWhenRefused, Counting::KeptWhenFreed].map(|kept| (Seen::Counting(kept), 1_000)))?;
     demand_registers(run, 1_000)
 }

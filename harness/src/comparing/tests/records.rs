@@ -66,7 +66,7 @@ fn fit_records(run: &mut Run) -> Result<(), String> {
     run.demand(&[(Seen::Withdrawn, 2_000), (Seen::Freed, 500), (Seen::DrainingEndedByOpen, 500), (Seen::FrameRefused(DRAINING), 100)])?;
     run.demand(&OF_DRAINING.map(|seen| (seen, 50)))?;
     run.demand(&EVERY_COUNT.map(|count| (Seen::CountWrapped(count), 200)))?;
-    run.demand(&OF_COUNTS.map(|counting| (Seen::Counting(counting), 100)))?;
+    run.demand(&OF_COUNTS.map(|counting| (Seen::Counting(counting), 40)))?;
     run.demand(&[Counting::Zeroed, Counting::KeptWhenRefused, Counting::KeptWhenFreed].map(|kept| (Seen::Counting(kept), 300)))?;
     run.demand(&[(Seen::OtherMarkCleared, 100), (Seen::WriteRefused(PORT_CLOSED), 100)])?;
     demand_registers(run, 100)
