@@ -1,7 +1,7 @@
 //! The kind `guarantee`: demand 3, and what is claimed of a stream's counts, held against lists of calls through the proved calls and quick calls, and
 //! through the model, each test with lists of one manner. To each list others are written that are alike in one stream's own calls.
 
-use crate::call::Call;
+use crate::call::{Call, Given, Reply};
 use crate::comparing::calls::Profile;
 use crate::comparing::coverage::Seen;
 use crate::comparing::fit::{no_mark, Octets};
@@ -17,11 +17,12 @@ use crate::guarantee::found::{Alike, Broken, Found, Prompt};
 use crate::guarantee::list::{Event, Playing};
 use crate::guarantee::writing::{write, write_any, Manner, Service};
 use crate::guarantee::{alike, becoming};
-use crate::layout;
 use crate::model::port::{LINKS, STREAMS};
+use crate::model::refusal::NOT_RESERVED;
+use crate::{exports, layout};
 
 /// The tests of this kind.
-pub const TESTS: [Test; 13] = [
+pub const TESTS: [Test; 14] = [
     test("guarantee_in_lists_of_any_calls", lists_of_any_calls),
     test("guarantee_beside_overfilled_streams", beside_overfilled_streams),
     test("guarantee_of_streams_that_conform_for_a_while", of_streams_that_conform_for_a_while),
@@ -35,6 +36,7 @@ pub const TESTS: [Test; 13] = [
     test("guarantee_of_many_streams_in_long_lists", of_many_streams_in_long_lists),
     test("guarantee_is_tight", is_tight),
     test("guarantee_of_the_model", of_the_model),
+    test("guarantee_of_counts_where_withdrawals_are_refused", of_counts_where_withdrawals_are_refused),
 ];
 
 /// The proved calls and quick calls, on which lists are played in turn.
@@ -253,6 +255,31 @@ fn of_the_model(run: &mut Run) -> Result<(), String> {
     demand(run, &[(Withdrawal, 200), (Withdrawn, 500), (RefusedDraining, 500), (GrantedAgain, 100)])?;
     demand(run, &[(CountAsked, 7_000), (CountShown, 2_000), (DiscardsTold, 4_000), (CountedAnew, 200), (CountCompared, 7_000)])?;
     demand(run, &[(ControlTick, 500), (ControlTransmit, 5_000)])
+}
+
+/// A port of another make, which refuses every withdrawal as if its stream were not reserved.
+fn refusing_withdrawals(call: &Given, port: &mut [u8], memory: &mut [u8]) -> Reply {
+    match call {
+        Call::Withdraw { .. } => Reply::refused(NOT_RESERVED),
+        _ => exports::call(call, port, memory),
+    }
+}
+
+/// What is claimed of counts goes by the replies: on a port that refuses a withdrawal which ours would grant, its stream's counts go on.
+fn of_counts_where_withdrawals_are_refused(run: &mut Run) -> Result<(), String> {
+    for _ in 0..run.scaled(100) {
+        let mut random = run.next_list();
+        let begin = a_port_to_open(&mut random, Side::Exports);
+        let events = write(&mut random, refusing_withdrawals, &begin, &WITHDRAWN);
+        let counts = (run.sides.counts)(&events).map_err(|broken| report(run, Side::Exports, &events, &broken))?;
+        let refused = events.iter().filter(|event| matches!(event.call, Call::Withdraw { .. })).count();
+        run.calls += events.len() as u64;
+        run.coverage.add(Seen::Refused(NOT_RESERVED), refused as u64);
+        counts.shown().into_iter().for_each(|(shown, times)| run.coverage.add(Seen::Shown(shown), times));
+    }
+    run.demand_none(Seen::Shown(CountedAnew))?;
+    run.demand(&[(Seen::Refused(NOT_RESERVED), 300)])?;
+    demand(run, &[(CountAsked, 700), (DiscardsTold, 300)])
 }
 
 /// Fails if lists showed a thing less often than is asked at full size.
