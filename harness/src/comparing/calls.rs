@@ -127,9 +127,14 @@ pub const ORDINARY: Profile = Profile {
 
 /// Each of the nine calls, each access to a register, the lookup and the question for a stream's counts, with good and bad arguments, to be tried on
 /// a port of any length and content.
-pub fn each_call(random: &mut Random, record: &[u8]) -> [Call; 35] {
+pub fn each_call(random: &mut Random, record: &[u8]) -> Vec<Call> {
     let zeros = [0; RECORD_OCTETS];
     let record = if record.len() < RECORD_OCTETS { &zeros } else { record };
+    [&each_of_traffic(random, record)[..], &each_access(random, record)].concat()
+}
+
+/// Each of the nine calls, with good and bad arguments.
+fn each_of_traffic(random: &mut Random, record: &[u8]) -> [Call; 22] {
     let profile = ORDINARY;
     [
         profile.open(random, false),
@@ -154,6 +159,12 @@ pub fn each_call(random: &mut Random, record: &[u8]) -> [Call; 35] {
         profile.withdraw(random, record, false),
         profile.withdraw(random, record, false),
         profile.withdraw(random, record, true),
+    ]
+}
+
+/// Each access to a register, the lookup and the question for a stream's counts, with good and bad arguments.
+fn each_access(random: &mut Random, record: &[u8]) -> [Call; 13] {
+    [
         any_read(random, false),
         any_read(random, false),
         any_read(random, true),

@@ -279,17 +279,12 @@ impl Coverage {
 
     /// Counts what a call did, by its reply and the record after it; `prior_waited` says whether frames waited in prior before it.
     pub fn count_call(&mut self, call: &Call, reply: &Reply, record: &[u8], prior_waited: bool) {
-        if let Call::Frame { octets, tag } = call {
-            return self.count_frame(octets, *tag, reply, record);
-        }
-        if let Call::Lookup { address, vid } = call {
-            return self.count_lookup(address, *vid, reply, record);
-        }
-        if let Call::StreamCounts { stream } = *call {
-            return self.count_question(stream, reply, record);
-        }
-        if let Call::BestEffort { charge, .. } = *call {
-            self.count_best_effort(charge, reply, record);
+        match call {
+            Call::Frame { octets, tag } => return self.count_frame(octets, *tag, reply, record),
+            Call::Lookup { address, vid } => return self.count_lookup(address, *vid, reply, record),
+            Call::StreamCounts { stream } => return self.count_question(*stream, reply, record),
+            Call::BestEffort { charge, .. } => self.count_best_effort(*charge, reply, record),
+            _ => (),
         }
         self.count_access(call, reply);
         self.count_shown(call, reply, record);

@@ -136,11 +136,6 @@ impl Held {
         [layout::ACCEPTED, layout::DISCARDED].map(|count| four(&self.counts, layout::counts(stream) - layout::counts(0) + count))
     }
 
-    /// The counts of the stream that is chosen, if one is.
-    pub fn chosen(&self) -> Option<[u32; 2]> {
-        usize::try_from(self.choice).ok().filter(|&stream| stream < STREAMS).map(|stream| self.counts_of(stream))
-    }
-
     /// The flags as the bits of their register: a mark of 1 is one that is up.
     pub fn flags(&self) -> u32 {
         self.marks.iter().rev().fold(0, |bits, &mark| bits << 1 | u32::from(mark == 1))
@@ -165,10 +160,17 @@ impl Held {
             }
         }
         coverage.count_change(Count::Sent, self.sent, after.sent);
-        if let Some(stream) = (0..STREAMS).find(|&stream| self.counts != after.counts && self.counts_of(stream) != after.counts_of(stream))
-        {
+        if let Some(stream) = self.changed(after) {
             coverage.count_counted(stream, self.counts_of(stream), after.counts_of(stream), self.choice);
         }
+    }
+
+    /// The stream whose counts are others after a call, if there is one.
+    fn changed(&self, after: &Held) -> Option<usize> {
+        if self.counts == after.counts {
+            return None;
+        }
+        (0..STREAMS).find(|&stream| self.counts_of(stream) != after.counts_of(stream))
     }
 }
 

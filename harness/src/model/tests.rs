@@ -430,7 +430,8 @@ fn best_effort_checks_in_order() {
     assert_eq!(lent.best_effort(84, 1), (16, 0, 0));
 }
 
-/// A best-effort frame is written at place (start + count) modulo 256 of queue 4, with W and the count; it is counted nowhere, and nothing else changes.
+/// A best-effort frame is written at place (start + count) modulo 256 of queue 4, with W and the queue's count; no register counts it, and nothing else
+/// changes.
 #[test]
 fn best_effort_writes_what_its_rule_names() {
     let mut lent = Lent::zeroed();
