@@ -1,11 +1,11 @@
 //! Batches of calls whose cost is measured, and the ports that they start from: one with no stream, one with few, one with all streams bound and no
-//! frame, a full one, full ones whose streams are bound as those of a plant are, and such without a frame for lookups.
+//! frame, a full one, full ones whose streams are bound as those of a plant are, such without a frame for lookups, and one whose streams have counts.
 
 use crate::call::{Call, Reply, ADDRESS_OCTETS};
 use crate::comparing::fit::Octets;
 use crate::comparing::frames::Header;
 use crate::comparing::random::Random;
-use crate::comparing::registers::{CONTROL, MASK, STATUS};
+use crate::comparing::registers::{ACCEPTED, CHOICE, CONTROL, DISCARDED, MASK, STATUS};
 use crate::comparing::sides::Play;
 use crate::comparing::stated::Pair;
 use crate::model::port::{
@@ -52,7 +52,7 @@ pub struct Group {
 type Pairs = fn(usize) -> Pair;
 
 /// All batches. Where frames come and go, the first two of a group are one of arrivals and one of transmits.
-pub fn groups() -> [Group; 6] {
+pub fn groups() -> [Group; 7] {
     [
         Group { port: "no stream", batches: vec![nothing_waits(opened(0))] },
         Group { port: "4 streams", batches: few() },
@@ -60,6 +60,7 @@ pub fn groups() -> [Group; 6] {
         Group { port: "64 bound streams, full queues", batches: full() },
         Group { port: "64 streams bound as in a plant, full queues", batches: plants() },
         Group { port: "64 bound streams, no frame", batches: lookups() },
+        Group { port: "64 streams with counts", batches: counts() },
     ]
 }
 
@@ -183,6 +184,27 @@ fn lookups() -> Vec<Batch> {
         of("lookup of stream 63, 4 VIDs", of_few_vids, STREAMS - 1),
         of("lookup of stream 63, 64 VIDs", of_a_vid_each, STREAMS - 1),
         of("lookup of no stream, 4 VIDs", of_few_vids, STREAMS),
+    ]
+}
+
+/// The batches about the counts of streams: reads of the last stream's and of none's, the choice, questions for the last stream's and for those of
+/// every stream in turn, and withdrawals, which zero them.
+fn counts() -> Vec<Batch> {
+    let port = after(opened(STREAMS as u8), &arrivals(STREAMS));
+    let last = STREAMS as u32 - 1;
+    let choose = |value: u32| Call::WriteRegister { offset: CHOICE, value };
+    let read = |what: &'static str, choice: u32, offset: u32| {
+        Batch::granted(what, after(port.clone(), &[choose(choice)]), vec![Call::ReadRegister { offset }; BATCH])
+    };
+    let of_every_stream = (0..STREAMS).map(|stream| Call::StreamCounts { stream: stream as u8 }).collect();
+    vec![
+        read("register read, accepted of stream 63", last, ACCEPTED),
+        read("register read, discards of stream 63", last, DISCARDED),
+        read("register read, accepted of no stream", last + 1, ACCEPTED),
+        Batch::granted("register write, choice", port.clone(), vec![choose(last); BATCH]),
+        Batch::granted("counts of stream 63", port.clone(), vec![Call::StreamCounts { stream: last as u8 }; BATCH]),
+        Batch::granted("counts of all 64 streams, each", port.clone(), of_every_stream),
+        Batch::granted("withdraw, counts to zero", port, withdraws()),
     ]
 }
 

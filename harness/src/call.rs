@@ -22,6 +22,7 @@ pub enum Call<Address = [u8; ADDRESS_OCTETS], Octets = Arc<[u8]>> {
     ReadRegister { offset: u32 },
     WriteRegister { offset: u32, value: u32 },
     Lookup { address: Address, vid: u32 },
+    StreamCounts { stream: u8 },
 }
 
 /// A call as it is given to a port: address and octets lie where the caller lends them.
@@ -74,6 +75,7 @@ impl Call {
             Call::ReadRegister { offset } => Call::ReadRegister { offset },
             Call::WriteRegister { offset, value } => Call::WriteRegister { offset, value },
             Call::Lookup { ref address, vid } => Call::Lookup { address, vid },
+            Call::StreamCounts { stream } => Call::StreamCounts { stream },
         }
     }
 }
@@ -99,6 +101,7 @@ impl fmt::Display for Call {
             Call::ReadRegister { offset } => write!(f, "read register {offset}"),
             Call::WriteRegister { offset, value } => write!(f, "write register {offset} {value}"),
             Call::Lookup { address, vid } => write!(f, "lookup {} {vid}", hexadecimal(address)),
+            Call::StreamCounts { stream } => write!(f, "stream counts {stream}"),
         }
     }
 }

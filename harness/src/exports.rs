@@ -32,6 +32,7 @@ declare! {
 
 extern "C" {
     fn bunnysolder_lookup(port: *const u8, port_length: usize, address: *const u8, vid: u32, first: &mut u32, second: &mut u32) -> u8;
+    fn bunnysolder_stream_counts(port: *const u8, port_length: usize, stream: u8, first: &mut u32, second: &mut u32) -> u8;
 }
 
 /// The calls as functions of C; Tick and Transmit have no arguments of their own.
@@ -95,7 +96,7 @@ const UNSCANNED: Sort = Sort {
 const UNWRITTEN: u32 = 0xA5A5_5A5A;
 
 impl Sort {
-    /// A call of this sort; a Lookup, which scans nothing and takes no memory, is the same in both.
+    /// A call of this sort; a Lookup and a StreamCounts, which scan nothing and take no memory, are the same in both.
     #[inline(always)]
     fn play(&self, call: &Given, port: &mut [u8], memory: &mut [u8]) -> Reply {
         let (mut first, mut second) = (UNWRITTEN, UNWRITTEN);
@@ -117,6 +118,7 @@ impl Sort {
                 Call::ReadRegister { offset } => (self.register_read)(p, n, m, k, offset, &mut first, &mut second),
                 Call::WriteRegister { offset, value } => (self.register_write)(p, n, m, k, offset, value, &mut first, &mut second),
                 Call::Lookup { address, vid } => bunnysolder_lookup(p, n, address.as_ptr(), vid, &mut first, &mut second),
+                Call::StreamCounts { stream } => bunnysolder_stream_counts(p, n, stream, &mut first, &mut second),
             }
         };
         Reply { refusal, first, second }

@@ -55,10 +55,16 @@ pub const FLAG_NOTHING: usize = 2;
 pub const BLOCK_MASK: usize = 4;
 /// The count of frames sent in the register block, four octets.
 pub const SENT: usize = 8;
-/// The count of frames accepted in the register block, four octets.
-pub const ACCEPTED: usize = 16;
-/// The count of discards in the register block, four octets.
-pub const DISCARDED: usize = 20;
+/// The choice of a stream in the register block, four octets.
+pub const CHOICE: usize = 12;
+/// Where the counts of the streams begin in the register block.
+const STREAM_COUNTS: usize = 16;
+/// The octets of a stream's counts.
+const COUNTS_ENTRY: usize = 8;
+/// The count of frames accepted in a stream's counts, four octets.
+pub const ACCEPTED: usize = 0;
+/// The count of discards in a stream's counts, four octets.
+pub const DISCARDED: usize = 4;
 
 /// The octets of a frame's place in memory.
 const FRAME: usize = 8;
@@ -85,6 +91,12 @@ pub fn count(queue: usize) -> usize {
 #[inline(always)]
 pub fn entry(stream: usize) -> usize {
     STREAM_ENTRIES + STREAM_ENTRY * stream
+}
+
+/// Where the counts of a stream stand in the register block.
+#[inline(always)]
+pub fn counts(stream: usize) -> usize {
+    STREAM_COUNTS + COUNTS_ENTRY * stream
 }
 
 /// Where an octet of the register block stands in a lent port: the block follows the record.
@@ -157,7 +169,7 @@ pub fn record_field(at: usize) -> String {
         WAITS..=11 => "W".into(),
         QUEUE_ENTRIES..QUEUE_ENTRIES_END => queue_field(at - QUEUE_ENTRIES),
         STREAM_ENTRIES..RECORD_OCTETS => stream_field(at - STREAM_ENTRIES),
-        RECORD_OCTETS..PORT_OCTETS => block_field(at - RECORD_OCTETS).into(),
+        RECORD_OCTETS..PORT_OCTETS => block_field(at - RECORD_OCTETS),
         PORT_OCTETS.. => "past the register block".into(),
         _ => "spare".into(),
     }
@@ -185,17 +197,23 @@ fn stream_field(at: usize) -> String {
 }
 
 /// What an octet of the register block belongs to.
-fn block_field(at: usize) -> &'static str {
+fn block_field(at: usize) -> String {
     match at {
-        FLAG_DISCARD => "flag discard",
-        FLAG_PURGE => "flag purge",
-        FLAG_NOTHING => "flag nothing to send",
-        BLOCK_MASK..=7 => "interrupt mask",
-        SENT..=11 => "count of frames sent",
-        ACCEPTED..=19 => "count of frames accepted",
-        DISCARDED..=23 => "count of discards",
-        _ => "unused in the register block",
+        FLAG_DISCARD => "flag discard".into(),
+        FLAG_PURGE => "flag purge".into(),
+        FLAG_NOTHING => "flag nothing to send".into(),
+        BLOCK_MASK..=7 => "interrupt mask".into(),
+        SENT..CHOICE => "count of frames sent".into(),
+        CHOICE..STREAM_COUNTS => "choice of a stream".into(),
+        STREAM_COUNTS.. => count_field(at - STREAM_COUNTS),
+        _ => "spare in the register block".into(),
     }
+}
+
+/// What an octet of the streams' counts belongs to.
+fn count_field(at: usize) -> String {
+    let field = if at % COUNTS_ENTRY < DISCARDED { "frames accepted" } else { "discards" };
+    format!("count of {field} of stream {}", at / COUNTS_ENTRY)
 }
 
 /// What an octet of the memory belongs to, for a report.

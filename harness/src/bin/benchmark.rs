@@ -1,6 +1,6 @@
-//! What a call costs: nanoseconds for each call of traffic, for bind and withdraw, for accesses to registers and for lookups as a call, as a quick
-//! call, and as plain Rust in place on the same layout, in one run, for ports from one without a stream to a full one. A lookup has no quick form: it
-//! is the same call twice. Nothing here is a test: it prints figures and judges none.
+//! What a call costs: nanoseconds for each call of traffic, for bind and withdraw, for accesses to registers, for lookups and for questions for a
+//! stream's counts as a call, as a quick call, and as plain Rust in place on the same layout, in one run, for ports from one without a stream to a full
+//! one. A lookup and a question for counts have no quick form: they are the same call twice. Nothing here is a test: it prints figures and judges none.
 
 use std::hint::black_box;
 use std::time::Instant;

@@ -32,15 +32,16 @@ struct Part {
     plays: &'static [(&'static str, &'static str)],
 }
 
-/// The independent model, the quick calls in plain Rust, the exports as a host declares and calls them, and the checkers of demand 3 and of what
-/// lists take.
-const PARTS: [Part; 6] = [
+/// The independent model, the quick calls in plain Rust, the exports as a host declares and calls them, and the checkers of demand 3, of what lists
+/// take and of what they tell of counts.
+const PARTS: [Part; 7] = [
     Part { copied: "model", module: "model", plays: &[("model", "call"), ("replay", "replay::replay")] },
     Part { copied: "in_place", module: "in_place", plays: &[("in_place", "call")] },
     Part { copied: "exports.rs", module: "exports", plays: &[("exports", "call"), ("quick", "unscanned"), ("stream", "stream_arrive")] },
     Part { copied: "guarantee/claims.rs", module: "claims", plays: &[("check", "check")] },
     Part { copied: "guarantee/pairs.rs", module: "pairs", plays: &[("pair", "check")] },
     Part { copied: "guarantee/taken.rs", module: "taken", plays: &[("numbers", "check")] },
+    Part { copied: "guarantee/counts.rs", module: "counts", plays: &[("counts", "check")] },
 ];
 
 /// The manifest of the package: quick to build, and a sum that overflows stops it.

@@ -1,7 +1,7 @@
 //! How many instructions a call takes, by valgrind's callgrind: as a call, as a quick call, as plain Rust in place on the same layout, and as the
 //! outside program plays it. It runs itself under callgrind with one batch of calls on one side, and only what is done in the function of that side
-//! is counted, not how the calls are handed to it. A lookup has no quick form: it is the same call twice. Nothing here is a test: it prints figures
-//! and judges none. It wants valgrind.
+//! is counted, not how the calls are handed to it. A lookup and a question for counts have no quick form: they are the same call twice. Nothing here is
+//! a test: it prints figures and judges none. It wants valgrind.
 
 use std::env;
 use std::hint::black_box;

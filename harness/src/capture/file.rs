@@ -37,7 +37,7 @@ pub fn record(event: &Call, next: u16) -> Record {
         Call::Tick | Call::Transmit => (NO_STREAM, 0, 0),
         Call::Bind { .. } | Call::Frame { .. } => unreachable!("no record of a capture is a Bind or a Frame"),
         Call::ReadRegister { .. } | Call::WriteRegister { .. } => unreachable!("no record of a capture names a register"),
-        Call::Lookup { .. } => unreachable!("no record of a capture is a lookup"),
+        Call::Lookup { .. } | Call::StreamCounts { .. } => unreachable!("no record of a capture asks of a port"),
     };
     let mut record = Record::default();
     record[KIND_AT] = kind(event);

@@ -5,6 +5,7 @@ use std::ops::RangeInclusive;
 
 use crate::call::Call;
 use crate::comparing::compared::Step;
+use crate::comparing::counts::any_question;
 use crate::comparing::fit::no_mark;
 use crate::comparing::lookups::any_lookup;
 use crate::comparing::random::Random;
@@ -89,7 +90,8 @@ pub enum Charges {
 #[derive(Clone)]
 pub struct Profile {
     pub weights: Weights,
-    /// The calls name streams below this number.
+    /// The calls name streams from this number on, and below the next.
+    pub first: usize,
     pub streams: usize,
     /// The L of an Open.
     pub links: RangeInclusive<u32>,
@@ -115,6 +117,7 @@ pub const ORDINARY: Profile = Profile {
         write_register: 1,
         close: 0,
     },
+    first: 0,
     streams: STREAMS,
     links: LINKS,
     permitted: Permitted::NearFree,
@@ -122,10 +125,16 @@ pub const ORDINARY: Profile = Profile {
     edges: 0,
 };
 
-/// Each of the nine calls, each access to a register, and the lookup, with good and bad arguments, to be tried on a port of any length and content.
-pub fn each_call(random: &mut Random, record: &[u8]) -> [Call; 31] {
+/// Each of the nine calls, each access to a register, the lookup and the question for a stream's counts, with good and bad arguments, to be tried on
+/// a port of any length and content.
+pub fn each_call(random: &mut Random, record: &[u8]) -> Vec<Call> {
     let zeros = [0; RECORD_OCTETS];
     let record = if record.len() < RECORD_OCTETS { &zeros } else { record };
+    [&each_of_traffic(random, record)[..], &each_access(random, record)].concat()
+}
+
+/// Each of the nine calls, with good and bad arguments.
+fn each_of_traffic(random: &mut Random, record: &[u8]) -> [Call; 22] {
     let profile = ORDINARY;
     [
         profile.open(random, false),
@@ -150,15 +159,25 @@ pub fn each_call(random: &mut Random, record: &[u8]) -> [Call; 31] {
         profile.withdraw(random, record, false),
         profile.withdraw(random, record, false),
         profile.withdraw(random, record, true),
+    ]
+}
+
+/// Each access to a register, the lookup and the question for a stream's counts, with good and bad arguments.
+fn each_access(random: &mut Random, record: &[u8]) -> [Call; 13] {
+    [
         any_read(random, false),
         any_read(random, false),
         any_read(random, true),
-        any_write(random, false),
-        any_write(random, false),
-        any_write(random, true),
+        any_write(random, record, false),
+        any_write(random, record, false),
+        any_write(random, record, false),
+        any_write(random, record, true),
         any_lookup(random, record, false),
         any_lookup(random, record, false),
         any_lookup(random, record, true),
+        any_question(random, false),
+        any_question(random, false),
+        any_question(random, true),
     ]
 }
 
@@ -183,7 +202,7 @@ impl Profile {
             7 => self.frame(random, record, edge),
             8 => self.withdraw(random, record, edge),
             9 => any_read(random, edge),
-            10 => any_write(random, edge),
+            10 => any_write(random, record, edge),
             _ => return Step::HostWrites { at: layout::OPEN, octet: no_mark(random) },
         })
     }
@@ -211,9 +230,9 @@ impl Profile {
 
     /// A Withdraw, most often of a stream that is reserved and does not drain; one at an edge has its stream there, or any.
     fn withdraw(&self, random: &mut Random, record: &[u8], edge: bool) -> Call {
-        let any = random.below(self.streams);
+        let any = self.any_stream(random);
         let taking = |stream: &usize| is_reserved(record, *stream) && !is_draining(record, *stream);
-        let stream = (any..self.streams).chain(0..any).find(taking).unwrap_or(any) as u8;
+        let stream = (any..self.streams).chain(self.first..any).find(taking).unwrap_or(any) as u8;
         if edge && random.chance(50) {
             return Call::Withdraw { stream: edge_stream(random, record) };
         }
@@ -273,11 +292,16 @@ impl Profile {
         charge.clamp(LEAST_CHARGE, LARGEST_CHARGE)
     }
 
+    /// Any stream of this profile.
+    fn any_stream(&self, random: &mut Random) -> usize {
+        self.first + random.below(self.streams - self.first)
+    }
+
     /// A stream of this profile, most often the next one from any on that is reserved or not, as asked.
     fn stream(&self, random: &mut Random, record: &[u8], reserved: bool) -> u8 {
-        let any = random.below(self.streams);
+        let any = self.any_stream(random);
         let asked = |stream: &usize| is_reserved(record, *stream) == reserved;
-        let mut from_any_on = (any..self.streams).chain(0..any);
+        let mut from_any_on = (any..self.streams).chain(self.first..any);
         if random.chance(90) {
             return from_any_on.find(asked).unwrap_or(any) as u8;
         }

@@ -162,12 +162,12 @@ fn walk(coverage: &mut Coverage, random: &mut Random, links: &Links, first: usiz
 }
 
 /// An event of a profile, on a port with this record; a capture has no event that binds, brings a frame by its octets, names a register, looks a
-/// pair up or closes a port.
+/// pair up, asks for a stream's counts or closes a port.
 fn any_event(random: &mut Random, profile: &Profile, record: &[u8]) -> Call {
     loop {
         match profile.step(random, record) {
             Step::Call(Call::Bind { .. } | Call::Frame { .. } | Call::ReadRegister { .. } | Call::WriteRegister { .. }) => (),
-            Step::Call(Call::Lookup { .. }) | Step::HostWrites { .. } => (),
+            Step::Call(Call::Lookup { .. } | Call::StreamCounts { .. }) | Step::HostWrites { .. } => (),
             Step::Call(event) => return event,
         }
     }

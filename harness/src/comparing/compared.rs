@@ -167,6 +167,8 @@ impl Compared {
         self.freed.follow(&mut run.coverage, call, &replies[0], &ending);
         if let (Some(before), Some(after)) = (held, Held::of(self.record())) {
             before.count_changes(&mut run.coverage, call, &after);
+            before.count_withdrawal(&mut run.coverage, call, &replies[0]);
+            after.count_freed(&mut run.coverage, call, &replies[0], &ending);
         }
         Ok(replies[0])
     }

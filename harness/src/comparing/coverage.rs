@@ -4,6 +4,7 @@ use std::collections::BTreeMap;
 use std::fmt;
 
 use crate::call::{Call, Reply};
+use crate::comparing::counts::Counting;
 use crate::comparing::damage::Field;
 use crate::comparing::fit::is_bound;
 use crate::comparing::frames::{stream_of, BESIDE_LENGTH};
@@ -106,7 +107,7 @@ pub enum Seen {
     ControlTransmitted,
     ControlDidBoth,
     ControlDidNeither,
-    /// A granted write of the flags, of the mask, and of a register that takes none.
+    /// A granted write of the flags, of the mask, and of a register that takes none; that of the choice is counted by what it chooses.
     FlagsWritten,
     MaskWritten,
     OtherRegisterWritten,
@@ -120,6 +121,8 @@ pub enum Seen {
     /// A count that a call made one more, and one of these that went from 4,294,967,295 to 0.
     Counted(Count),
     CountWrapped(Count),
+    /// What was met of the choice and of the counts of streams.
+    Counting(Counting),
     /// A lookup of a kind.
     Lookup(Looked),
     /// A write of a slice that was lent to be read, made to see that it is noticed.
@@ -203,6 +206,7 @@ impl fmt::Display for Seen {
             Seen::OtherMarkCleared => write!(f, "other marks of flags cleared"),
             Seen::Counted(count) => write!(f, "{count} counted"),
             Seen::CountWrapped(count) => write!(f, "count of {count} wrapped"),
+            Seen::Counting(counting) => write!(f, "{counting}"),
             Seen::Lookup(looked) => write!(f, "lookups {looked}"),
             Seen::WriteNoticed => write!(f, "writes noticed"),
             Seen::Tracked => write!(f, "registers as tracked"),
@@ -275,16 +279,15 @@ impl Coverage {
 
     /// Counts what a call did, by its reply and the record after it; `prior_waited` says whether frames waited in prior before it.
     pub fn count_call(&mut self, call: &Call, reply: &Reply, record: &[u8], prior_waited: bool) {
-        if let Call::Frame { octets, tag } = call {
-            return self.count_frame(octets, *tag, reply, record);
-        }
-        if let Call::Lookup { address, vid } = call {
-            return self.count_lookup(address, *vid, reply, record);
-        }
-        if let Call::BestEffort { charge, .. } = *call {
-            self.count_best_effort(charge, reply, record);
+        match call {
+            Call::Frame { octets, tag } => return self.count_frame(octets, *tag, reply, record),
+            Call::Lookup { address, vid } => return self.count_lookup(address, *vid, reply, record),
+            Call::StreamCounts { stream } => return self.count_question(*stream, reply, record),
+            Call::BestEffort { charge, .. } => self.count_best_effort(*charge, reply, record),
+            _ => (),
         }
         self.count_access(call, reply);
+        self.count_shown(call, reply, record);
         if reply.refusal != 0 {
             self.count_refused_draining(call, reply);
             return self.count(Seen::Refused(reply.refusal));
@@ -311,7 +314,7 @@ impl Coverage {
             }
             Call::Withdraw { .. } => self.count(Seen::Withdrawn),
             Call::Frame { .. } => unreachable!("a Frame is counted as the call that it becomes"),
-            Call::ReadRegister { .. } | Call::WriteRegister { .. } | Call::Lookup { .. } => (),
+            Call::ReadRegister { .. } | Call::WriteRegister { .. } | Call::Lookup { .. } | Call::StreamCounts { .. } => (),
         }
     }
 

@@ -12,7 +12,7 @@ use crate::model::port::STREAMS;
 
 /// A stream whose draining a call may end, and whether it is bound.
 pub struct Ending {
-    stream: usize,
+    pub stream: usize,
     bound: bool,
 }
 

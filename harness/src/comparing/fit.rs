@@ -1,5 +1,6 @@
 //! Random records that are fit, each with its memory: open or closed, with content that no list from an opening reaches.
 
+use crate::comparing::counts::any_choice;
 use crate::comparing::random::Random;
 use crate::layout::{self, put_four, put_two, two};
 use crate::model::octets::{MEMORY_OCTETS, PORT_OCTETS};
@@ -45,14 +46,18 @@ impl Octets {
         octets
     }
 
-    /// Gives the register block any content: marks of flags that are up, down or neither, any mask, and counts at their end, near it or anywhere.
+    /// Gives the register block any content: marks of flags that are up, down or neither, any mask, any choice, most often of a stream, and counts at
+    /// their end, near it or anywhere.
     pub fn put_block(&mut self, random: &mut Random) {
         for at in [layout::FLAG_DISCARD, layout::FLAG_PURGE, layout::FLAG_NOTHING] {
             self.record[layout::in_block(at)] = if random.chance(50) { MARK_YES } else { no_mark(random) };
         }
         let (any, bit) = (random.number(), 1 << random.below(3));
         put_four(&mut self.record, layout::in_block(layout::BLOCK_MASK), random.pick(&[0, bit, 7, 8, u32::MAX, any]));
-        for at in [layout::SENT, layout::ACCEPTED, layout::DISCARDED] {
+        let choice = any_choice(random, &self.record);
+        put_four(&mut self.record, layout::in_block(layout::CHOICE), choice);
+        let of_streams = (0..STREAMS).flat_map(|stream| [layout::ACCEPTED, layout::DISCARDED].map(|count| layout::counts(stream) + count));
+        for at in of_streams.chain([layout::SENT]) {
             let any = random.number();
             put_four(&mut self.record, layout::in_block(at), random.pick(&[0, u32::MAX, u32::MAX - 1, u32::from(u16::MAX), any, any]));
         }

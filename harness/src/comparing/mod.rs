@@ -4,6 +4,7 @@ pub mod broken;
 pub mod calls;
 pub mod chains;
 pub mod compared;
+pub mod counts;
 pub mod coverage;
 pub mod damage;
 pub mod draining;

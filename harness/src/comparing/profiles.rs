@@ -155,7 +155,7 @@ pub fn any_profile(random: &mut Random) -> Profile {
     let (open, reserve, arrive) = (any(0, 4), any(1, 30), any(10, 100));
     let (tick, transmit, best_effort, close) = (any(0, 30), any(0, 60), any(0, 30), any(0, 2));
     let (bind, frame, withdraw) = (any(0, 15), any(0, 60), any(0, 6));
-    let (read_register, write_register) = (any(0, 8), any(0, 10));
+    let (read_register, write_register) = (any(0, 10), any(0, 12));
     Profile {
         weights: Weights {
             open,

@@ -1,13 +1,15 @@
-//! Accesses to registers with chosen offsets and values, and what a call did to the registers of a port of any content. The numbers of document 02,
-//! "Register block", stand here as numbers, not as the model's.
+//! Accesses to registers with chosen offsets and values, and what a call did to the registers of a port of any content; what it did to the counts of
+//! streams is counted further in `counts`. The numbers of document 02, "Register block", stand here as numbers, not as the model's.
 
 use std::fmt;
 
 use crate::call::{Call, Reply};
+use crate::comparing::counts::{any_choice, chosen};
 use crate::comparing::coverage::{Coverage, Seen};
 use crate::comparing::random::Random;
-use crate::layout::{four, in_block, ACCEPTED, BLOCK_MASK, DISCARDED, FLAG_DISCARD, FLAG_NOTHING, FLAG_PURGE, SENT};
+use crate::layout::{self, four, in_block, FLAG_DISCARD, FLAG_NOTHING, FLAG_PURGE};
 use crate::model::octets::PORT_OCTETS;
+use crate::model::port::STREAMS;
 
 /// The offset of control.
 pub const CONTROL: u32 = 0;
@@ -17,8 +19,16 @@ pub const STATUS: u32 = 4;
 pub const FLAGS: u32 = 8;
 /// The offset of the interrupt mask.
 pub const MASK: u32 = 12;
-/// The offsets of the registers that hold something, control among them.
-const HELD: [u32; 7] = [CONTROL, STATUS, FLAGS, MASK, 16, 20, 24];
+/// The offset of the chosen stream's count of frames accepted.
+pub const ACCEPTED: u32 = 16;
+/// The offset of the chosen stream's count of discards.
+pub const DISCARDED: u32 = 20;
+/// The offset of the count of frames sent.
+pub const SENT: u32 = 24;
+/// The offset of the choice of a stream.
+pub const CHOICE: u32 = 28;
+/// The offsets of the registers that hold something, control among them, status and those that show the chosen stream's counts more often.
+const HELD: [u32; 11] = [CONTROL, STATUS, STATUS, FLAGS, MASK, ACCEPTED, ACCEPTED, DISCARDED, DISCARDED, SENT, CHOICE];
 /// The offset of the last register.
 const LAST_OFFSET: u32 = 60;
 /// Offsets that are no multiple of 4 or are above 60, also where fewer bits would hide that.
@@ -32,12 +42,13 @@ pub fn any_read(random: &mut Random, edge: bool) -> Call {
     Call::ReadRegister { offset: any_offset(random, edge) }
 }
 
-/// A write of a register, most often of control, the flags or the mask; one at an edge has its offset outside.
-pub fn any_write(random: &mut Random, edge: bool) -> Call {
-    let offset = if random.chance(60) && !edge { random.pick(&[CONTROL, CONTROL, FLAGS, MASK]) } else { any_offset(random, edge) };
+/// A write of a register, most often of control, the flags, the mask or the choice; one at an edge has its offset outside.
+pub fn any_write(random: &mut Random, record: &[u8], edge: bool) -> Call {
+    let offset = if random.chance(70) && !edge { random.pick(&[CONTROL, CONTROL, FLAGS, MASK, CHOICE]) } else { any_offset(random, edge) };
     let any = random.number();
     let known = random.pick(&VALUES);
-    Call::WriteRegister { offset, value: random.pick(&[known, known, known, any]) }
+    let value = if offset == CHOICE { any_choice(random, record) } else { random.pick(&[known, known, known, any]) };
+    Call::WriteRegister { offset, value }
 }
 
 /// An offset of a register, or one that there is not.
@@ -63,7 +74,7 @@ pub enum Flag {
 /// Every flag, in the order of their bits, with the place of its mark in the register block.
 pub const EVERY_FLAG: [(Flag, usize); 3] = [(Flag::Discard, FLAG_DISCARD), (Flag::Purge, FLAG_PURGE), (Flag::NothingToSend, FLAG_NOTHING)];
 
-/// The counts, in the order of their offsets.
+/// What is counted, in the order of the offsets: two things of each stream, and one of the port.
 #[derive(Clone, Copy, Debug, PartialEq, Eq, PartialOrd, Ord)]
 pub enum Count {
     Accepted,
@@ -71,8 +82,10 @@ pub enum Count {
     Sent,
 }
 
-/// Every count, in the order of their offsets, with its place in the register block.
-pub const EVERY_COUNT: [(Count, usize); 3] = [(Count::Accepted, ACCEPTED), (Count::Discarded, DISCARDED), (Count::Sent, SENT)];
+/// All that is counted, in the order of the offsets.
+pub const EVERY_COUNT: [Count; 3] = [Count::Accepted, Count::Discarded, Count::Sent];
+/// How many octets the counts of all streams take.
+const COUNTS_OCTETS: usize = 8 * STREAMS;
 
 impl fmt::Display for Flag {
     fn fmt(&self, f: &mut fmt::Formatter<'_>) -> fmt::Result {
@@ -94,13 +107,15 @@ impl fmt::Display for Count {
     }
 }
 
-/// What the register block of a port holds: the marks of the flags in the order of their bits, the mask, and the counts in the order of their
-/// offsets.
+/// What the register block of a port holds: the marks of the flags in the order of their bits, the mask, the count of frames sent, the choice, and
+/// the counts of the streams as they stand there.
 #[derive(Clone, Copy, Debug, PartialEq, Eq)]
 pub struct Held {
     pub marks: [u8; 3],
     pub mask: u32,
-    pub counts: [u32; 3],
+    pub sent: u32,
+    pub choice: u32,
+    counts: [u8; COUNTS_OCTETS],
 }
 
 impl Held {
@@ -109,9 +124,16 @@ impl Held {
         let number = |at: usize| four(port, in_block(at));
         (port.len() >= PORT_OCTETS).then(|| Held {
             marks: EVERY_FLAG.map(|(_, at)| port[in_block(at)]),
-            mask: number(BLOCK_MASK),
-            counts: EVERY_COUNT.map(|(_, at)| number(at)),
+            mask: number(layout::BLOCK_MASK),
+            sent: number(layout::SENT),
+            choice: number(layout::CHOICE),
+            counts: port[in_block(layout::counts(0))..PORT_OCTETS].try_into().expect("the counts end the block"),
         })
+    }
+
+    /// The accepted and the discarded count of a stream.
+    pub fn counts_of(&self, stream: usize) -> [u32; 2] {
+        [layout::ACCEPTED, layout::DISCARDED].map(|count| four(&self.counts, layout::counts(stream) - layout::counts(0) + count))
     }
 
     /// The flags as the bits of their register: a mark of 1 is one that is up.
@@ -124,9 +146,10 @@ impl Held {
         self.flags() & self.mask != 0
     }
 
-    /// Counts how a call changed what was held before it; an opening zeroes all, and neither lowers a flag nor makes a count more.
+    /// Counts how a call changed what was held before it; an opening zeroes all and a withdrawal two counts, and neither lowers a flag nor makes a
+    /// count more.
     pub fn count_changes(&self, coverage: &mut Coverage, call: &Call, after: &Held) {
-        if matches!(call, Call::Open { .. }) {
+        if matches!(call, Call::Open { .. } | Call::Withdraw { .. }) {
             return;
         }
         for (number, (flag, _)) in EVERY_FLAG.into_iter().enumerate() {
@@ -136,15 +159,28 @@ impl Held {
                 (before, after) => coverage.add(Seen::OtherMarkCleared, u64::from(before != after)),
             }
         }
-        for (number, (count, _)) in EVERY_COUNT.into_iter().enumerate() {
-            let (before, after) = (self.counts[number], after.counts[number]);
-            coverage.add(Seen::Counted(count), u64::from(after == before.wrapping_add(1)));
-            coverage.add(Seen::CountWrapped(count), u64::from(before == u32::MAX && after == 0));
+        coverage.count_change(Count::Sent, self.sent, after.sent);
+        if let Some(stream) = self.changed(after) {
+            coverage.count_counted(stream, self.counts_of(stream), after.counts_of(stream), self.choice);
         }
+    }
+
+    /// The stream whose counts are others after a call, if there is one.
+    fn changed(&self, after: &Held) -> Option<usize> {
+        if self.counts == after.counts {
+            return None;
+        }
+        (0..STREAMS).find(|&stream| self.counts_of(stream) != after.counts_of(stream))
     }
 }
 
 impl Coverage {
+    /// Counts how a call changed a count.
+    pub fn count_change(&mut self, count: Count, before: u32, after: u32) {
+        self.add(Seen::Counted(count), u64::from(after == before.wrapping_add(1)));
+        self.add(Seen::CountWrapped(count), u64::from(before == u32::MAX && after == 0));
+    }
+
     /// Counts an access to a register.
     pub fn count_access(&mut self, call: &Call, reply: &Reply) {
         match (call, reply.refusal) {
@@ -154,6 +190,7 @@ impl Coverage {
             (Call::WriteRegister { offset: CONTROL, value }, 0) => self.count(control(*value)),
             (Call::WriteRegister { offset: FLAGS, .. }, 0) => self.count(Seen::FlagsWritten),
             (Call::WriteRegister { offset: MASK, .. }, 0) => self.count(Seen::MaskWritten),
+            (Call::WriteRegister { offset: CHOICE, value }, 0) => self.count(Seen::Counting(chosen(*value))),
             (Call::WriteRegister { .. }, 0) => self.count(Seen::OtherRegisterWritten),
             (Call::WriteRegister { .. }, refusal) => self.count(Seen::WriteRefused(refusal)),
             _ => (),

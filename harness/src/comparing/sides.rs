@@ -3,9 +3,9 @@
 use std::fmt;
 
 use crate::call::{Given, Reply, Stream};
-use crate::guarantee::found::{Alike, Broken, Found, Numbers};
+use crate::guarantee::found::{Alike, Broken, Counts, Found, Numbers};
 use crate::guarantee::list::Event;
-use crate::guarantee::{claims, pairs, taken};
+use crate::guarantee::{claims, counts, pairs, taken};
 use crate::{exports, in_place, model};
 
 /// How a call is played on a lent record and memory.
@@ -21,7 +21,9 @@ pub type Replay = fn(&[u8]) -> String;
 pub type Check = fn(&[Event]) -> Result<Found, Broken>;
 /// How the replies of a list to calls that name a stream are held against what is taken.
 pub type CheckNumbers = fn(&[Event]) -> Result<Numbers, Broken>;
-/// How two lists are held beside each other for one stream: how many of its arrivals were compared, if the lists are alike in what is its own.
+/// How what a list tells of its streams' counts is held against its replies.
+pub type CheckCounts = fn(&[Event]) -> Result<Counts, Broken>;
+/// How two lists are held beside each other for one stream: how much of it was compared, if the lists are alike in what is its own.
 pub type CheckPair = fn(&[Event], &[Event], u8) -> Result<Option<Alike>, String>;
 
 /// One of the ways to play a call.
@@ -51,6 +53,7 @@ pub struct Sides {
     pub replay: Replay,
     pub check: Check,
     pub numbers: CheckNumbers,
+    pub counts: CheckCounts,
     pub pair: CheckPair,
 }
 
@@ -65,6 +68,7 @@ impl Sides {
         replay: model::replay::replay,
         check: claims::check,
         numbers: taken::check,
+        counts: counts::check,
         pair: pairs::check,
     };
 

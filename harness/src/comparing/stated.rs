@@ -73,16 +73,16 @@ impl<'a, 'r> Stated<'a, 'r> {
         }
     }
 
-    /// A Withdraw that is granted, "A withdrawal replies two zeros", and writes the draining count of its stream and no octet besides.
+    /// A Withdraw that is granted, "A withdrawal replies two zeros", and writes the draining count of its stream, zeros to the stream's counts, and no
+    /// octet besides.
     pub fn withdrawn(&mut self, stream: u8) -> Result<(), String> {
         let mut after = self.octets();
         self.call(Call::Withdraw { stream }, Reply::granted(0, 0))?;
         after.record[layout::entry(usize::from(stream)) + 6] = 4;
+        after.record[layout::in_block(layout::counts(usize::from(stream)))..][..8].fill(0);
         match self.octets() == after {
             true => Ok(()),
-            false => {
-                Err(format!("{}: a granted withdrawal of stream {stream} writes other octets than its draining count", self.run.place))
-            }
+            false => Err(format!("{}: a granted withdrawal of stream {stream} writes other octets than are named", self.run.place)),
         }
     }
 

@@ -18,13 +18,14 @@ pub enum Kind {
     Frames,
     Withdrawals,
     Registers,
+    Counts,
     Lookups,
     Guarantee,
     Captures,
 }
 
 /// Each kind with the word that names it on the command line.
-pub const KINDS: [(&str, Kind); 10] = [
+pub const KINDS: [(&str, Kind); 11] = [
     ("streams", Kind::Streams),
     ("lists", Kind::Lists),
     ("records", Kind::Records),
@@ -32,6 +33,7 @@ pub const KINDS: [(&str, Kind); 10] = [
     ("frames", Kind::Frames),
     ("withdrawals", Kind::Withdrawals),
     ("registers", Kind::Registers),
+    ("counts", Kind::Counts),
     ("lookups", Kind::Lookups),
     ("guarantee", Kind::Guarantee),
     ("captures", Kind::Captures),

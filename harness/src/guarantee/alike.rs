@@ -1,5 +1,5 @@
 //! A second list to a first that is alike in ticks and one stream's own calls, and any other in all else. An arrival may be an Arrive in one of the
-//! two and in the other the Frame that becomes it.
+//! two and in the other the Frame that becomes it. The stream's counts are asked for now and then, and at the end those of every stream.
 
 use crate::call::Call;
 use crate::comparing::calls::ORDINARY;
@@ -24,6 +24,8 @@ struct Changes {
 const FRAMES: usize = 50;
 /// How many ticks in a hundred are control writes in the second list.
 const CONTROLLED: usize = 20;
+/// After how many of the stream's own calls in a hundred its counts are asked for.
+const ASKED: usize = 40;
 
 /// Writes such a list on another record and memory, with an L and a K of its own.
 pub fn write(random: &mut Random, play: Play, begin: &Octets, events: &[Event], stream: u8) -> Vec<Event> {
@@ -37,12 +39,16 @@ pub fn write(random: &mut Random, play: Play, begin: &Octets, events: &[Event], 
         }
         if is_own(&counted, stream) {
             own(random, &mut playing, counted);
+            if random.chance(ASKED) {
+                playing.call(Call::StreamCounts { stream });
+            }
         } else if random.chance(changes.kept) {
             other(&mut playing, event.call.clone(), stream);
         } else if random.chance(changes.changed) {
             any_other(random, &mut playing, stream);
         }
     }
+    playing.ask_all();
     playing.events
 }
 
@@ -106,7 +112,7 @@ fn any_other(random: &mut Random, playing: &mut Playing, stream: u8) {
         5 => ORDINARY.bind(random, record, false),
         6 => Call::Withdraw { stream: another },
         7 => any_read(random, false),
-        8 => any_write(random, false),
+        8 => any_write(random, record, false),
         _ => ORDINARY.frame(random, record, false),
     };
     other(playing, call, stream);

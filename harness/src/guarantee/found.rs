@@ -1,5 +1,5 @@
 //! What was found in a list that is held against demand 3: whether the link condition holds, and how much of what it promises was seen; and what its
-//! replies showed of the numbers that are taken.
+//! replies showed of the numbers that are taken, and of its streams' counts.
 
 use std::fmt;
 
@@ -190,6 +190,18 @@ pub enum Shown {
     GrantedAgain,
     /// A Withdraw that was compared in both lists of a pair.
     WithdrawalCompared,
+    /// A count other than 0 that is the same at the same place of both lists of a pair.
+    CountCompared,
+    /// A question for the counts of a stream on which frames arrived.
+    CountAsked,
+    /// A read of a count of the chosen stream, on which frames arrived.
+    CountShown,
+    /// A question for the counts of no stream, or a read of a count where none is chosen.
+    CountOfNone,
+    /// A question or a read of a stream with discards.
+    DiscardsTold,
+    /// A question or a read of a stream on which frames arrived since its withdrawal and before it.
+    CountedAnew,
 }
 
 /// What the replies of a list showed of the numbers, share and pairs that are taken.
@@ -224,13 +236,38 @@ impl Numbers {
     }
 }
 
-/// Two lists that are alike: how many arrivals were compared, how many of these are a Frame in one list and an Arrive in the other, and how many
-/// Withdraws of the stream there are.
+/// What a list told of its streams' counts: questions and reads of streams on which frames arrived, those of no stream, those of a stream with
+/// discards, and those of a stream that counts anew since its withdrawal.
+#[derive(Clone, Copy, Debug, Default, PartialEq, Eq)]
+pub struct Counts {
+    pub asked: u64,
+    pub shown: u64,
+    pub above: u64,
+    pub discards: u64,
+    pub anew: u64,
+}
+
+impl Counts {
+    /// The counts by what they show.
+    pub fn shown(&self) -> [(Shown, u64); 5] {
+        [
+            (Shown::CountAsked, self.asked),
+            (Shown::CountShown, self.shown),
+            (Shown::CountOfNone, self.above),
+            (Shown::DiscardsTold, self.discards),
+            (Shown::CountedAnew, self.anew),
+        ]
+    }
+}
+
+/// Two lists that are alike: how many arrivals were compared, how many of these are a Frame in one list and an Arrive in the other, how many
+/// Withdraws of the stream there are, and how many of its counts other than 0 were compared.
 #[derive(Clone, Copy, Debug, PartialEq, Eq)]
 pub struct Alike {
     pub arrivals: u64,
     pub frames: u64,
     pub withdrawals: u64,
+    pub counts: u64,
 }
 
 impl fmt::Display for Shown {
@@ -273,6 +310,12 @@ impl fmt::Display for Shown {
             Shown::RefusedFree => "refused 12 after draining",
             Shown::GrantedAgain => "granted again",
             Shown::WithdrawalCompared => "withdrawals compared",
+            Shown::CountCompared => "counts compared",
+            Shown::CountAsked => "counts asked for",
+            Shown::CountShown => "counts of the chosen stream read",
+            Shown::CountOfNone => "counts of no stream read or asked for",
+            Shown::DiscardsTold => "counts told of streams with discards",
+            Shown::CountedAnew => "of streams that count anew",
         })
     }
 }

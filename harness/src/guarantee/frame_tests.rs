@@ -127,7 +127,7 @@ fn pairs_of_lists_by_frames() {
     other.arrive(84, Reply::granted(1, 116));
     other.bind(STREAM, 8, Reply::granted(0, 0));
     other.frame(8, 60, Reply::granted(1, 0));
-    assert_eq!(pairs::check(&one.events, &other.events, STREAM), Ok(Some(Alike { arrivals: 2, frames: 2, withdrawals: 0 })));
+    assert_eq!(pairs::check(&one.events, &other.events, STREAM), Ok(Some(Alike { arrivals: 2, frames: 2, withdrawals: 0, counts: 0 })));
     other.events[2].reply = Reply::granted(1, 115);
     assert!(pairs::check(&one.events, &other.events, STREAM).is_err());
     other.events[3].reply = Reply::refused(10);

@@ -4,6 +4,7 @@
 use crate::call::{Call, Given, Reply};
 use crate::comparing::fit::Octets;
 use crate::comparing::sides::Play;
+use crate::model::port::STREAMS;
 
 /// A call of a list, its reply, its reply in the marked play, and the first octet, if any, in which the plays' records differ after it.
 #[derive(Clone, Debug, PartialEq, Eq)]
@@ -36,6 +37,11 @@ impl Playing {
         let event = Event { call, reply, marked, apart: first_apart(&self.plain.record, &self.marked.record) };
         self.events.push(event.clone());
         event
+    }
+
+    /// Asks for the counts of every stream.
+    pub fn ask_all(&mut self) {
+        (0..STREAMS as u8).for_each(|stream| _ = self.call(Call::StreamCounts { stream }));
     }
 
     /// Record and memory as the calls so far left them.

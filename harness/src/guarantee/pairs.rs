@@ -1,7 +1,11 @@
-//! Two lists held against the last sentence of demand 3, from their events alone.
+//! Two lists held against the last sentence of demand 3, and against that of document 02, "Counts per stream", from their events alone: "A stream's
+//! counts depend only on ticks, its own calls (frames bound to it too) and which of its reservations are granted."
+
+use std::collections::HashMap;
 
 use crate::call::{Call, Reply};
 use crate::guarantee::becoming;
+use crate::guarantee::counts::{told, Count, Told};
 use crate::guarantee::found::Alike;
 use crate::guarantee::list::Event;
 
@@ -14,12 +18,14 @@ struct Own {
 }
 
 /// Two lists "alike in the order of ticks and one stream's own calls, and in which of its reservations are granted, give its arrivals the same
-/// replies": how many arrivals were compared, or nothing where the lists are not so alike.
+/// replies", and the stream the same counts: how many arrivals and counts were compared, or nothing where the lists are not so alike.
 pub fn check(one: &[Event], other: &[Event], stream: u8) -> Result<Option<Alike>, String> {
-    let [one, other] = [own(one, stream), own(other, stream)];
+    let lists = [one, other];
+    let [one, other] = lists.map(|events| own(events, stream));
     if calls(&one) != calls(&other) || granted(&one) != granted(&other) {
         return Ok(None);
     }
+    let counts = same_counts(placed(lists[0], &one, stream), placed(lists[1], &other, stream), stream)?;
     let both = arrivals(&one).into_iter().zip(arrivals(&other));
     match both.clone().find(|(one, other)| one.reply != other.reply) {
         Some((one, other)) => Err(format!(
@@ -29,9 +35,32 @@ pub fn check(one: &[Event], other: &[Event], stream: u8) -> Result<Option<Alike>
         None => {
             let frames = both.clone().filter(|(one, other)| one.is_frame != other.is_frame).count();
             let withdrawals = one.iter().filter(|own| matches!(own.call, Call::Withdraw { .. })).count();
-            Ok(Some(Alike { arrivals: both.count() as u64, frames: frames as u64, withdrawals: withdrawals as u64 }))
+            Ok(Some(Alike { arrivals: both.count() as u64, frames: frames as u64, withdrawals: withdrawals as u64, counts }))
         }
     }
+}
+
+/// What a list tells of the stream's counts, each with its place: after how many of what remains of the list, and which of the two counts.
+fn placed(events: &[Event], own: &[Own], stream: u8) -> Vec<((usize, Count), Told)> {
+    let place = |told: Told| ((own.partition_point(|own| own.number < told.number), told.count), told);
+    told(events, stream).into_iter().map(place).collect()
+}
+
+/// Counts that two lists tell at the same place are the same: how many of these, other than 0, there are.
+fn same_counts(one: Vec<((usize, Count), Told)>, other: Vec<((usize, Count), Told)>, stream: u8) -> Result<u64, String> {
+    let one: HashMap<(usize, Count), Told> = one.into_iter().collect();
+    let both = other.into_iter().filter_map(|(place, other)| one.get(&place).map(|one| (*one, other)));
+    let mut compared = 0;
+    for (one, other) in both {
+        if one.value != other.value {
+            return Err(format!(
+                "stream {stream}: call {} tells {:?} {}, call {} of the other list {}",
+                one.number, one.count, one.value, other.number, other.value
+            ));
+        }
+        compared += u64::from(one.value > 0);
+    }
+    Ok(compared)
 }
 
 /// What remains of a list: ticks, and the calls that name the stream.

@@ -88,7 +88,7 @@ fn ticks_by_control_are_ticks_in_every_claim() {
 #[test]
 fn lists_by_name_and_by_control_are_alike() {
     let hand = Hand::served();
-    let alike = Ok(Some(Alike { arrivals: 3, frames: 0, withdrawals: 0 }));
+    let alike = Ok(Some(Alike { arrivals: 3, frames: 0, withdrawals: 0, counts: 0 }));
     assert_eq!(pairs::check(&hand.events, &hand.controlled(8).events, STREAM), alike);
     assert_eq!(pairs::check(&hand.controlled(4).events, &hand.events, STREAM), alike);
     let mut longer = hand.controlled(0);

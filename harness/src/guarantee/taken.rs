@@ -115,6 +115,8 @@ impl Taken {
                 Some(_) => [9, 10, 11].contains(&reply.refusal),
                 None => [0, 9, 10].contains(&reply.refusal),
             },
+            // Whether a stream is taken is nothing to a question for its counts, which `counts` holds against the replies.
+            Call::StreamCounts { .. } => true,
             _ => ![5, NOT_RESERVED, DRAINING].contains(&reply.refusal),
         }
     }

@@ -465,11 +465,11 @@ fn pairs_of_lists() {
     other.tick();
     other.arrive(300, Reply::refused(14));
     other.put(Call::BestEffort { charge: 84, tag: 0 }, Reply::granted(84, 0));
-    assert_eq!(pairs::check(&one.events, &other.events, STREAM), Ok(Some(Alike { arrivals: 2, frames: 0, withdrawals: 0 })));
+    assert_eq!(pairs::check(&one.events, &other.events, STREAM), Ok(Some(Alike { arrivals: 2, frames: 0, withdrawals: 0, counts: 0 })));
     for reply in [Reply::granted(1, 1), Reply::granted(2, 0), Reply::refused(14)] {
         one.events[2].reply = reply;
         assert!(pairs::check(&one.events, &other.events, STREAM).is_err());
-        assert_eq!(pairs::check(&one.events, &other.events, 7), Ok(Some(Alike { arrivals: 0, frames: 0, withdrawals: 0 })));
+        assert_eq!(pairs::check(&one.events, &other.events, 7), Ok(Some(Alike { arrivals: 0, frames: 0, withdrawals: 0, counts: 0 })));
     }
     one.events[1].reply = Reply::refused(8);
     assert_eq!(pairs::check(&one.events, &other.events, STREAM), Ok(None));

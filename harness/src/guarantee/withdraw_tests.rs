@@ -189,7 +189,7 @@ fn pairs_of_lists_with_withdrawals() {
     };
     let (refused, accepted) = (Reply::refused(25), Reply::granted(1, 116));
     let own = list(&[STREAM], refused);
-    let alike = |withdrawals| Ok(Some(Alike { arrivals: 1, frames: 0, withdrawals }));
+    let alike = |withdrawals| Ok(Some(Alike { arrivals: 1, frames: 0, withdrawals, counts: 0 }));
     assert_eq!(pairs::check(&own, &list(&[6, STREAM], refused), STREAM), alike(1));
     assert_eq!(pairs::check(&list(&[], accepted), &list(&[6], accepted), STREAM), alike(0));
     assert_eq!(pairs::check(&own, &list(&[], accepted), STREAM), Ok(None));

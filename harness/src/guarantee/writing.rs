@@ -1,5 +1,6 @@
 //! Lists that are hard for demand 3: reservations that fill the share, streams that offer all that they may beside streams that offer more, and a
-//! link that serves just enough or one frame less. A writer looks into the record and memory to know what is left and what waits.
+//! link that serves just enough or one frame less. A writer looks into the record and memory to know what is left and what waits. Now and then it asks
+//! for the counts of a stream or chooses it and reads them, and at the end it asks for those of every stream.
 
 use std::ops::RangeInclusive;
 
@@ -9,7 +10,7 @@ use crate::comparing::compared::Step;
 use crate::comparing::fit::Octets;
 use crate::comparing::frames::{any_header, any_untagged, arrival, arrival_of};
 use crate::comparing::random::Random;
-use crate::comparing::registers::any_read;
+use crate::comparing::registers::{any_read, ACCEPTED, CHOICE, DISCARDED};
 use crate::comparing::sides::Play;
 use crate::guarantee::becoming::{by_control, made, one_by_one};
 use crate::guarantee::list::{Event, Playing};
@@ -21,6 +22,9 @@ use crate::model::port::{
 /// How many reserved streams in a hundred are bound, and how many arrivals in a hundred on a bound stream are Frames.
 const BOUND: usize = 75;
 const FRAMES: usize = 60;
+/// After how many arrivals in a hundred the counts of their stream are asked for, and after how many the stream is chosen and its counts are read.
+const ASKED: usize = 10;
+const CHOSEN: usize = 2;
 
 /// How the link serves a port before a tick.
 #[derive(Clone, Copy, PartialEq, Eq)]
@@ -101,6 +105,7 @@ pub fn write(random: &mut Random, play: Play, begin: &Octets, manner: &Manner) -
         writer.grant_again(manner);
     }
     writer.stretch(manner, Service::Any);
+    writer.playing.ask_all();
     writer.playing.events
 }
 
@@ -114,6 +119,7 @@ pub fn write_any(random: &mut Random, play: Play, begin: &Octets, profile: &Prof
             Step::HostWrites { .. } => unreachable!("nobody else writes the record of a list"),
         }
     }
+    writer.playing.ask_all();
     writer.playing.events
 }
 
@@ -142,7 +148,9 @@ impl<'a> Writer<'a> {
     /// Plays any call of a list; before a tick the link serves so many times in a hundred.
     fn any(&mut self, call: Call, served: usize) {
         if made(&call) != Call::Tick {
-            return self.call(call);
+            let arrival = arrival_of(&self.playing.octets().record, &call);
+            self.call(call);
+            return arrival.into_iter().for_each(|(stream, _)| self.ask(stream as u8));
         }
         if self.random.chance(served) {
             let service = self.random.pick(&[Service::Share, Service::Idle]);
@@ -168,6 +176,18 @@ impl<'a> Writer<'a> {
             if CHARGES.contains(&charge) && self.is_reserved(stream) {
                 self.offered[stream] += charge;
             }
+        }
+    }
+
+    /// Now and then asks for the counts of a stream, or chooses it and reads them.
+    fn ask(&mut self, stream: u8) {
+        if self.random.chance(ASKED) {
+            self.playing.call(Call::StreamCounts { stream });
+        }
+        if self.random.chance(CHOSEN) {
+            let choice = Call::WriteRegister { offset: CHOICE, value: stream.into() };
+            let reads = [ACCEPTED, DISCARDED].map(|offset| Call::ReadRegister { offset });
+            [choice].into_iter().chain(reads).for_each(|call| _ = self.playing.call(call));
         }
     }
 
@@ -358,7 +378,9 @@ impl<'a> Writer<'a> {
         let tag = if manner.one_tag { 0 } else { self.random.pick(&[0, 1, u32::MAX, tag]) };
         let call = arrival(self.random, &self.playing.octets().record, FRAMES, stream as u8, charge, tag);
         self.call(call);
-        self.playing.events.last().is_some_and(|event| event.reply.refusal == 0)
+        let accepted = self.playing.events.last().is_some_and(|event| event.reply.refusal == 0);
+        self.ask(stream as u8);
+        accepted
     }
 
     /// A charge that has room; an exact one leaves nothing of it, or enough for a frame more.

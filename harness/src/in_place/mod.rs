@@ -3,7 +3,7 @@
 //! is total: the queue in a role is (prior + role) modulo 4 for every prior, a ring's place is taken modulo 256 for every start, a place that
 //! is none of the three goes by the same sentences, a draining count of any size falls by one at a tick, W falls to no less than 0, and so does what
 //! L leaves beside R; of streams that are bound to one pair the first counts, reserved or not. What a call's reply does to the register block is
-//! written from document 02, "Register block", and its reading; the lookup from "Compare the VLAN id first" and its reading.
+//! written from document 02, "Register block" and "Counts per stream", and their reading; the lookup from "Compare the VLAN id first" and its reading.
 
 mod bindings;
 mod fields;
@@ -16,6 +16,7 @@ use crate::model::octets::{MEMORY_OCTETS, PORT_OCTETS, RECORD_OCTETS};
 use crate::model::port::{BEST_EFFORT, CURRENT, DELAYS, DRAINING_TICKS, LEAST_PERMITTED, LINKS, MARK_NO, MARK_YES, NOT_DRAINING, STREAMS};
 use bindings::bind;
 use fields::{permitted_sum, put_four, put_two, share, two};
+use registers::Block;
 use traffic::{arrive, best_effort, frame, tick, transmit};
 
 /// The octets of a record and a memory that are long enough.
@@ -32,11 +33,13 @@ pub fn call(call: &Given, port: &mut [u8], memory: &mut [u8]) -> Reply {
 }
 
 /// The quick call: its reply, or the number of its refusal; 26 for a register's offset comes first, then 18 for a memory that is too short, then 19
-/// for a port that is, which is all that a lookup is refused with.
+/// for a port that is, which is all that a lookup is refused with, and the first that a question for a stream's counts is.
 #[inline(always)]
 fn played(call: &Given, port: &mut [u8], memory: &mut [u8]) -> Result<Reply, u8> {
-    if let Call::Lookup { address, vid } = *call {
-        return looked_up(port, address, vid);
+    match *call {
+        Call::Lookup { address, vid } => return looked_up(port, address, vid),
+        Call::StreamCounts { stream } => return registers::stream_counts(port, stream),
+        _ => (),
     }
     refuse(26, registers::offset_is_wrong(call))?;
     let memory = memory.first_chunk_mut().ok_or(18)?;
@@ -46,7 +49,7 @@ fn played(call: &Given, port: &mut [u8], memory: &mut [u8]) -> Result<Reply, u8>
         Call::ReadRegister { offset } => Ok(registers::read(record, block, offset)),
         Call::WriteRegister { offset, value } => registers::write(record, memory, block, offset, value),
         _ => {
-            let reply = on_record(call, record, memory);
+            let reply = on_port(call, record, memory, block);
             registers::follow(block, call, &reply);
             reply
         }
@@ -61,21 +64,22 @@ fn looked_up(port: &[u8], address: &[u8; ADDRESS_OCTETS], vid: u32) -> Result<Re
     Ok(bindings::lookup(record, address, vid))
 }
 
-/// What a quick call that names no register does to the record and the memory: its reply, or the number of its refusal.
+/// What a quick call that names no register does to the record and the memory, and of the block to the counts of arrivals: its reply, or the number
+/// of its refusal.
 #[inline(always)]
-fn on_record(call: &Given, record: &mut Record, memory: &mut Memory) -> Result<Reply, u8> {
+fn on_port(call: &Given, record: &mut Record, memory: &mut Memory, block: &mut Block) -> Result<Reply, u8> {
     match *call {
         Call::Open { link, delay } => open(record, link, delay),
         Call::Reserve { stream, permitted } => reserve(record, stream, permitted),
-        Call::Arrive { stream, charge, tag } => arrive(record, memory, stream, charge, tag),
+        Call::Arrive { stream, charge, tag } => arrive(record, memory, block, stream, charge, tag),
         Call::Tick => tick(record, memory),
         Call::Transmit => transmit(record, memory),
         Call::BestEffort { charge, tag } => best_effort(record, memory, charge, tag),
         Call::Bind { stream, address, vid } => bind(record, stream, address, vid),
-        Call::Frame { octets, tag } => frame(record, memory, octets, tag),
+        Call::Frame { octets, tag } => frame(record, memory, block, octets, tag),
         Call::Withdraw { stream } => withdraw(record, stream),
         Call::ReadRegister { .. } | Call::WriteRegister { .. } => unreachable!("an access to a register is played beside the record"),
-        Call::Lookup { .. } => unreachable!("a lookup is played without memory"),
+        Call::Lookup { .. } | Call::StreamCounts { .. } => unreachable!("it is played without memory"),
     }
 }
 

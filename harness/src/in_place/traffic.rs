@@ -4,15 +4,24 @@ use std::hint::black_box;
 
 use super::bindings::{found, Binding};
 use super::fields::{four, frame_at, permitted_sum, put_four, put_two, ring, role, two};
+use super::registers::{arrived, Block};
 use super::{free, is_draining, refuse, Memory, Record};
 use crate::call::Reply;
 use crate::layout::{self, entry, DELAY, DRAINING, LEFT, LINK, OPEN, PERMITTED, PLACE, PRIOR, RESERVED, WAITS};
 use crate::model::frame::{self, FRAME_LENGTHS};
 use crate::model::port::{BEST_EFFORT, BEST_EFFORT_STREAM, CHARGES, CURRENT, LAST, MARK_YES, NOTHING, NOT_DRAINING, QUEUE_PLACES, STREAMS};
 
+/// Arrive(s, a, tag), with what its reply does to the counts of its stream.
+#[inline(always)]
+pub fn arrive(record: &mut Record, memory: &mut Memory, block: &mut Block, stream: u8, charge: u32, tag: u32) -> Result<Reply, u8> {
+    let reply = arrive_uncounted(record, memory, stream, charge, tag);
+    arrived(block, stream, &reply);
+    reply
+}
+
 /// Arrive(s, a, tag): 1, 5, 25, 12, 13, then the step.
 #[inline(always)]
-pub fn arrive(record: &mut Record, memory: &mut Memory, stream: u8, charge: u32, tag: u32) -> Result<Reply, u8> {
+fn arrive_uncounted(record: &mut Record, memory: &mut Memory, stream: u8, charge: u32, tag: u32) -> Result<Reply, u8> {
     refuse(1, record[OPEN] != MARK_YES)?;
     refuse(5, stream as usize >= STREAMS)?;
     let at = entry(stream as usize);
@@ -133,7 +142,7 @@ pub fn best_effort(record: &mut Record, memory: &mut Memory, charge: u32, tag: u
 
 /// Frame(octets, tag): 1, 17, then Arrive on the first stream that is bound to the frame's pair, or Best effort.
 #[inline(always)]
-pub fn frame(record: &mut Record, memory: &mut Memory, octets: &[u8], tag: u32) -> Result<Reply, u8> {
+pub fn frame(record: &mut Record, memory: &mut Memory, block: &mut Block, octets: &[u8], tag: u32) -> Result<Reply, u8> {
     refuse(1, record[OPEN] != MARK_YES)?;
     refuse(17, !FRAME_LENGTHS.contains(&octets.len()))?;
     let charge = frame::charge(octets);
@@ -141,7 +150,7 @@ pub fn frame(record: &mut Record, memory: &mut Memory, octets: &[u8], tag: u32) 
     // The lookup counts, as the proved one does, though nobody here asks: the compiler must not leave that out.
     black_box(compared);
     match stream {
-        Some(stream) => arrive(record, memory, stream as u8, charge, tag),
+        Some(stream) => arrive(record, memory, block, stream as u8, charge, tag),
         None => best_effort(record, memory, charge, tag),
     }
 }

@@ -137,6 +137,6 @@ pub fn kind(event: &Call) -> u8 {
         Call::Withdraw { .. } => WITHDRAW,
         Call::Bind { .. } | Call::Frame { .. } => unreachable!("no kind of event is a Bind or a Frame"),
         Call::ReadRegister { .. } | Call::WriteRegister { .. } => unreachable!("no kind of event names a register"),
-        Call::Lookup { .. } => unreachable!("no kind of event is a lookup"),
+        Call::Lookup { .. } | Call::StreamCounts { .. } => unreachable!("no kind of event asks of a port"),
     }
 }

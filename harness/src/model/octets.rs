@@ -3,7 +3,7 @@
 use std::collections::VecDeque;
 
 use super::port::{Frame, Port, Queue, Stream, QUEUES, QUEUE_PLACES, STREAMS};
-use super::registers::{Registers, FLAG_BITS};
+use super::registers::{Counts, Registers, FLAG_BITS};
 use crate::call::ADDRESS_OCTETS;
 
 /// The octets of the record, with which a lent port begins.
@@ -62,10 +62,16 @@ const FLAGS_IN_BLOCK: usize = 0;
 const MASK_IN_BLOCK: usize = 4;
 /// Where the count of frames sent stands in the block, four octets.
 const SENT_IN_BLOCK: usize = 8;
-/// Where the count of frames accepted stands in the block, four octets.
-const ACCEPTED_IN_BLOCK: usize = 16;
-/// Where the count of discards stands in the block, four octets.
-const DISCARDED_IN_BLOCK: usize = 20;
+/// Where the choice of a stream stands in the block, four octets.
+const CHOICE_IN_BLOCK: usize = 12;
+/// Where the counts of stream 0 stand in the block.
+const COUNTS_IN_BLOCK: usize = 16;
+/// The octets of a stream's counts.
+const COUNTS_OCTETS: usize = 8;
+/// Where the count of frames accepted stands in a stream's counts, four octets.
+const ACCEPTED_IN_COUNTS: usize = 0;
+/// Where the count of discards stands in a stream's counts, four octets.
+const DISCARDED_IN_COUNTS: usize = 4;
 
 /// The octets of a frame place.
 const FRAME_OCTETS: usize = 8;
@@ -106,6 +112,11 @@ fn stream_entry(stream: usize) -> usize {
 /// Where a place of a queue stands in memory: "starting at 256 times the queue's number".
 fn frame_place(queue: usize, place: usize) -> usize {
     FRAME_OCTETS * (QUEUE_PLACES * queue + place)
+}
+
+/// Where the counts of a stream stand in the block.
+fn counts_entry(stream: usize) -> usize {
+    COUNTS_IN_BLOCK + COUNTS_OCTETS * stream
 }
 
 /// The open mark in the record.
@@ -191,6 +202,15 @@ fn block_mut(port: &mut [u8]) -> &mut [u8] {
     &mut port[RECORD_OCTETS..PORT_OCTETS]
 }
 
+/// The counts of a stream in the block.
+pub fn counts(port: &[u8], stream: usize) -> Counts {
+    let entry = counts_entry(stream);
+    Counts {
+        accepted: number(block(port), entry + ACCEPTED_IN_COUNTS, FOUR),
+        discarded: number(block(port), entry + DISCARDED_IN_COUNTS, FOUR),
+    }
+}
+
 /// The registers in the block.
 fn registers(port: &[u8]) -> Registers {
     let block = block(port);
@@ -199,9 +219,9 @@ fn registers(port: &[u8]) -> Registers {
     Registers {
         flags,
         mask: number(block, MASK_IN_BLOCK, FOUR),
-        accepted: number(block, ACCEPTED_IN_BLOCK, FOUR),
-        discarded: number(block, DISCARDED_IN_BLOCK, FOUR),
         sent: number(block, SENT_IN_BLOCK, FOUR),
+        choice: number(block, CHOICE_IN_BLOCK, FOUR),
+        counts: std::array::from_fn(|stream| counts(port, stream)),
     }
 }
 
@@ -210,12 +230,15 @@ fn write_registers(registers: &Registers, port: &mut [u8]) {
     let block = block_mut(port);
     block[FLAGS_IN_BLOCK..FLAGS_IN_BLOCK + FLAG_BITS].copy_from_slice(&registers.flags);
     put_number(block, MASK_IN_BLOCK, FOUR, registers.mask);
-    put_number(block, ACCEPTED_IN_BLOCK, FOUR, registers.accepted);
-    put_number(block, DISCARDED_IN_BLOCK, FOUR, registers.discarded);
     put_number(block, SENT_IN_BLOCK, FOUR, registers.sent);
+    put_number(block, CHOICE_IN_BLOCK, FOUR, registers.choice);
+    for (stream, counts) in registers.counts.iter().enumerate() {
+        put_number(block, counts_entry(stream) + ACCEPTED_IN_COUNTS, FOUR, counts.accepted);
+        put_number(block, counts_entry(stream) + DISCARDED_IN_COUNTS, FOUR, counts.discarded);
+    }
 }
 
-/// Writes zeros to the whole block, as opening does, also where no register stands.
+/// Writes zeros to the whole block, as opening does, also to its one octet that holds nothing.
 pub fn clear_block(port: &mut [u8]) {
     block_mut(port).fill(0);
 }

@@ -1,5 +1,5 @@
 //! The state of a port in plain form: document 01, "State of a port", with the draining of document 02, "Withdraw a stream", and the registers of
-//! "Register block", and its numbers, each named once, the largest charge that of "Envelope frames".
+//! "Register block" and "Counts per stream", and its numbers, each named once, the largest charge that of "Envelope frames".
 
 use std::collections::VecDeque;
 use std::ops::RangeInclusive;

@@ -1,40 +1,50 @@
 //! The model's own tests of the registers: the sentences of document 02's request "Register block" and of its reading, which octets of the block
-//! each call writes, and the refusals in their order.
+//! each call writes, and the refusals in their order. Those of "Counts per stream" are in `count_tests`; here one stream is chosen, whose counts are
+//! read.
 
-use super::tests::{Lent, BLOCK, ENTRY, STREAM};
+use super::frame_tests::ADDRESS;
+use super::tests::{Lent, BLOCK, COUNTS, ENTRY, STREAM};
 use crate::call::Call;
 
 /// The offsets of the registers.
 const CONTROL: u32 = 0;
 const STATUS: u32 = 4;
-const FLAGS: u32 = 8;
+pub const FLAGS: u32 = 8;
 const MASK: u32 = 12;
-const ACCEPTED: u32 = 16;
-const DISCARDED: u32 = 20;
-const SENT: u32 = 24;
+pub const ACCEPTED: u32 = 16;
+pub const DISCARDED: u32 = 20;
+pub const SENT: u32 = 24;
+pub const CHOICE: u32 = 28;
 
-/// Where the marks of the three flags stand in a lent port, and where the other registers do.
+/// Where the marks of the three flags stand in a lent port, and where the other registers and the counts of the tests' stream do.
 const MARKS: usize = BLOCK;
 const MASK_AT: usize = BLOCK + 4;
 const SENT_AT: usize = BLOCK + 8;
-const ACCEPTED_AT: usize = BLOCK + 16;
-const DISCARDED_AT: usize = BLOCK + 20;
+const ACCEPTED_AT: usize = COUNTS;
+const DISCARDED_AT: usize = COUNTS + 4;
 /// The octets of the register block.
-const BLOCK_OCTETS: usize = 528;
+pub const BLOCK_OCTETS: usize = 528;
 
 impl Lent {
     /// Reads a register.
-    fn read(&mut self, offset: u32) -> (u8, u32, u32) {
+    pub fn read(&mut self, offset: u32) -> (u8, u32, u32) {
         self.play(Call::ReadRegister { offset })
     }
 
     /// Writes a register.
-    fn write(&mut self, offset: u32, value: u32) -> (u8, u32, u32) {
+    pub fn write(&mut self, offset: u32, value: u32) -> (u8, u32, u32) {
         self.play(Call::WriteRegister { offset, value })
     }
 
+    /// The port of the cases, with its stream chosen.
+    fn chosen() -> Lent {
+        let mut lent = Lent::of_the_cases();
+        assert_eq!(lent.write(CHOICE, STREAM.into()), (0, 0, 0));
+        lent
+    }
+
     /// The value of a register, by a read, which replies it "and 0" and changes nothing.
-    fn register(&mut self, offset: u32) -> u32 {
+    pub fn register(&mut self, offset: u32) -> u32 {
         let before = self.clone();
         let (refusal, value, second) = self.read(offset);
         assert_eq!((refusal, second), (0, 0));
@@ -42,19 +52,19 @@ impl Lent {
         value
     }
 
-    /// Flags, accepted, discards and sent, by reads.
+    /// Flags, accepted and discards of the chosen stream, and sent, by reads.
     fn counts(&mut self) -> (u32, u32, u32, u32) {
         (self.register(FLAGS), self.register(ACCEPTED), self.register(DISCARDED), self.register(SENT))
     }
 
     /// Writes a 32-bit number into the lent port.
-    fn put_four(&mut self, at: usize, value: u32) {
+    pub fn put_four(&mut self, at: usize, value: u32) {
         self.record[at..at + 4].copy_from_slice(&value.to_be_bytes());
     }
 
-    /// The port of the cases, closed by the host.
+    /// The port of the cases, with its stream chosen, closed by the host.
     fn closed() -> Lent {
-        let mut lent = Lent::of_the_cases();
+        let mut lent = Lent::chosen();
         lent.record[0] = 0;
         lent
     }
@@ -64,14 +74,11 @@ impl Lent {
 #[test]
 fn control_and_other_offsets_read_zero() {
     let mut lent = Lent::of_the_cases();
-    lent.record[BLOCK + 24..BLOCK + BLOCK_OCTETS].fill(0xEE);
-    lent.record[BLOCK + 3] = 0xEE;
-    lent.record[BLOCK + 12..BLOCK + 16].fill(0xEE);
+    lent.record[BLOCK..BLOCK + BLOCK_OCTETS].fill(0xEE);
     assert_eq!(lent.register(CONTROL), 0);
-    for offset in (28..=60).step_by(4) {
+    for offset in (32..=60).step_by(4) {
         assert_eq!(lent.register(offset), 0);
     }
-    assert_eq!(lent.counts(), (0, 0, 0, 0));
 }
 
 /// "status (bit 0, the lowest, open; bit 1 the interrupt line)", and the line is up "exactly when flags and mask share a one".
@@ -142,32 +149,32 @@ fn marks_of_any_content() {
     }
 }
 
-/// "Offsets 16, 20 and 24 count frames of both sorts accepted, discards (14) and frames of both sorts sent", by every call on the port, with the
+/// Offsets 16 and 20 count a stream's frames accepted and its "discards (14)", 24 "frames of both sorts sent", by every call on the port, with the
 /// flags "bit 0 discard, bit 1 purge of at least one frame, bit 2 nothing to send".
 #[test]
 fn calls_set_flags_and_count() {
-    let mut lent = Lent::of_the_cases();
+    let mut lent = Lent::chosen();
     assert_eq!(lent.counts(), (0, 0, 0, 0));
     assert_eq!(lent.arrive(120, 1), (0, 1, 80));
     assert_eq!(lent.counts(), (0, 1, 0, 0));
     assert_eq!(lent.best_effort(100, 2), (0, 100, 0));
-    assert_eq!(lent.counts(), (0, 2, 0, 0));
+    assert_eq!(lent.counts(), (0, 1, 0, 0));
     assert_eq!(lent.arrive(201, 3), (14, 0, 0));
-    assert_eq!(lent.counts(), (1, 2, 1, 0));
+    assert_eq!(lent.counts(), (1, 1, 1, 0));
     assert_eq!(lent.transmit(), (0, 5, 1));
-    assert_eq!(lent.counts(), (1, 2, 1, 1));
+    assert_eq!(lent.counts(), (1, 1, 1, 1));
     assert_eq!(lent.transmit(), (0, 255, 2));
-    assert_eq!(lent.counts(), (1, 2, 1, 2));
+    assert_eq!(lent.counts(), (1, 1, 1, 2));
     assert_eq!(lent.transmit(), (0, 254, 0));
-    assert_eq!(lent.counts(), (5, 2, 1, 2));
+    assert_eq!(lent.counts(), (5, 1, 1, 2));
     assert_eq!(lent.tick(), (0, 0, 0));
-    assert_eq!(lent.counts(), (5, 2, 1, 2));
+    assert_eq!(lent.counts(), (5, 1, 1, 2));
 }
 
 /// "purge of at least one frame": a tick that purges none sets no flag, one that purges one or several does, and counts nothing.
 #[test]
 fn a_purge_sets_its_flag() {
-    let mut lent = Lent::of_the_cases();
+    let mut lent = Lent::chosen();
     lent.arrive(100, 1);
     lent.arrive(100, 2);
     assert_eq!(lent.tick(), (0, 0, 0));
@@ -176,32 +183,27 @@ fn a_purge_sets_its_flag() {
     assert_eq!(lent.counts(), (2, 2, 0, 0));
 }
 
-/// A Frame counts by its reply, whatever it becomes: an arrival, a best effort, a discard, or another refusal, which counts nothing.
+/// A Frame counts as the call that it becomes, by its reply: an arrival, a discard, or a best effort and another refusal, which count nothing.
 #[test]
 fn frames_count_by_their_reply() {
-    let mut lent = Lent::of_the_cases();
-    assert_eq!(lent.play(Call::Bind { stream: STREAM, address: [1; 6], vid: 7 }), (0, 0, 0));
-    let frame = |length: usize, vid: u8| {
-        let mut octets = [&[1; 6][..], &[0; 6], &[0x81, 0x00, 0x00, vid]].concat();
-        octets.resize(length, 0);
-        Call::Frame { octets: octets.into(), tag: 1 }
-    };
-    assert_eq!(lent.play(frame(60, 7)), (0, 1, 116));
+    let mut lent = Lent::chosen();
+    assert_eq!(lent.bind(STREAM, ADDRESS, 7), (0, 0, 0));
+    assert_eq!(lent.tagged([0, 7], 60), (0, 1, 116));
     assert_eq!(lent.counts(), (0, 1, 0, 0));
-    assert_eq!(lent.play(frame(60, 8)), (0, 84, 0));
-    assert_eq!(lent.counts(), (0, 2, 0, 0));
-    assert_eq!(lent.play(frame(177, 7)), (14, 0, 0));
-    assert_eq!(lent.counts(), (1, 2, 1, 0));
-    assert_eq!(lent.play(frame(59, 7)), (17, 0, 0));
-    assert_eq!(lent.play(frame(1_996, 8)), (0, 2_104, 0));
-    assert_eq!(lent.play(frame(1_996, 8)), (16, 0, 0));
-    assert_eq!(lent.counts(), (1, 3, 1, 0));
+    assert_eq!(lent.tagged([0, 8], 60), (0, 84, 0));
+    assert_eq!(lent.counts(), (0, 1, 0, 0));
+    assert_eq!(lent.tagged([0, 7], 177), (14, 0, 0));
+    assert_eq!(lent.counts(), (1, 1, 1, 0));
+    assert_eq!(lent.tagged([0, 7], 59), (17, 0, 0));
+    assert_eq!(lent.tagged([0, 8], 1_996), (0, 2_104, 0));
+    assert_eq!(lent.tagged([0, 8], 1_996), (16, 0, 0));
+    assert_eq!(lent.counts(), (1, 1, 1, 0));
 }
 
 /// "Of refusals only 14 sets a flag or count": all others keep the whole port, the block with it.
 #[test]
 fn other_refusals_set_nothing() {
-    let mut lent = Lent::of_the_cases();
+    let mut lent = Lent::chosen();
     lent.fill_best_effort(9, 256);
     lent.fill(1, 3);
     lent.record[ENTRY + 16] = 1;
@@ -242,7 +244,7 @@ fn other_refusals_set_nothing() {
 #[test]
 fn counters_wrap() {
     for (at, offset) in [(ACCEPTED_AT, ACCEPTED), (DISCARDED_AT, DISCARDED), (SENT_AT, SENT)] {
-        let mut lent = Lent::of_the_cases();
+        let mut lent = Lent::chosen();
         lent.arrive(84, 1);
         for at in [ACCEPTED_AT, DISCARDED_AT, SENT_AT] {
             lent.put_four(at, 0x0101_0101);
@@ -250,7 +252,7 @@ fn counters_wrap() {
         lent.put_four(at, 4_294_967_294);
         for value in [4_294_967_295, 0, 1] {
             match offset {
-                ACCEPTED => assert_eq!(lent.best_effort(84, 1).0, 0),
+                ACCEPTED => assert_eq!(lent.arrive(100, 1).0, 0),
                 DISCARDED => assert_eq!(lent.arrive(201, 1).0, 14),
                 _ => {
                     lent.put(16 + 4 + 2, 1);
@@ -262,15 +264,16 @@ fn counters_wrap() {
         }
         let others = [ACCEPTED, DISCARDED, SENT].into_iter().filter(|other| *other != offset);
         others.for_each(|other| assert_eq!(lent.register(other), 0x0101_0101));
-        assert_eq!(lent.record[BLOCK + 12..BLOCK + 16], [0; 4]);
-        assert_eq!(lent.record[BLOCK + 24..BLOCK + BLOCK_OCTETS], [0; BLOCK_OCTETS - 24]);
+        assert_eq!(lent.record[BLOCK + 12..BLOCK + 16], [0, 0, 0, STREAM]);
+        assert!(lent.record[BLOCK + 16..ACCEPTED_AT].iter().all(|octet| *octet == 0));
+        assert!(lent.record[DISCARDED_AT + 4..BLOCK + BLOCK_OCTETS].iter().all(|octet| *octet == 0));
     }
 }
 
 /// "writing bit 0 ticks, then bit 1 transmits": the reply is "as its last call", and the port what the named calls leave.
 #[test]
 fn control_writes_are_the_named_calls() {
-    let mut lent = Lent::of_the_cases();
+    let mut lent = Lent::chosen();
     lent.arrive(200, 1);
     lent.arrive(200, 2);
     lent.best_effort(84, 3);
@@ -289,7 +292,7 @@ fn control_writes_are_the_named_calls() {
         assert_eq!((named.tick(), named.transmit()), ((0, 1, 200), (0, 5, 2)));
         assert_eq!(written.write(CONTROL, above | 3), (0, 5, 2));
         assert!(named == written);
-        assert_eq!(written.counts(), (2, 3, 0, 1));
+        assert_eq!(written.counts(), (2, 2, 0, 1));
         let mut neither = begin.clone();
         assert_eq!(neither.write(CONTROL, above), (0, 0, 0));
         assert!(neither == begin);
@@ -299,13 +302,13 @@ fn control_writes_are_the_named_calls() {
 /// "writes to them, 4 and the counters do nothing", and reply two zeros.
 #[test]
 fn writes_that_do_nothing() {
-    let mut lent = Lent::of_the_cases();
+    let mut lent = Lent::chosen();
     lent.arrive(201, 1);
     lent.arrive(84, 1);
     lent.transmit();
-    lent.record[BLOCK + 24..BLOCK + BLOCK_OCTETS].fill(0xEE);
+    lent.record[BLOCK + 3] = 0xEE;
     let before = lent.clone();
-    for offset in [STATUS, ACCEPTED, DISCARDED, SENT].into_iter().chain((28..=60).step_by(4)) {
+    for offset in [STATUS, ACCEPTED, DISCARDED, SENT].into_iter().chain((32..=60).step_by(4)) {
         for value in [0, 1, 3, 7, u32::MAX] {
             assert_eq!(lent.write(offset, value), (0, 0, 0));
             assert!(lent == before);
@@ -331,7 +334,7 @@ fn opening_zeroes_the_block() {
     assert_eq!(lent.open(2_620, 1), (0, 600, 0));
     assert_eq!(lent.record[BLOCK..BLOCK + BLOCK_OCTETS], [0; BLOCK_OCTETS]);
     assert_eq!(lent.record[BLOCK + BLOCK_OCTETS..], [1; 3]);
-    assert_eq!((lent.register(MASK), lent.counts()), (0, (0, 0, 0, 0)));
+    assert_eq!((lent.register(MASK), lent.register(CHOICE), lent.counts()), (0, 0, (0, 0, 0, 0)));
 }
 
 /// "A closed port keeps mask writes and flag clears", and "1 stops only ticks and transmits".
@@ -348,7 +351,7 @@ fn a_closed_port_has_registers() {
         assert_eq!(lent.write(CONTROL, value), (refusal, 0, 0));
         assert!(lent == before);
     }
-    for offset in [STATUS, ACCEPTED, DISCARDED, SENT, 28, 60] {
+    for offset in [STATUS, ACCEPTED, DISCARDED, SENT, 32, 60] {
         assert_eq!(lent.write(offset, u32::MAX), (0, 0, 0));
         assert_eq!(lent.read(offset).0, 0);
     }
@@ -360,7 +363,7 @@ fn a_closed_port_has_registers() {
 fn offsets_outside() {
     let mut lent = Lent::of_the_cases();
     let before = lent.clone();
-    for offset in (0..200).chain([255, 256, 65_536, 1 << 31, u32::MAX - 3, u32::MAX]) {
+    for offset in (0..200).chain([255, 256, 284, 65_536, 65_564, 1 << 31, u32::MAX - 3, u32::MAX]) {
         let refusal = if offset % 4 == 0 && offset <= 60 { 0 } else { 26 };
         assert_eq!(lent.read(offset).0, refusal, "{offset}");
         assert_eq!(lent.write(offset, 0), (refusal, 0, 0), "{offset}");
@@ -414,7 +417,9 @@ fn any_block_is_fit() {
     lent.record[BLOCK..BLOCK + BLOCK_OCTETS].fill(0xEE);
     assert_eq!(lent.unfit(), []);
     assert_eq!(lent.arrive(84, 1), (0, 1, 116));
-    assert_eq!(lent.register(ACCEPTED), 0xEEEE_EEEF);
-    assert_eq!(lent.record[BLOCK..ACCEPTED_AT], [0xEE; 16]);
-    assert_eq!(lent.record[DISCARDED_AT..BLOCK + BLOCK_OCTETS], [0xEE; BLOCK_OCTETS - 20]);
+    assert_eq!(lent.register(CHOICE), 0xEEEE_EEEE);
+    assert_eq!((lent.register(ACCEPTED), lent.register(DISCARDED)), (0, 0));
+    assert_eq!(lent.record[ACCEPTED_AT..DISCARDED_AT], [0xEE, 0xEE, 0xEE, 0xEF]);
+    assert!(lent.record[BLOCK..ACCEPTED_AT].iter().all(|octet| *octet == 0xEE));
+    assert!(lent.record[DISCARDED_AT..BLOCK + BLOCK_OCTETS].iter().all(|octet| *octet == 0xEE));
 }

@@ -34,7 +34,7 @@ fn on_record(call: &Given, port: &mut Port) -> Reply {
         Call::ReadRegister { offset } => port.registers.read(offset, port.is_open()),
         Call::WriteRegister { offset: CONTROL, value } => control(port, value),
         Call::WriteRegister { offset, value } => port.registers.write(offset, value),
-        Call::Lookup { .. } => unreachable!("a lookup is played on the octets, without 18 and 19"),
+        Call::Lookup { .. } | Call::StreamCounts { .. } => unreachable!("it is played on the octets, without 18 and 19"),
     }
 }
 
@@ -279,7 +279,8 @@ fn bound_to(port: &Port, pair: &Pair) -> Option<usize> {
     lookup(&port.streams, pair).stream
 }
 
-/// "Frame(octets, tag)": "A bound pair is an Arrive on its stream; all else is best effort."
+/// "Frame(octets, tag)": "A bound pair is an Arrive on its stream; all else is best effort." A stream's own calls are "frames bound to it too", so the
+/// registers follow the call that it becomes.
 fn frame(port: &mut Port, octets: &[u8], tag: u32) -> Reply {
     if !port.is_open() {
         return Reply::refused(refusal::PORT_CLOSED);
@@ -287,7 +288,7 @@ fn frame(port: &mut Port, octets: &[u8], tag: u32) -> Reply {
     if !FRAME_LENGTHS.contains(&octets.len()) {
         return Reply::refused(refusal::FRAME_LENGTH);
     }
-    on_record(&becomes(port, octets, tag).given(), port)
+    step(&becomes(port, octets, tag).given(), port)
 }
 
 /// What a frame whose length is in its range becomes: "A bound pair is an Arrive on its stream; all else is best effort."

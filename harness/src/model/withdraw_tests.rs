@@ -3,7 +3,7 @@
 
 use super::fitness::Clause;
 use super::replay::replay;
-use super::tests::{Lent, ENTRY, STREAM};
+use super::tests::{Lent, COUNTS, ENTRY, STREAM};
 use crate::call::Call;
 
 /// A destination, and octets 12 to 15 of a frame with VID 7.
@@ -14,7 +14,7 @@ const DRAINING: usize = ENTRY + 6;
 
 impl Lent {
     /// Plays a Withdraw.
-    fn withdraw(&mut self, stream: u8) -> (u8, u32, u32) {
+    pub fn withdraw(&mut self, stream: u8) -> (u8, u32, u32) {
         self.play(Call::Withdraw { stream })
     }
 
@@ -31,14 +31,14 @@ impl Lent {
     }
 
     /// Plays so many Ticks, which purge nothing.
-    fn ticks(&mut self, count: usize) {
+    pub fn ticks(&mut self, count: usize) {
         for _ in 0..count {
             assert_eq!(self.tick(), (0, 0, 0));
         }
     }
 }
 
-/// "A withdrawal replies two zeros", and writes the draining count of its stream, whatever else its entry holds.
+/// "A withdrawal replies two zeros", and writes the draining count of its stream, whatever else its entry holds, and zeros to the stream's counts.
 #[test]
 fn withdraw_writes_what_its_rule_names() {
     let mut lent = Lent::of_the_cases();
@@ -47,6 +47,7 @@ fn withdraw_writes_what_its_rule_names() {
     let mut after = lent.clone();
     assert_eq!(lent.withdraw(STREAM), (0, 0, 0));
     after.record[DRAINING] = 4;
+    after.record[COUNTS..COUNTS + 8].fill(0);
     assert_eq!(lent, after);
     assert_eq!(lent.unfit(), []);
 }

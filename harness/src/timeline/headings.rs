@@ -24,7 +24,7 @@ pub fn asked(call: &Call) -> (&'static str, Vec<String>) {
         Call::Withdraw { stream } => ("withdraw", vec![format!("stream {stream}")]),
         Call::Bind { .. } | Call::Frame { .. } => unreachable!("no event of a capture is a Bind or a Frame"),
         Call::ReadRegister { .. } | Call::WriteRegister { .. } => unreachable!("no event of a capture names a register"),
-        Call::Lookup { .. } => unreachable!("no event of a capture is a lookup"),
+        Call::Lookup { .. } | Call::StreamCounts { .. } => unreachable!("no event of a capture asks of a port"),
     }
 }
 

@@ -26,6 +26,7 @@ pub fn call(call: &Call) -> String {
         Call::ReadRegister { offset } => format!("read the register at offset {offset}"),
         Call::WriteRegister { offset, value } => format!("write {value} to the register at offset {offset}"),
         Call::Lookup { address, vid } => format!("look up address {}, VID {vid}", hexadecimal(address)),
+        Call::StreamCounts { stream } => format!("read the counts of stream {stream}"),
     }
 }
 
@@ -74,6 +75,7 @@ fn granted(call: &Call, first: u32, second: u32) -> Option<String> {
         Call::WriteRegister { offset: 0, value } if value & 1 != 0 => Some(purged(first, second)),
         Call::WriteRegister { .. } => (first == 0 && second == 0).then(|| String::from("writes")),
         Call::Lookup { .. } => found(first, second),
+        Call::StreamCounts { .. } => Some(format!("{first} accepted, {second} discarded")),
     }
 }
 
@@ -138,6 +140,7 @@ mod tests {
             Call::WriteRegister { offset: 0, value: 1 },
             Call::WriteRegister { offset: 0, value: 3 },
             Call::Lookup { address: [1, 0, 0x5e, 0, 0, 5], vid: 10 },
+            Call::StreamCounts { stream: 5 },
         ]
     }
 
@@ -172,6 +175,7 @@ mod tests {
         let lookup = "6 look up address 01 00 5e 00 00 05, VID 10: finds";
         assert_eq!(said(&calls[13], 0, 5, 7), format!("{lookup} stream 5, 7 address octets compared"));
         assert_eq!(said(&calls[13], 0, 255, 384), format!("{lookup} no stream, 384 address octets compared"));
+        assert_eq!(said(&calls[14], 0, 40, 2), "6 read the counts of stream 5: 40 accepted, 2 discarded");
     }
 
     #[test]

@@ -1,4 +1,5 @@
-//! Each of the nine calls, each access to a register and the lookup, with good and bad arguments, tried on one record after another.
+//! Each of the nine calls, each access to a register, the lookup and the question for a stream's counts, with good and bad arguments, tried on one
+//! record after another.
 
 use crate::comparing::calls::each_call;
 use crate::comparing::compared::Compared;

@@ -4,6 +4,7 @@
 use crate::call::Call;
 use crate::comparing::calls::each_call;
 use crate::comparing::compared::Compared;
+use crate::comparing::counts::Counting;
 use crate::comparing::coverage::Seen;
 use crate::comparing::fenced::{lend_given, lend_pair, Edge, EDGES};
 use crate::comparing::fit::Octets;
@@ -11,6 +12,7 @@ use crate::comparing::lent::Lend;
 use crate::comparing::lookups::Looked;
 use crate::comparing::sides::Side;
 use crate::comparing::test::{Kind, Run, Test};
+use crate::comparing::tests::counts::QUESTIONS;
 use crate::comparing::tests::each_call::try_lengths;
 use crate::comparing::tests::registers::OF_ACCESSES;
 use crate::model::octets::{MEMORY_OCTETS, PORT_OCTETS};
@@ -70,13 +72,16 @@ fn between_fences(run: &mut Run, side: Side) -> Result<(), String> {
     run.demand(&[(Seen::Withdrawn, 40), (Seen::Freed, 20), (Seen::Refused(DRAINING), 20)])?;
     run.demand(&OF_ACCESSES.map(|seen| (seen, 20)))?;
     run.demand(&[Looked::Found, Looked::NoneByVid, Looked::NoneByAddress, Looked::Refused].map(|looked| (Seen::Lookup(looked), 20)))?;
+    run.demand(&QUESTIONS.map(|counting| (Seen::Counting(counting), 100)))?;
+    run.demand(&[Counting::Chosen, Counting::ChosenAbove].map(|chosen| (Seen::Counting(chosen), 10)))?;
     run.demand(&[(Seen::RegisterRead, 40), (Seen::MaskWritten, 20), (Seen::ControlTicked, 10), (Seen::ControlTransmitted, 10)])
 }
 
-/// What a call is lent to be read alone: a read of a register and a lookup the port, and every call but those that bring a frame the memory.
+/// What a call is lent to be read alone: a read of a register, a lookup and a question for a stream's counts the port, and every call but those that
+/// bring a frame the memory.
 fn lent_to_be_read(call: &Call) -> [bool; 2] {
     let brings = matches!(call, Call::Arrive { .. } | Call::BestEffort { .. } | Call::Frame { .. });
-    [matches!(call, Call::ReadRegister { .. } | Call::Lookup { .. }), !brings]
+    [matches!(call, Call::ReadRegister { .. } | Call::Lookup { .. } | Call::StreamCounts { .. }), !brings]
 }
 
 /// The proved calls, quick or not, write no octet of a slice that is lent to be read, not even the octet that stands there; and such a write is
@@ -98,7 +103,8 @@ fn slices_lent_to_be_read(run: &mut Run) -> Result<(), String> {
         }
     }
     run.demand(&[(Seen::WriteNoticed, 100), (Seen::RegisterRead, 500), (Seen::LineUp, 20), (Seen::LineDown, 20)])?;
-    run.demand(&[Looked::Found, Looked::NoneByVid, Looked::NoneByAddress].map(|looked| (Seen::Lookup(looked), 20)))
+    run.demand(&[Looked::Found, Looked::NoneByVid, Looked::NoneByAddress].map(|looked| (Seen::Lookup(looked), 20)))?;
+    run.demand(&[Counting::Asked, Counting::AskedUnchosen, Counting::RefusedAbove].map(|asked| (Seen::Counting(asked), 200)))
 }
 
 /// Whether a call on copies of a port and a memory, of which some may be read alone, writes neither those nor an octet outside.
@@ -108,8 +114,10 @@ fn kept_by(run: &mut Run, side: Side, call: &Call, octets: &Octets, reading: [bo
     let reply = (run.sides.play(side))(&call.given(), port.octets_mut(), memory.octets_mut());
     run.calls += 1;
     run.coverage.count_access(call, &reply);
-    if let Call::Lookup { address, vid } = call {
-        run.coverage.count_lookup(address, *vid, &reply, &octets.record);
+    match call {
+        Call::Lookup { address, vid } => run.coverage.count_lookup(address, *vid, &reply, &octets.record),
+        Call::StreamCounts { stream } => run.coverage.count_question(*stream, &reply, &octets.record),
+        _ => (),
     }
     port.outside_kept()
 }

@@ -1,7 +1,7 @@
-//! The kind `guarantee`: demand 3 held against lists of calls through the proved calls and quick calls, and through the model, each test with
-//! lists of one manner. To each list others are written that are alike in one stream's own calls.
+//! The kind `guarantee`: demand 3, and what is claimed of a stream's counts, held against lists of calls through the proved calls and quick calls, and
+//! through the model, each test with lists of one manner. To each list others are written that are alike in one stream's own calls.
 
-use crate::call::Call;
+use crate::call::{Call, Given, Reply};
 use crate::comparing::calls::Profile;
 use crate::comparing::coverage::Seen;
 use crate::comparing::fit::{no_mark, Octets};
@@ -17,11 +17,12 @@ use crate::guarantee::found::{Alike, Broken, Found, Prompt};
 use crate::guarantee::list::{Event, Playing};
 use crate::guarantee::writing::{write, write_any, Manner, Service};
 use crate::guarantee::{alike, becoming};
-use crate::layout;
 use crate::model::port::{LINKS, STREAMS};
+use crate::model::refusal::NOT_RESERVED;
+use crate::{exports, layout};
 
 /// The tests of this kind.
-pub const TESTS: [Test; 13] = [
+pub const TESTS: [Test; 14] = [
     test("guarantee_in_lists_of_any_calls", lists_of_any_calls),
     test("guarantee_beside_overfilled_streams", beside_overfilled_streams),
     test("guarantee_of_streams_that_conform_for_a_while", of_streams_that_conform_for_a_while),
@@ -35,6 +36,7 @@ pub const TESTS: [Test; 13] = [
     test("guarantee_of_many_streams_in_long_lists", of_many_streams_in_long_lists),
     test("guarantee_is_tight", is_tight),
     test("guarantee_of_the_model", of_the_model),
+    test("guarantee_of_counts_where_withdrawals_are_refused", of_counts_where_withdrawals_are_refused),
 ];
 
 /// The proved calls and quick calls, on which lists are played in turn.
@@ -139,7 +141,8 @@ fn lists_of_any_calls(run: &mut Run) -> Result<(), String> {
     demand(run, &[(TwinsList, 1_000), (Twin, 5_000), (Pair, 4_000), (ArrivalCompared, 80_000)])?;
     demand(run, &[(FrameArrival, 30_000), (FrameBestEffort, 60_000), (FrameCompared, 40_000)])?;
     demand(run, &[(Withdrawal, 3_000), (RefusedDraining, 10_000), (RefusedFree, 500), (GrantedAgain, 1_000), (WithdrawalCompared, 500)])?;
-    demand(run, &[(ControlTick, 10_000), (ControlTransmit, 20_000)])
+    demand(run, &[(CountAsked, 25_000), (CountShown, 7_000), (CountOfNone, 1_000), (DiscardsTold, 15_000), (CountedAnew, 1_500)])?;
+    demand(run, &[(ControlTick, 10_000), (ControlTransmit, 20_000), (CountCompared, 12_000)])
 }
 
 /// Conforming streams beside streams that overfill.
@@ -151,6 +154,7 @@ fn beside_overfilled_streams(run: &mut Run) -> Result<(), String> {
     demand(run, &[(Conforming, 50_000), (ConformingSent, 40_000), (ConformingAfterFirst, 10_000)])?;
     demand(run, &[(BeginningList, 1_000), (Beginning, 6_000), (BeginningSent, 6_000), (BeginningAfterFirst, 4_000)])?;
     demand(run, &[(ControlTick, 4_000), (ControlTransmit, 50_000)])?;
+    demand(run, &[(CountAsked, 25_000), (CountShown, 7_000), (DiscardsTold, 15_000), (CountCompared, 14_000)])?;
     demand(run, &[(Pair, 2_000), (ArrivalCompared, 50_000), (FrameArrival, 70_000), (FrameBestEffort, 9_000), (FrameCompared, 25_000)])
 }
 
@@ -198,6 +202,7 @@ fn of_withdrawn_streams(run: &mut Run) -> Result<(), String> {
     demand(run, &[(Link(ByBoth), 700), (SentInTime, 60_000), (SentAfterThird, 2_000), (SentAsLast, 20_000)])?;
     demand(run, &[(Withdrawal, 4_000), (RefusedDraining, 15_000), (RefusedFree, 300), (GrantedAgain, 2_000)])?;
     demand(run, &[(Withdrawn, 20_000), (WithdrawnSent, 20_000), (WithdrawnAfterFirst, 5_000), (Conforming, 10_000), (Beginning, 4_000)])?;
+    demand(run, &[(CountAsked, 7_000), (CountedAnew, 3_000), (CountCompared, 5_000)])?;
     demand(run, &[(Pair, 1_200), (ArrivalCompared, 50_000), (FrameCompared, 20_000), (WithdrawalCompared, 1_500)])
 }
 
@@ -205,7 +210,7 @@ fn of_withdrawn_streams(run: &mut Run) -> Result<(), String> {
 fn of_withdrawn_streams_where_ticks_purge(run: &mut Run) -> Result<(), String> {
     hold(run, &PROVED, 500, in_manner(&WITHDRAWN_AND_SHORT))?;
     demand(run, &[(Link(Failed), 400), (Purging, 80), (Withdrawal, 2_000), (RefusedDraining, 8_000), (GrantedAgain, 1_000)])?;
-    demand(run, &[(Pair, 600), (ArrivalCompared, 25_000), (WithdrawalCompared, 800)])
+    demand(run, &[(Pair, 600), (ArrivalCompared, 25_000), (WithdrawalCompared, 800), (CountedAnew, 1_500), (CountCompared, 2_500)])
 }
 
 /// A link with time left: between any two ticks a transmit sends nothing, or best effort.
@@ -225,7 +230,7 @@ fn in_full_queues(run: &mut Run) -> Result<(), String> {
     run.demand_none(Seen::Shown(Link(Failed)))?;
     demand(run, &[(SentInTime, 80_000), (SentAfterThird, 100), (Conforming, 10_000), (ConformingAfterFirst, 300)])?;
     demand(run, &[(SentAsNext, 6_000), (SentAsLast, 20_000), (Beginning, 6_000), (TwinsList, 150), (Twin, 60_000)])?;
-    demand(run, &[(Pair, 150), (ArrivalCompared, 60_000), (FrameArrival, 70_000), (FrameCompared, 50_000)])
+    demand(run, &[(Pair, 150), (ArrivalCompared, 60_000), (FrameArrival, 70_000), (FrameCompared, 50_000), (CountCompared, 20_000)])
 }
 
 /// All 64 streams over many ticks.
@@ -234,7 +239,7 @@ fn of_many_streams_in_long_lists(run: &mut Run) -> Result<(), String> {
     run.demand_none(Seen::Shown(Link(Failed)))?;
     demand(run, &[(SentInTime, 100_000), (Conforming, 60_000), (ConformingAfterFirst, 2_000)])?;
     demand(run, &[(SentAsNext, 3_000), (SentAsLast, 40_000), (Beginning, 1_500), (BeginningAfterFirst, 500)])?;
-    demand(run, &[(Pair, 80), (ArrivalCompared, 2_000), (FrameArrival, 60_000), (FrameCompared, 1_500)])
+    demand(run, &[(Pair, 80), (ArrivalCompared, 2_000), (FrameArrival, 60_000), (FrameCompared, 1_500), (CountAsked, 18_000)])
 }
 
 /// The model keeps the demand too; faults that cannot be seeded in the exports are seeded there.
@@ -248,7 +253,33 @@ fn of_the_model(run: &mut Run) -> Result<(), String> {
     demand(run, &[(SentInTime, 5_000), (Conforming, 3_000), (Pair, 100), (ArrivalCompared, 5_000)])?;
     demand(run, &[(FrameArrival, 10_000), (FrameBestEffort, 2_500), (FrameCompared, 8_000)])?;
     demand(run, &[(Withdrawal, 200), (Withdrawn, 500), (RefusedDraining, 500), (GrantedAgain, 100)])?;
+    demand(run, &[(CountAsked, 7_000), (CountShown, 2_000), (DiscardsTold, 4_000), (CountedAnew, 200), (CountCompared, 7_000)])?;
     demand(run, &[(ControlTick, 500), (ControlTransmit, 5_000)])
+}
+
+/// A port of another make, which refuses every withdrawal as if its stream were not reserved.
+fn refusing_withdrawals(call: &Given, port: &mut [u8], memory: &mut [u8]) -> Reply {
+    match call {
+        Call::Withdraw { .. } => Reply::refused(NOT_RESERVED),
+        _ => exports::call(call, port, memory),
+    }
+}
+
+/// What is claimed of counts goes by the replies: on a port that refuses a withdrawal which ours would grant, its stream's counts go on.
+fn of_counts_where_withdrawals_are_refused(run: &mut Run) -> Result<(), String> {
+    for _ in 0..run.scaled(100) {
+        let mut random = run.next_list();
+        let begin = a_port_to_open(&mut random, Side::Exports);
+        let events = write(&mut random, refusing_withdrawals, &begin, &WITHDRAWN);
+        let counts = (run.sides.counts)(&events).map_err(|broken| report(run, Side::Exports, &events, &broken))?;
+        let refused = events.iter().filter(|event| matches!(event.call, Call::Withdraw { .. })).count();
+        run.calls += events.len() as u64;
+        run.coverage.add(Seen::Refused(NOT_RESERVED), refused as u64);
+        counts.shown().into_iter().for_each(|(shown, times)| run.coverage.add(Seen::Shown(shown), times));
+    }
+    run.demand_none(Seen::Shown(CountedAnew))?;
+    run.demand(&[(Seen::Refused(NOT_RESERVED), 300)])?;
+    demand(run, &[(CountAsked, 700), (DiscardsTold, 300)])
 }
 
 /// Fails if lists showed a thing less often than is asked at full size.
@@ -300,7 +331,8 @@ fn hold_one(run: &mut Run, side: Side, events: &[Event]) -> Result<Found, String
     let found = (run.sides.check)(events).map_err(|broken| report(run, side, events, &broken))?;
     run.calls += events.len() as u64;
     let numbers = (run.sides.numbers)(events).map_err(|broken| report(run, side, events, &broken))?;
-    for (shown, times) in found.shown().into_iter().chain(numbers.shown()) {
+    let counts = (run.sides.counts)(events).map_err(|broken| report(run, side, events, &broken))?;
+    for (shown, times) in found.shown().into_iter().chain(numbers.shown()).chain(counts.shown()) {
         run.coverage.add(Seen::Shown(shown), times);
     }
     Ok(found)
@@ -313,13 +345,15 @@ fn hold_pair(run: &mut Run, random: &mut Random, side: Side, events: &[Event]) -
     let other = alike::write(random, run.sides.play(side), &begin, events, stream);
     (run.sides.check)(&other).map_err(|broken| report(run, side, &other, &broken))?;
     (run.sides.numbers)(&other).map_err(|broken| report(run, side, &other, &broken))?;
+    (run.sides.counts)(&other).map_err(|broken| report(run, side, &other, &broken))?;
     run.calls += other.len() as u64;
     match (run.sides.pair)(events, &other, stream).map_err(|words| format!("{}, {side}: {words}", run.place))? {
-        Some(Alike { arrivals, frames, withdrawals }) => {
+        Some(Alike { arrivals, frames, withdrawals, counts }) => {
             run.coverage.count(Seen::Shown(Pair));
             run.coverage.add(Seen::Shown(ArrivalCompared), arrivals);
             run.coverage.add(Seen::Shown(FrameCompared), frames);
             run.coverage.add(Seen::Shown(WithdrawalCompared), withdrawals);
+            run.coverage.add(Seen::Shown(CountCompared), counts);
         }
         None => run.coverage.count(Seen::Shown(PairApart)),
     }

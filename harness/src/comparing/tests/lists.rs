@@ -195,7 +195,7 @@ fn mixture(run: &mut Run) -> Result<(), String> {
     run.demand(&[(Seen::BestEffort, 3_000), (Seen::SentFromBestEffort, 1_000), (Seen::Refused(BEST_EFFORT_EXCEEDED), 1_000)])?;
     run.demand(&[(Seen::Bound, 1_000), (Seen::FrameArrived, 2_000), (Seen::FrameBestEffort, 5_000)])?;
     run.demand(&[(Seen::Withdrawn, 800), (Seen::Freed, 600), (Seen::GrantedAgain, 60), (Seen::Refused(DRAINING), 2_000)])?;
-    demand_registers(run, 100)
+    demand_registers(run, 60)
 }
 
 /// A demand for each of the three places.

@@ -2,12 +2,14 @@
 
 use crate::comparing::broken;
 use crate::comparing::compared::Compared;
+use crate::comparing::counts::Counting;
 use crate::comparing::coverage::Seen;
 use crate::comparing::profiles::{any_profile, few_ticks};
 use crate::comparing::registers::EVERY_COUNT;
 use crate::comparing::shapes::{any_fit, any_open, bindings_of_every_sort, extreme, SHAPES};
 use crate::comparing::sides::Side;
 use crate::comparing::test::{Kind, Run, Test};
+use crate::comparing::tests::counts::OF_COUNTS;
 use crate::comparing::tests::each_call::{try_each_call, try_lengths, try_shape};
 use crate::comparing::tests::lists::{an_open_port, any_port, play, Plan};
 use crate::comparing::tests::register_lists::demand_registers;
@@ -50,7 +52,9 @@ fn as_the_call_on_fit_records(run: &mut Run) -> Result<(), String> {
     run.demand(&[(Seen::Bound, 3_000), (Seen::FrameArrived, 3_000), (Seen::FrameBestEffort, 5_000)])?;
     run.demand(&[(Seen::Withdrawn, 10_000), (Seen::Freed, 4_000), (Seen::FrameRefused(DRAINING), 500)])?;
     run.demand(&OF_DRAINING.map(|seen| (seen, 300)))?;
-    run.demand(&EVERY_COUNT.map(|(count, _)| (Seen::CountWrapped(count), 1_000)))?;
+    run.demand(&EVERY_COUNT.map(|count| (Seen::CountWrapped(count), 1_000)))?;
+    run.demand(&OF_COUNTS.map(|counting| (Seen::Counting(counting), 300)))?;
+    run.demand(&[Counting::Zeroed, Counting::KeptWhenRefused, Counting::KeptWhenFreed].map(|kept| (Seen::Counting(kept), 1_000)))?;
     demand_registers(run, 1_000)
 }
 

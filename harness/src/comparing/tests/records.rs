@@ -4,12 +4,14 @@ use crate::call::Call;
 use crate::comparing::broken::{Breach, OF_BINDINGS, OF_FRAMES, OF_OPEN_PORTS, OF_QUEUES, OF_STREAMS};
 use crate::comparing::calls::each_call;
 use crate::comparing::compared::Compared;
+use crate::comparing::counts::Counting;
 use crate::comparing::coverage::Seen;
 use crate::comparing::fit::Octets;
 use crate::comparing::registers::{is_outside, EVERY_COUNT};
 use crate::comparing::shapes::{any_fit, any_open, bindings_of_every_sort, near_fit, sparse, zeros_and_ones};
 use crate::comparing::sides::Side;
 use crate::comparing::test::{Kind, Run, Test};
+use crate::comparing::tests::counts::{OF_COUNTS, QUESTIONS};
 use crate::comparing::tests::each_call::{try_lengths, try_shape};
 use crate::comparing::tests::register_lists::demand_registers;
 use crate::comparing::tests::registers::OF_ACCESSES;
@@ -63,7 +65,9 @@ fn fit_records(run: &mut Run) -> Result<(), String> {
     run.demand(&[(Seen::Bound, 500), (Seen::FrameArrived, 400), (Seen::FrameBestEffort, 1_000)])?;
     run.demand(&[(Seen::Withdrawn, 2_000), (Seen::Freed, 500), (Seen::DrainingEndedByOpen, 500), (Seen::FrameRefused(DRAINING), 100)])?;
     run.demand(&OF_DRAINING.map(|seen| (seen, 50)))?;
-    run.demand(&EVERY_COUNT.map(|(count, _)| (Seen::CountWrapped(count), 200)))?;
+    run.demand(&EVERY_COUNT.map(|count| (Seen::CountWrapped(count), 200)))?;
+    run.demand(&OF_COUNTS.map(|counting| (Seen::Counting(counting), 40)))?;
+    run.demand(&[Counting::Zeroed, Counting::KeptWhenRefused, Counting::KeptWhenFreed].map(|kept| (Seen::Counting(kept), 300)))?;
     run.demand(&[(Seen::OtherMarkCleared, 100), (Seen::WriteRefused(PORT_CLOSED), 100)])?;
     demand_registers(run, 100)
 }
@@ -104,6 +108,7 @@ fn lengths(run: &mut Run) -> Result<(), String> {
     try_lengths(run, 8, |run, _, octets| Compared::guarded(SIDES, run, &octets.record, &octets.memory))?;
     run.demand(&[MEMORY_SHORT, RECORD_UNFIT, PORT_CLOSED].map(|refusal| (Seen::Refused(refusal), 100)))?;
     run.demand(&OF_ACCESSES.map(|seen| (seen, 10)))?;
+    run.demand(&QUESTIONS.map(|counting| (Seen::Counting(counting), 40)))?;
     run.demand(&[(Seen::Opened, 40), (Seen::Ticked, 30), (Seen::Withdrawn, 30), (Seen::Freed, 10)])
 }
 
@@ -157,12 +162,13 @@ fn break_once(run: &mut Run, breach: &Breach, site: usize, open: bool) -> Result
     expect_unfit(run, &past, &after, !broken[1].is_empty())
 }
 
-/// Each call, on the same octets, is refused with 19 on both sides, or is not; 26 comes before that, and a lookup takes a record of any content.
+/// Each call, on the same octets, is refused with 19 on both sides, or is not; 26 comes before that, and a lookup and a question for a stream's counts
+/// take a record of any content.
 fn expect_unfit(run: &mut Run, octets: &Octets, calls: &[Call], unfit: bool) -> Result<(), String> {
     run.coverage.count(if unfit { Seen::UnfitRecord } else { Seen::FitRecord });
     let mut compared = Compared::guarded(SIDES, run, &octets.record, &octets.memory);
     for call in calls {
-        let unfit = unfit && !is_outside(call) && !matches!(call, Call::Lookup { .. });
+        let unfit = unfit && !is_outside(call) && !matches!(call, Call::Lookup { .. } | Call::StreamCounts { .. });
         let words = if unfit { "19" } else { "anything but 19" };
         compared.lend_again(&octets.record, &octets.memory);
         compared.expect(run, call, |reply| (reply.refusal == RECORD_UNFIT) == unfit, words)?;

@@ -1,14 +1,18 @@
 //! The kind `registers`, lists: reads and writes of registers beside all other calls, control writes held against the named calls, and the registers
 //! against what a test tracks itself by the replies.
 
+use std::array;
+
 use crate::call::{Call, Reply};
 use crate::comparing::calls::{Profile, Weights};
 use crate::comparing::compared::{Compared, Step};
+use crate::comparing::counts::{any_choice, Counting};
 use crate::comparing::coverage::{prior_waits, Seen};
 use crate::comparing::fit::Octets;
+use crate::comparing::frames::stream_of;
 use crate::comparing::profiles::{any_profile, REGISTERS};
 use crate::comparing::random::Random;
-use crate::comparing::registers::{ticks, Held, CONTROL, EVERY_COUNT, FLAGS, MASK};
+use crate::comparing::registers::{ticks, Held, CHOICE, CONTROL, EVERY_COUNT, FLAGS, MASK};
 use crate::comparing::shapes::{any_open, extreme};
 use crate::comparing::sides::Side;
 use crate::comparing::stated::BOTH_SORTS;
@@ -16,6 +20,7 @@ use crate::comparing::test::{Run, Test};
 use crate::comparing::tests::lists::{a_closed_port, an_open_port, any_port, never_met_from_opening, play, Plan};
 use crate::comparing::tests::registers::{each_flag_and_count, read, test, value, write, ZEROS};
 use crate::layout;
+use crate::model::port::STREAMS;
 use crate::model::refusal::*;
 
 /// The tests of this file.
@@ -86,12 +91,14 @@ fn by_both(run: &mut Run, random: &mut Random, side: Side, begin: &Octets, profi
     Ok(())
 }
 
-/// Flags, mask and counts as a test tracks them by calls and replies alone, but for a purge in a control write with both bits, which the record
-/// before it shows.
+/// Flags, mask, choice and counts, accepted and discarded of each stream, as a test tracks them by calls and replies alone, but for a purge in a
+/// control write with both bits and the stream that a frame is bound to, which the record before them shows.
 struct Tracked {
     flags: [bool; 3],
     mask: u32,
-    counts: [u32; 3],
+    sent: u32,
+    choice: u32,
+    counts: [[u32; 2]; STREAMS],
     open: bool,
 }
 
@@ -99,54 +106,89 @@ impl Tracked {
     /// What a port holds.
     fn of(port: &[u8]) -> Tracked {
         let held = Held::of(port).expect("the port is long enough");
-        Tracked { flags: held.marks.map(|mark| mark == 1), mask: held.mask, counts: held.counts, open: port[layout::OPEN] == 1 }
+        let Held { marks, mask, sent, choice, .. } = held;
+        let counts = array::from_fn(|stream| held.counts_of(stream));
+        Tracked { flags: marks.map(|mark| mark == 1), mask, sent, choice, counts, open: port[layout::OPEN] == 1 }
     }
 
-    /// Follows a call by its reply; the record before it says whether frames waited in prior.
-    fn follow(&mut self, call: &Call, reply: &Reply, prior_waited: bool) {
+    /// A port that was just opened.
+    fn opened() -> Tracked {
+        Tracked { flags: [false; 3], mask: 0, sent: 0, choice: 0, counts: [[0; 2]; STREAMS], open: true }
+    }
+
+    /// Follows a call by its reply; the record before it says whether frames waited in prior, and which stream a frame is bound to.
+    fn follow(&mut self, call: &Call, reply: &Reply, before: &Before) {
         match (call, reply.refusal) {
-            (Call::Open { .. }, 0) => *self = Tracked { flags: [false; 3], mask: 0, counts: [0; 3], open: true },
-            (Call::Arrive { .. } | Call::BestEffort { .. } | Call::Frame { .. }, 0) => self.count(0),
+            (Call::Open { .. }, 0) => *self = Tracked::opened(),
+            (Call::Arrive { .. } | Call::Frame { .. }, 0) => {
+                before.stream.into_iter().for_each(|stream| one_more(&mut self.counts[stream][0]))
+            }
             (_, 14) => {
                 self.flags[0] = true;
-                self.count(1);
+                before.stream.into_iter().for_each(|stream| one_more(&mut self.counts[stream][1]));
             }
+            (Call::Withdraw { stream }, 0) => self.counts[usize::from(*stream)] = [0; 2],
             (Call::Transmit, 0) => self.transmitted(reply),
             (Call::WriteRegister { offset: FLAGS, value }, 0) => {
                 self.flags.iter_mut().enumerate().for_each(|(bit, flag)| *flag = *flag && value >> bit & 1 == 0);
             }
             (Call::WriteRegister { offset: MASK, value }, 0) => self.mask = *value,
+            (Call::WriteRegister { offset: CHOICE, value }, 0) => self.choice = *value,
             (Call::WriteRegister { offset: CONTROL, value }, 0) if value & 2 != 0 => self.transmitted(reply),
             _ => (),
         }
-        self.flags[1] |= reply.refusal == 0 && prior_waited && ticks(call);
-    }
-
-    /// A count with one more.
-    fn count(&mut self, number: usize) {
-        self.counts[number] = (u64::from(self.counts[number]) + 1).rem_euclid(1 << 32) as u32;
+        self.flags[1] |= reply.refusal == 0 && before.prior_waited && ticks(call);
     }
 
     /// A granted Transmit.
     fn transmitted(&mut self, reply: &Reply) {
         match reply.first {
             254 => self.flags[2] = true,
-            _ => self.count(2),
+            _ => one_more(&mut self.sent),
         }
     }
 
     /// What a read of each register must reply.
-    fn registers(&self) -> [(u32, u32); 8] {
+    fn registers(&self) -> [(u32, u32); 9] {
         let flags = self.flags.iter().rev().fold(0, |bits, &flag| bits << 1 | u32::from(flag));
         let line = if flags & self.mask == 0 { 0 } else { 2 };
-        let [accepted, discarded, sent] = self.counts;
+        let [accepted, discarded] = if self.choice > 63 { [0; 2] } else { self.counts[self.choice as usize] };
         let status = u32::from(self.open) + line;
-        [(0, 0), (4, status), (8, flags), (12, self.mask), (16, accepted), (20, discarded), (24, sent), (28, 0)]
+        [(0, 0), (4, status), (8, flags), (12, self.mask), (16, accepted), (20, discarded), (24, self.sent), (28, self.choice), (32, 0)]
+    }
+
+    /// What a question for the counts of a stream must reply.
+    fn of_stream(&self, stream: usize) -> Reply {
+        let [accepted, discarded] = self.counts[stream];
+        Reply::granted(accepted, discarded)
     }
 }
 
-/// In lists from an opening, and from any port, the counts are those that the test keeps itself from the replies, each flag is what it tracked, and
-/// the line is up by flags and mask.
+/// What a test reads of the record before a call: whether frames wait in prior, and the stream on which the call's frame would arrive.
+struct Before {
+    prior_waited: bool,
+    stream: Option<usize>,
+}
+
+impl Before {
+    /// What is read before this call.
+    fn of(call: &Call, record: &[u8]) -> Before {
+        let stream = match call {
+            Call::Arrive { stream, .. } => Some(usize::from(*stream)),
+            Call::Frame { octets, .. } => stream_of(record, octets),
+            _ => None,
+        };
+        Before { prior_waited: prior_waits(record), stream }
+    }
+}
+
+/// One more, modulo 4,294,967,296.
+fn one_more(count: &mut u32) {
+    *count = (u64::from(*count) + 1).rem_euclid(1 << 32) as u32;
+}
+
+/// In lists from an opening, and from any port, the counts of each stream are those that the test keeps itself from the replies, those of the chosen
+/// one are shown, each flag is what it tracked, and the line is up by flags and mask.
 fn registers_as_tracked_by_replies(run: &mut Run) -> Result<(), String> {
     for begin in [a_closed_port, an_open_port] {
         for sides in BOTH_SORTS {
@@ -159,7 +201,9 @@ fn registers_as_tracked_by_replies(run: &mut Run) -> Result<(), String> {
         }
     }
     run.demand(&[(Seen::Tracked, 20_000), (Seen::LineUp, 5_000), (Seen::LineDown, 5_000), (Seen::ControlDidBoth, 1_000)])?;
-    run.demand(&EVERY_COUNT.map(|(count, _)| (Seen::CountWrapped(count), 20)))?;
+    run.demand(&[Counting::Shown, Counting::NotShown, Counting::Asked, Counting::AskedUnchosen].map(|met| (Seen::Counting(met), 2_000)))?;
+    run.demand(&[(Seen::Counting(Counting::Zeroed), 100), (Seen::FrameArrived, 1_000)])?;
+    run.demand(&EVERY_COUNT.map(|count| (Seen::CountWrapped(count), 20)))?;
     each_flag_and_count(run, 300, 1_000)
 }
 
@@ -173,15 +217,24 @@ fn tracked_list(run: &mut Run, random: &mut Random, sides: [Side; 2], begin: &Oc
             _ => profile.step(random, compared.record()),
         };
         let Step::Call(call) = step else { continue };
-        let prior_waited = prior_waits(compared.record());
+        let before = Before::of(&call, compared.record());
         let reply = compared.call(run, &call)?;
-        tracked.follow(&call, &reply, prior_waited);
+        tracked.follow(&call, &reply, &before);
         if random.chance(20) {
-            run.coverage.count(Seen::Tracked);
-            for (offset, register) in tracked.registers() {
-                compared.expect(run, &read(offset), |reply| *reply == value(register), &format!("{} as tracked", value(register)))?;
-            }
+            let stream = any_choice(random, compared.record()) & 63;
+            held_as_tracked(run, &mut compared, &tracked, stream as u8)?;
         }
+    }
+    Ok(())
+}
+
+/// Reads all registers, and asks for the counts of a stream.
+fn held_as_tracked(run: &mut Run, compared: &mut Compared, tracked: &Tracked, stream: u8) -> Result<(), String> {
+    run.coverage.count(Seen::Tracked);
+    let due = tracked.of_stream(usize::from(stream));
+    compared.expect(run, &Call::StreamCounts { stream }, |reply| *reply == due, &format!("{due} as tracked"))?;
+    for (offset, register) in tracked.registers() {
+        compared.expect(run, &read(offset), |reply| *reply == value(register), &format!("{} as tracked", value(register)))?;
     }
     Ok(())
 }
@@ -191,6 +244,7 @@ pub fn demand_registers(run: &Run, times: u64) -> Result<(), String> {
     run.demand(&[(Seen::LineUp, times), (Seen::LineDown, times), (Seen::RegisterRead, 4 * times), (Seen::ControlDidNeither, times / 4)])?;
     run.demand(&[(Seen::ControlTicked, times), (Seen::ControlTransmitted, times), (Seen::ControlDidBoth, times)])?;
     run.demand(&[(Seen::FlagsWritten, times), (Seen::MaskWritten, times), (Seen::OtherRegisterWritten, times)])?;
+    run.demand(&[Counting::Chosen, Counting::ChosenAbove].map(|chosen| (Seen::Counting(chosen), times / 4)))?;
     run.demand(&[(Seen::ReadRefused(REGISTER_OFFSET), times / 4), (Seen::WriteRefused(REGISTER_OFFSET), times / 4)])?;
     each_flag_and_count(run, times / 4, times)
 }
@@ -210,7 +264,7 @@ fn registers_in_lists_from_any_port(run: &mut Run) -> Result<(), String> {
         let profile = |random: &mut Random| Profile { streams: random.pick(&[6, 64]), ..REGISTERS };
         play(run, sides, &Plan { lists: 300, calls: 150, begin: an_open_port }, profile)?;
     }
-    run.demand(&EVERY_COUNT.map(|(count, _)| (Seen::CountWrapped(count), 100)))?;
+    run.demand(&EVERY_COUNT.map(|count| (Seen::CountWrapped(count), 100)))?;
     run.demand(&[(Seen::OtherMarkCleared, 200)])?;
     demand_registers(run, 500)
 }

@@ -1,11 +1,13 @@
 //! The kind `registers`, reads and writes with the replies and octets that document 02 gives, on ports of any content and length; lists with them are
-//! in `register_lists`.
+//! in `register_lists`, and what is said of the counts of each stream in `counts`: here stream 5 is chosen, where counts are read.
 
 use crate::call::{Call, Reply};
 use crate::comparing::compared::Compared;
 use crate::comparing::coverage::Seen;
 use crate::comparing::fit::Octets;
-use crate::comparing::registers::{is_outside, CONTROL, EVERY_COUNT, EVERY_FLAG, FLAGS, MASK, STATUS, WRONG_OFFSETS};
+use crate::comparing::registers::{
+    is_outside, ACCEPTED, CHOICE, CONTROL, DISCARDED, EVERY_COUNT, EVERY_FLAG, FLAGS, MASK, SENT, STATUS, WRONG_OFFSETS,
+};
 use crate::comparing::shapes::with_lengths;
 use crate::comparing::sides::Side;
 use crate::comparing::stated::{Stated, BOTH_SORTS};
@@ -33,10 +35,6 @@ pub const fn test(name: &'static str, body: fn(&mut Run) -> Result<(), String>) 
     Test { kind: Kind::Registers, name, body }
 }
 
-/// The offsets of the three counts.
-const ACCEPTED: u32 = 16;
-const DISCARDED: u32 = 20;
-const SENT: u32 = 24;
 /// The octets of a lent port, and those of its record, after which its register block begins.
 const PORT: usize = 1_616;
 const RECORD: usize = 1_088;
@@ -65,7 +63,9 @@ pub const fn value(value: u32) -> Reply {
 }
 
 /// What a list does with stream 5 (P 200) on a port with L 2,620 and K 1, step by step, and what each step replies.
-const LIST: [(Call, Reply); 51] = [
+const LIST: [(Call, Reply); 53] = [
+    (write(CHOICE, 5), ZEROS),
+    (read(CHOICE), value(5)),
     (read(CONTROL), ZEROS),
     (read(STATUS), value(1)),
     (read(FLAGS), ZEROS),
@@ -76,7 +76,7 @@ const LIST: [(Call, Reply); 51] = [
     (arrive(120, 7), Reply::granted(1, 80)),
     (read(ACCEPTED), value(1)),
     (Call::BestEffort { charge: 2_020, tag: 9 }, Reply::granted(2_020, 0)),
-    (read(ACCEPTED), value(2)),
+    (read(ACCEPTED), value(1)),
     (arrive(201, 1), Reply::refused(14)),
     (read(FLAGS), value(1)),
     (read(DISCARDED), value(1)),
@@ -112,7 +112,7 @@ const LIST: [(Call, Reply); 51] = [
     (read(MASK), value(0xffff_fff9)),
     (read(STATUS), value(1)),
     (read(CONTROL), ZEROS),
-    (read(ACCEPTED), value(3)),
+    (read(ACCEPTED), value(2)),
     (read(DISCARDED), value(1)),
     (read(SENT), value(2)),
     (Call::Open { link: 2_620, delay: 1 }, Reply::refused(2)),
@@ -120,7 +120,7 @@ const LIST: [(Call, Reply); 51] = [
 ];
 
 /// The same port after the host has closed it, and opened again.
-const CLOSED: [(Call, Reply); 24] = [
+const CLOSED: [(Call, Reply); 26] = [
     (write(CONTROL, 1), Reply::refused(1)),
     (write(CONTROL, 2), Reply::refused(1)),
     (write(CONTROL, 3), Reply::refused(1)),
@@ -138,6 +138,7 @@ const CLOSED: [(Call, Reply); 24] = [
     (read(SENT), value(2)),
     (Call::Open { link: 2_103, delay: 1 }, Reply::refused(3)),
     (read(MASK), value(3)),
+    (read(CHOICE), value(5)),
     (Call::Open { link: 2_620, delay: 1 }, Reply::granted(600, 0)),
     (read(STATUS), value(1)),
     (read(FLAGS), ZEROS),
@@ -145,6 +146,7 @@ const CLOSED: [(Call, Reply); 24] = [
     (read(ACCEPTED), ZEROS),
     (read(DISCARDED), ZEROS),
     (read(SENT), ZEROS),
+    (read(CHOICE), ZEROS),
 ];
 
 /// A list whose replies are written down: every register that holds something, the line by flags and mask, every sort of write, a closed port and
@@ -165,14 +167,15 @@ fn registers_of_a_list(run: &mut Run) -> Result<(), String> {
 pub fn each_flag_and_count(run: &Run, flags: u64, counts: u64) -> Result<(), String> {
     run.demand(&EVERY_FLAG.map(|(flag, _)| (Seen::FlagSet(flag), flags)))?;
     run.demand(&EVERY_FLAG.map(|(flag, _)| (Seen::FlagCleared(flag), flags)))?;
-    run.demand(&EVERY_COUNT.map(|(count, _)| (Seen::Counted(count), counts)))
+    run.demand(&EVERY_COUNT.map(|count| (Seen::Counted(count), counts)))
 }
 
-/// A Frame counts by its reply, whatever it becomes; other refusals, 13, 15, 16, 17, 20 and 25 among them, set no flag and no count.
+/// A Frame counts as the call that it becomes, by its reply; refusals but 14, 13, 15, 16, 17, 20 and 25 among them, set no flag and no count.
 fn registers_of_frames_and_refusals(run: &mut Run) -> Result<(), String> {
     for sides in BOTH_SORTS {
         let mut list = Stated::opened(run, sides, 2_704, 1, &[(5, 200), (6, 84)])?;
         list.bound(5, ([2; 6], 7))?;
+        list.call(write(CHOICE, 5), ZEROS)?;
         let octets = |vid: u8, length: usize| {
             let mut octets = [&[2; 6][..], &[0; 6], &[0x81, 0x00, 0x00, vid]].concat();
             octets.resize(length, 0);
@@ -180,15 +183,15 @@ fn registers_of_frames_and_refusals(run: &mut Run) -> Result<(), String> {
         };
         list.call(octets(7, 60), Reply::granted(1, 116))?;
         list.call(octets(8, 60), Reply::granted(84, 0))?;
-        counted(&mut list, 0, [2, 0, 0])?;
+        counted(&mut list, 0, [1, 0, 0])?;
         list.call(octets(7, 177), Reply::refused(14))?;
-        counted(&mut list, 1, [2, 1, 0])?;
+        counted(&mut list, 1, [1, 1, 0])?;
         list.withdrawn(6)?;
         let refused = [(octets(7, 59), 17), (octets(8, 1_997), 17), (octets(8, 1_996), 0), (octets(8, 293), 16), (octets(7, 60), 14)];
         for (call, refusal) in refused {
             list.call(call, if refusal == 0 { Reply::granted(2_104, 0) } else { Reply::refused(refusal) })?;
         }
-        counted(&mut list, 1, [3, 2, 0])?;
+        counted(&mut list, 1, [1, 2, 0])?;
         let of_stream = |stream: u8, charge: u32| Call::Arrive { stream, charge, tag: 1 };
         let refused = [(of_stream(6, 84), 25), (of_stream(7, 84), 12), (of_stream(64, 84), 5), (of_stream(5, 83), 13)];
         let refused =
@@ -196,14 +199,14 @@ fn registers_of_frames_and_refusals(run: &mut Run) -> Result<(), String> {
         for (call, refusal) in refused {
             list.call(call, Reply::refused(refusal))?;
         }
-        counted(&mut list, 1, [3, 2, 0])?;
+        counted(&mut list, 1, [1, 2, 0])?;
         full_queues_count_nothing(&mut list)?;
     }
     let met = [DISCARD, BEST_EFFORT_FULL, BEST_EFFORT_EXCEEDED, FRAME_LENGTH, QUEUE_FULL].map(Seen::FrameRefused);
     met.into_iter().try_for_each(|seen| demand_met(run, seen))
 }
 
-/// Flags and counts, by reads.
+/// Flags, the counts of the chosen stream and that of frames sent, by reads.
 fn counted(list: &mut Stated, flags: u32, counts: [u32; 3]) -> Result<(), String> {
     list.call(read(FLAGS), value(flags))?;
     [ACCEPTED, DISCARDED, SENT].into_iter().zip(counts).try_for_each(|(offset, count)| list.call(read(offset), value(count)))
@@ -226,11 +229,11 @@ fn full_queues_count_nothing(list: &mut Stated) -> Result<(), String> {
     for (call, refusal) in [(frame(7), 20), (arrive(84, 1), 20), (frame(8), 15), (Call::BestEffort { charge: 84, tag: 1 }, 15)] {
         list.call(call, Reply::refused(refusal))?;
     }
-    counted(list, 1, [3, 2, 0])
+    counted(list, 1, [1, 2, 0])
 }
 
 /// Accesses to registers, and whether a closed port refuses them: 1 is asked of a control write with bit 0 or 1 alone.
-const ACCESSES: [(Call, bool); 20] = [
+const ACCESSES: [(Call, bool); 23] = [
     (read(CONTROL), false),
     (read(STATUS), false),
     (read(MASK), false),
@@ -245,6 +248,9 @@ const ACCESSES: [(Call, bool); 20] = [
     (write(FLAGS, 7), false),
     (write(MASK, 1), false),
     (write(ACCEPTED, 1), false),
+    (write(CHOICE, 64), false),
+    (read(CHOICE), false),
+    (read(DISCARDED), false),
     (write(60, 3), false),
     (read(1), false),
     (read(64), false),
@@ -338,7 +344,7 @@ fn registers_at_every_offset(run: &mut Run) -> Result<(), String> {
                 let open = if offset == STATUS { u32::from(!close) } else { 0 };
                 list.call(read(offset), of(value(open)))?;
                 list.call(write(offset, 0xffff_fffc), of(ZEROS))?;
-                let kept = if offset == MASK { 0xffff_fffc } else { open };
+                let kept = if [MASK, CHOICE].contains(&offset) { 0xffff_fffc } else { open };
                 list.call(read(offset), of(value(kept)))?;
             }
         }
@@ -363,12 +369,13 @@ fn registers_of_ports_of_every_length(run: &mut Run) -> Result<(), String> {
     run.demand(&[(Seen::ReadRefused(RECORD_UNFIT), 2_000), (Seen::WriteRefused(RECORD_UNFIT), 3_000), (Seen::MaskWritten, 8)])
 }
 
-/// What an access that is granted and makes no call leaves of a port: a write of the mask its four octets, one of the flags a zero for each one, and
-/// every other access all as it was.
+/// What an access that is granted and makes no call leaves of a port: a write of the mask or of the choice its four octets, one of the flags a zero
+/// for each one, and every other access all as it was.
 fn after_access(port: &[u8], call: &Call) -> Vec<u8> {
     let mut after = port.to_vec();
     match *call {
         Call::WriteRegister { offset: MASK, value } => after[RECORD + 4..RECORD + 8].copy_from_slice(&value.to_be_bytes()),
+        Call::WriteRegister { offset: CHOICE, value } => after[RECORD + 12..RECORD + 16].copy_from_slice(&value.to_be_bytes()),
         Call::WriteRegister { offset: FLAGS, value } => (0..3).filter(|bit| value >> bit & 1 == 1).for_each(|bit| after[RECORD + bit] = 0),
         _ => (),
     }
@@ -382,7 +389,7 @@ fn register_writes_change_what_is_named(run: &mut Run) -> Result<(), String> {
             let mut random = run.next_record("octets that accesses change");
             let octets = any_port(&mut random);
             let mut compared = Compared::guarded(sides, run, &octets.record, &octets.memory);
-            let values = [0, 1, 2, 4, 7, u32::MAX, random.number()];
+            let values = [0, 1, 2, 4, 7, 63, 64, u32::MAX, random.number()];
             let writes = (1..16).flat_map(|register| values.map(|value| write(4 * register, value)));
             for call in writes.chain((0..16).map(|register| read(4 * register))).chain([write(CONTROL, 0), write(CONTROL, u32::MAX - 3)]) {
                 let after = after_access(compared.record(), &call);
@@ -401,11 +408,14 @@ fn register_writes_change_what_is_named(run: &mut Run) -> Result<(), String> {
 fn counts_wrap_and_marks_of_any_content(run: &mut Run) -> Result<(), String> {
     for sides in BOTH_SORTS {
         let mut list = Stated::opened(run, sides, 2_620, 1, &[(5, 200)])?;
+        list.call(write(CHOICE, 5), ZEROS)?;
         let begin = list.octets();
         for (count, mark) in (0..=255).map(|mark| ([u32::MAX, u32::MAX - 1, 255, 65_535, 0x00ff_ffff][mark as usize % 5], mark)) {
             let mut octets = begin.clone();
             octets.record[RECORD..RECORD + 3].fill(mark);
-            [8, 16, 20].iter().for_each(|at| octets.record[RECORD + at..RECORD + at + 4].copy_from_slice(&count.to_be_bytes()));
+            [8, 16 + 8 * 5, 20 + 8 * 5]
+                .iter()
+                .for_each(|at| octets.record[RECORD + at..RECORD + at + 4].copy_from_slice(&count.to_be_bytes()));
             octets.record[RECORD + 4..RECORD + 8].fill(255);
             list.lend_again(&octets);
             let (next, up) = (count.wrapping_add(1), if mark == 1 { 7 } else { 0 });
@@ -422,7 +432,7 @@ fn counts_wrap_and_marks_of_any_content(run: &mut Run) -> Result<(), String> {
             list.call(read(STATUS), value(3))?;
         }
     }
-    run.demand(&EVERY_COUNT.map(|(count, _)| (Seen::CountWrapped(count), 100)))
+    run.demand(&EVERY_COUNT.map(|count| (Seen::CountWrapped(count), 100)))
 }
 
 /// A granted Open writes zeros to the whole block and nothing past it, whatever stood there; a refused one nothing. Its emptying is no purge.

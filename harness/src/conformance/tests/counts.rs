@@ -189,7 +189,7 @@ fn kind(event: &Call) -> &'static str {
         Call::Withdraw { .. } => "withdraw",
         Call::Bind { .. } | Call::Frame { .. } => unreachable!("no event of a capture is a Bind or a Frame"),
         Call::ReadRegister { .. } | Call::WriteRegister { .. } => unreachable!("no event of a capture names a register"),
-        Call::Lookup { .. } => unreachable!("no event of a capture is a lookup"),
+        Call::Lookup { .. } | Call::StreamCounts { .. } => unreachable!("no event of a capture asks of a port"),
     }
 }
 
