@@ -21,7 +21,7 @@ use harness::comparing::tests::lists::at_each_place;
 use harness::model;
 
 use super::Port;
-use crate::{Control, Controlled, Flags, Framed, Joined, Lookup, Queue, Refusal, Register, Sent};
+use crate::{Control, Controlled, Flags, Framed, Joined, Lookup, Queue, Refusal, Register, Sent, StreamCounts};
 
 /// The seed of the lists.
 const SEED: u64 = 1;
@@ -105,7 +105,7 @@ fn pairs_looked_up() -> Result<(), String> {
     run.demand(&looked)
 }
 
-/// Registers that are read and written again and again, beside calls that raise each flag and each counter.
+/// Registers that are read and written again and again, beside calls that raise each flag and each count.
 #[test]
 fn registers_accessed() -> Result<(), String> {
     let run = play("registers_accessed", 16, 600, |_| REGISTERS)?;
@@ -236,7 +236,17 @@ fn through(port: &mut Port, call: &Call) -> Reply {
         Call::ReadRegister { offset } => numbers(read(port, offset), |register| (register, 0)),
         Call::WriteRegister { offset, value } => numbers(write(port, offset, value), |numbers| numbers),
         Call::Lookup { ref address, vid } => numbers(Ok(port.lookup(address, vid)), of_lookup),
+        Call::StreamCounts { stream } => numbers(stream_counts(port, stream), |counts| (counts.accepted, counts.discarded)),
     }
+}
+
+/// Asks for the counts of one stream, and where there is one for those of all, which must say the same.
+fn stream_counts(port: &Port, stream: u8) -> Result<StreamCounts, Refusal> {
+    let counts = port.counts_of(stream);
+    if let Some(among_all) = port.stream_counts().get(usize::from(stream)) {
+        assert_eq!(counts, Ok(*among_all), "{stream}");
+    }
+    counts
 }
 
 /// Reads by an offset, and where it is a register's by the method with its type, which must say the same.
@@ -255,9 +265,10 @@ fn of_register(port: &Port, register: Register) -> u32 {
         Register::Status => port.status().bits(),
         Register::Flags => port.flags().bits(),
         Register::Mask => port.mask().0,
-        Register::Accepted => port.counts().accepted,
-        Register::Discarded => port.counts().discarded,
-        Register::Sent => port.counts().sent,
+        Register::Accepted => port.chosen_counts().accepted,
+        Register::Discarded => port.chosen_counts().discarded,
+        Register::Sent => port.frames_sent(),
+        Register::Choice => port.choice(),
     }
 }
 
@@ -268,6 +279,7 @@ fn write(port: &mut Port, offset: u32, value: u32) -> Result<(u32, u32), Refusal
         Some(Register::Control) if control.bits() == value => return port.control(control).map(of_control),
         Some(Register::Flags) if flags.bits() == value => port.clear(flags),
         Some(Register::Mask) if flags.bits() == value => port.set_mask(flags),
+        Some(Register::Choice) => port.set_choice(value),
         _ => return port.write_register(offset, value),
     }
     Ok((0, 0))
