@@ -91,18 +91,31 @@ fn withdrawn_streams() -> Result<(), String> {
 /// Lookups of a bound pair and of all that is near to it, after each call of lists that bind and withdraw.
 #[test]
 fn pairs_looked_up() -> Result<(), String> {
-    let mut run = run("pairs_looked_up");
-    for _ in 0..8 {
-        let mut random = run.next_list();
-        let profile = once_opened(WITHDRAWING);
-        let mut both = Both::open(&mut run, &profile.open(&mut random, false)).expect("L and K are in their ranges");
-        both.play_list_with_lookups(&mut run, &mut random, &profile, 150);
-    }
+    let run = play_asking("pairs_looked_up", 8, 150, WITHDRAWING, lookups_near);
     run.demand_none(Seen::Lookup(Looked::Refused))?;
     let found = [Looked::Found, Looked::FoundDraining, Looked::NoneByVid, Looked::NoneByAddress, Looked::VidAbove];
     let passed = [Looked::PastSameAddress, Looked::PastDraining].into_iter().chain((0..ADDRESS_OCTETS).map(Looked::PastAddressOctet));
     let looked: Vec<_> = found.into_iter().chain(passed).map(|looked| (Seen::Lookup(looked), 100)).collect();
     run.demand(&looked)
+}
+
+/// The counts of streams at both ends and of numbers that are none, and all registers of the counts, after each call of lists that discard and
+/// withdraw.
+#[test]
+fn counts_asked_for() -> Result<(), String> {
+    let run = play_asking("counts_asked_for", 8, 300, WITHDRAWING, counts_of_some);
+    run.demand(&[(Seen::Refused(14), 50), (Seen::FrameRefused(14), 10), (Seen::FrameArrived, 50), (Seen::Withdrawn, 50)])
+}
+
+/// Questions for the counts of the streams at both ends, of any number, and of those that are no stream's, and for what a controller sees of them.
+fn counts_of_some(random: &mut Random, _: &[u8]) -> Vec<Call> {
+    let any = random.between(0..=u32::from(u8::MAX));
+    let offset = Register::Choice.offset();
+    let choice = Call::WriteRegister { offset, value: random.pick(&[0, 1, 62, 63, 64, any, u32::MAX]) };
+    let shown =
+        [Register::Accepted, Register::Discarded, Register::Choice].map(|register| Call::ReadRegister { offset: register.offset() });
+    let counts = [0, 1, 62, 63, 64, any as u8, u8::MAX].map(|stream| Call::StreamCounts { stream });
+    [choice].into_iter().chain(shown).chain(counts).collect()
 }
 
 /// Registers that are read and written again and again, beside calls that raise each flag and each count.
@@ -150,6 +163,26 @@ fn play(test: &'static str, lists: usize, calls: usize, profile: impl Fn(&mut Ra
     Ok(run)
 }
 
+/// Plays lists of calls of one profile, each from a granted Open on, and after each call questions that leave the record as it is.
+fn play_asking(
+    test: &'static str,
+    lists: usize,
+    calls: usize,
+    profile: Profile,
+    asked: impl Fn(&mut Random, &[u8]) -> Vec<Call>,
+) -> Run<'static> {
+    let (mut run, profile) = (run(test), once_opened(profile));
+    for _ in 0..lists {
+        let mut random = run.next_list();
+        let mut both = Both::open(&mut run, &profile.open(&mut random, false)).expect("L and K are in their ranges");
+        for _ in 0..calls {
+            both.play_list(&mut run, &mut random, &profile, 1);
+            asked(&mut random, &both.octets.record).iter().for_each(|call| both.play(&mut run, call));
+        }
+    }
+    run
+}
+
 /// The profile with the steps of a host that owns a port: it opens it once, and writes none of its octets.
 fn once_opened(profile: Profile) -> Profile {
     Profile { weights: Weights { open: 0, close: 0, ..profile.weights }, ..profile }
@@ -182,15 +215,6 @@ impl Both {
         for _ in 0..calls {
             let Step::Call(call) = profile.step(random, &self.octets.record) else { unreachable!("the host writes no octet") };
             self.play(run, &call);
-        }
-    }
-
-    /// Plays the calls of one list, and after each of them lookups near what is bound then.
-    fn play_list_with_lookups(&mut self, run: &mut Run, random: &mut Random, profile: &Profile, calls: usize) {
-        for _ in 0..calls {
-            self.play_list(run, random, profile, 1);
-            let lookups = lookups_near(random, &self.octets.record);
-            lookups.iter().for_each(|lookup| self.play(run, lookup));
         }
     }
 

@@ -5,14 +5,13 @@ use bunnysolder::{
     Control, Flags, Framed, Port, Purged, Queue, Refusal, Reserved, Sent, StreamCounts, LONGEST_FRAME, SHORTEST_FRAME, STREAMS,
 };
 
-use crate::{frame, joined, opened, refused, waiting, ADDRESS};
+use crate::{frame, joined, opened, refused, reserved, waiting, ADDRESS, STREAM};
 
-/// The streams at both ends, and one between them that most tests do not reserve.
+/// The streams at both ends; that of the cases is not reserved beside them in most tests.
 const FIRST: u8 = 0;
 const LAST: u8 = 63;
-const OTHER: u8 = 5;
 
-/// The offsets of the registers: accepted, discarded, frames sent and the choice.
+/// The offsets of the registers that show the counts of the chosen stream, and of the choice.
 const ACCEPTED: u32 = 16;
 const DISCARDED: u32 = 20;
 const CHOICE: u32 = 28;
@@ -138,7 +137,7 @@ fn a_choice_above_the_last_stream_shows_zeros() {
 fn writes_to_the_counts_do_nothing() {
     let mut port = counted();
     let before = port.stream_counts();
-    for choice in [u32::from(FIRST), u32::from(LAST), u32::from(OTHER), 64] {
+    for choice in [u32::from(FIRST), u32::from(LAST), u32::from(STREAM), 64] {
         port.set_choice(choice);
         for (offset, value) in [(ACCEPTED, 0), (ACCEPTED, u32::MAX), (DISCARDED, 0), (DISCARDED, u32::MAX)] {
             assert_eq!(port.write_register(offset, value), Ok((0, 0)));
@@ -151,7 +150,7 @@ fn writes_to_the_counts_do_nothing() {
 #[test]
 fn counts_of_no_stream_are_refused() {
     let port = counted();
-    assert_eq!(port.counts_of(OTHER), Ok(counts(0, 0)));
+    assert_eq!(port.counts_of(STREAM), Ok(counts(0, 0)));
     for stream in LAST + 1..=u8::MAX {
         refused(port.counts_of(stream), Refusal::StreamRange, 5);
     }
@@ -225,9 +224,9 @@ fn a_withdrawal_sets_both_counts_to_zero() {
 #[test]
 fn a_refused_withdrawal_leaves_the_counts() {
     let mut port = counted();
-    assert_eq!(port.reserve(OTHER, 84), Ok(Reserved { free: 116 }));
-    assert_eq!(port.withdraw(OTHER), Ok(()));
-    refused(port.withdraw(OTHER), Refusal::Draining, 25);
+    assert_eq!(port.reserve(STREAM, 84), Ok(Reserved { free: 116 }));
+    assert_eq!(port.withdraw(STREAM), Ok(()));
+    refused(port.withdraw(STREAM), Refusal::Draining, 25);
     refused(port.withdraw(64), Refusal::StreamRange, 5);
     refused(port.withdraw(64 + LAST), Refusal::StreamRange, 5);
     refused(port.withdraw(6), Refusal::NotReserved, 12);
@@ -258,7 +257,7 @@ fn draining_counts_nothing() {
 fn a_number_granted_again_counts_from_zero() {
     let mut port = counted();
     refused(port.reserve(LAST, 200), Refusal::ReservedAlready, 6);
-    refused(port.reserve(OTHER, 201), Refusal::ShareExceeded, 8);
+    refused(port.reserve(STREAM, 201), Refusal::ShareExceeded, 8);
     assert_eq!(port.counts_of(LAST), Ok(counts(2, 1)));
     assert_eq!(port.withdraw(LAST), Ok(()));
     (0..4).for_each(|_| assert!(port.tick().is_ok()));
@@ -275,6 +274,32 @@ fn each_port_has_its_own_counts() {
     refused(Port::open(2_103, 1), Refusal::LinkRange, 3);
     assert_eq!(other.stream_counts(), none_but([]));
     assert_eq!(port.counts_of(LAST), Ok(counts(2, 1)));
+}
+
+/// The example of docs/RULE.md, section 12.7, whose columns say what is read after each use.
+#[test]
+fn the_example_of_the_rule() {
+    let mut port = reserved();
+    assert_eq!((port.write_register(12, 5), port.write_register(CHOICE, 5)), (Ok((0, 0)), Ok((0, 0))));
+    for (tag, queue, left) in [(1, Queue::Current, 200), (2, Queue::Next, 200), (3, Queue::Last, 0)] {
+        assert_eq!(port.arrive(STREAM, 200, tag), joined(queue, left));
+    }
+    refused(port.arrive(STREAM, 84, 4), Refusal::Discard, 14);
+    assert_eq!([ACCEPTED, DISCARDED, 8, 4].map(|offset| port.read_register(offset)), [3, 1, 1, 3].map(Ok));
+    for (ones, flags) in [(6, 1), (1, 0)] {
+        assert_eq!((port.write_register(8, ones), port.read_register(8)), (Ok((0, 0)), Ok(flags)));
+    }
+    assert_eq!(port.read_register(4), Ok(1));
+    for (bits, reply) in [(3, (5, 1)), (1, (0, 0)), (1, (1, 200)), (2, (5, 3)), (2, (254, 0))] {
+        assert_eq!(port.write_register(0, bits), Ok(reply));
+    }
+    assert_eq!((port.flags(), port.read_register(24)), (Flags::from_bits(0b110), Ok(2)));
+    assert_eq!((port.best_effort(84, 5), port.read_register(ACCEPTED)), (waiting(84), Ok(3)));
+    for (choice, accepted, discarded) in [(64, 0, 0), (0, 0, 0), (5, 3, 1)] {
+        assert_eq!((shown(&mut port, choice), port.choice()), (counts(accepted, discarded), choice));
+    }
+    assert_eq!(port.withdraw(STREAM), Ok(()));
+    assert_eq!([ACCEPTED, DISCARDED, CHOICE, 24].map(|offset| port.read_register(offset)), [0, 0, 5, 2].map(Ok));
 }
 
 /// A tick, or a call of the last stream, with the frames that are bound to it. Whether it was granted.
@@ -325,7 +350,7 @@ fn counts_are_the_number_of_replies() {
     let (mut port, mut withdrawn) = (opened(), 0);
     let mut expected = [StreamCounts::default(); STREAMS];
     for turn in 0..4_000_u32 {
-        let stream = [FIRST, OTHER, LAST][turn as usize % 3];
+        let stream = [FIRST, STREAM, LAST][turn as usize % 3];
         let of_stream = &mut expected[usize::from(stream)];
         match turn % 29 {
             0..=2 => assert_ne!(port.reserve(stream, 150), Err(Refusal::ShareExceeded)),
@@ -340,5 +365,5 @@ fn counts_are_the_number_of_replies() {
         assert_eq!(port.stream_counts(), expected, "turn {turn}");
     }
     assert!(withdrawn > 20, "{withdrawn} withdrawals were granted");
-    assert!([FIRST, OTHER, LAST].iter().all(|&stream| expected[usize::from(stream)] != counts(0, 0)), "each stream has counts at the end");
+    assert!([FIRST, STREAM, LAST].iter().all(|&stream| expected[usize::from(stream)] != counts(0, 0)), "each stream has counts at the end");
 }
