@@ -104,7 +104,7 @@ fn pairs_looked_up() -> Result<(), String> {
 #[test]
 fn counts_asked_for() -> Result<(), String> {
     let run = play_asking("counts_asked_for", 8, 300, WITHDRAWING, counts_of_some);
-    run.demand(&[(Seen::Refused(14), 50), (Seen::FrameRefused(14), 10), (Seen::FrameArrived, 50), (Seen::Withdrawn, 50)])
+    run.demand(&[(Seen::Refused(14), 50), (Seen::FrameRefused(14), 10), (Seen::FrameArrived, 20), (Seen::Withdrawn, 50)])
 }
 
 /// Questions for the counts of the streams at both ends, of any number, and of those that are no stream's, and for what a controller sees of them.
