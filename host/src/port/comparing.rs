@@ -18,10 +18,11 @@ use harness::comparing::registers::{Held, EVERY_COUNT, EVERY_FLAG};
 use harness::comparing::sides::Sides;
 use harness::comparing::test::Run;
 use harness::comparing::tests::lists::at_each_place;
+use harness::layout::{counts, four, in_block, ACCEPTED, DISCARDED};
 use harness::model;
 
 use super::Port;
-use crate::{Control, Controlled, Flags, Framed, Joined, Lookup, Queue, Refusal, Register, Sent, StreamCounts};
+use crate::{Control, Controlled, Flags, Framed, Joined, Lookup, Queue, Refusal, Register, Sent, StreamCounts, STREAMS};
 
 /// The seed of the lists.
 const SEED: u64 = 1;
@@ -99,23 +100,36 @@ fn pairs_looked_up() -> Result<(), String> {
     run.demand(&looked)
 }
 
-/// The counts of streams at both ends and of numbers that are none, and all registers of the counts, after each call of lists that discard and
-/// withdraw.
+/// The counts of streams, and what a controller sees of them, after each call of lists that discard and withdraw.
 #[test]
 fn counts_asked_for() -> Result<(), String> {
     let run = play_asking("counts_asked_for", 8, 300, WITHDRAWING, counts_of_some);
     run.demand(&[(Seen::Refused(14), 50), (Seen::FrameRefused(14), 10), (Seen::FrameArrived, 20), (Seen::Withdrawn, 50)])
 }
 
-/// Questions for the counts of the streams at both ends, of any number, and of those that are no stream's, and for what a controller sees of them.
-fn counts_of_some(random: &mut Random, _: &[u8]) -> Vec<Call> {
-    let any = random.between(0..=u32::from(u8::MAX));
-    let offset = Register::Choice.offset();
-    let choice = Call::WriteRegister { offset, value: random.pick(&[0, 1, 62, 63, 64, any, u32::MAX]) };
-    let shown =
-        [Register::Accepted, Register::Discarded, Register::Choice].map(|register| Call::ReadRegister { offset: register.offset() });
-    let counts = [0, 1, 62, 63, 64, any as u8, u8::MAX].map(|stream| Call::StreamCounts { stream });
-    [choice].into_iter().chain(shown).chain(counts).collect()
+/// Questions for the counts of the streams that have some, of those at both ends, of any number and of those that are no stream's; and for what a
+/// controller sees where it chooses one of these.
+fn counts_of_some(random: &mut Random, port: &[u8]) -> Vec<Call> {
+    let any = random.between(0..=u32::from(u8::MAX)) as u8;
+    let has_counts = |stream: &u8| four(port, accepted_of(*stream)) > 0 || four(port, discarded_of(*stream)) > 0;
+    let asked: Vec<u8> = (0..STREAMS as u8).filter(has_counts).chain([0, 63, 64, any, u8::MAX]).collect();
+    let chosen = u32::from(random.pick(&asked));
+    let choice =
+        Call::WriteRegister { offset: Register::Choice.offset(), value: random.pick(&[chosen, chosen, chosen, u32::MAX - chosen]) };
+    let shown = [Register::Accepted, Register::Discarded, Register::Choice].map(Register::offset);
+    let reads = shown.map(|offset| Call::ReadRegister { offset });
+    let counts = asked.into_iter().map(|stream| Call::StreamCounts { stream });
+    [choice].into_iter().chain(reads).chain(counts).collect()
+}
+
+/// Where the accepted frames of a stream are counted in a port.
+fn accepted_of(stream: u8) -> usize {
+    in_block(counts(usize::from(stream)) + ACCEPTED)
+}
+
+/// Where its discards are counted.
+fn discarded_of(stream: u8) -> usize {
+    in_block(counts(usize::from(stream)) + DISCARDED)
 }
 
 /// Registers that are read and written again and again, beside calls that raise each flag and each count.
