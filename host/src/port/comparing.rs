@@ -110,7 +110,7 @@ fn counts_asked_for() -> Result<(), String> {
 /// Questions for the counts of the streams that have some, of those at both ends, of any number and of those that are no stream's; and for what a
 /// controller sees where it chooses one of these.
 fn counts_of_some(random: &mut Random, port: &[u8]) -> Vec<Call> {
-    let any = random.between(0..=u32::from(u8::MAX)) as u8;
+    let any = random.octet();
     let has_counts = |stream: &u8| four(port, accepted_of(*stream)) > 0 || four(port, discarded_of(*stream)) > 0;
     let asked: Vec<u8> = (0..STREAMS as u8).filter(has_counts).chain([0, 63, 64, any, u8::MAX]).collect();
     let chosen = u32::from(random.pick(&asked));
