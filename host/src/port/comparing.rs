@@ -6,6 +6,7 @@ use std::path::Path;
 use harness::call::{Call, Reply, ADDRESS_OCTETS};
 use harness::comparing::calls::{Charges, Profile, Weights, NEVER, ORDINARY};
 use harness::comparing::compared::Step;
+use harness::comparing::counts::{questions, Counting};
 use harness::comparing::coverage::{prior_waits, Asked, Seen};
 use harness::comparing::draining::{ending, Freed};
 use harness::comparing::fit::Octets;
@@ -18,11 +19,10 @@ use harness::comparing::registers::{Held, EVERY_COUNT, EVERY_FLAG};
 use harness::comparing::sides::Sides;
 use harness::comparing::test::Run;
 use harness::comparing::tests::lists::at_each_place;
-use harness::layout::{counts, four, in_block, ACCEPTED, DISCARDED};
 use harness::model;
 
 use super::Port;
-use crate::{Control, Controlled, Flags, Framed, Joined, Lookup, Queue, Refusal, Register, Sent, StreamCounts, STREAMS};
+use crate::{Control, Controlled, Flags, Framed, Joined, Lookup, Queue, Refusal, Register, Sent, StreamCounts};
 
 /// The seed of the lists.
 const SEED: u64 = 1;
@@ -100,36 +100,16 @@ fn pairs_looked_up() -> Result<(), String> {
     run.demand(&looked)
 }
 
-/// The counts of streams, and what a controller sees of them, after each call of lists that discard and withdraw.
+/// The counts of streams, after each call of lists that discard, withdraw, choose streams and read what is shown of them.
 #[test]
 fn counts_asked_for() -> Result<(), String> {
-    let run = play_asking("counts_asked_for", 8, 300, WITHDRAWING, counts_of_some);
-    run.demand(&[(Seen::Refused(14), 50), (Seen::FrameRefused(14), 10), (Seen::FrameArrived, 20), (Seen::Withdrawn, 50)])
-}
-
-/// Questions for the counts of the streams that have some, of those at both ends, of any number and of those that are no stream's; and for what a
-/// controller sees where it chooses one of these.
-fn counts_of_some(random: &mut Random, port: &[u8]) -> Vec<Call> {
-    let any = random.octet();
-    let has_counts = |stream: &u8| four(port, accepted_of(*stream)) > 0 || four(port, discarded_of(*stream)) > 0;
-    let asked: Vec<u8> = (0..STREAMS as u8).filter(has_counts).chain([0, 63, 64, any, u8::MAX]).collect();
-    let chosen = u32::from(random.pick(&asked));
-    let choice =
-        Call::WriteRegister { offset: Register::Choice.offset(), value: random.pick(&[chosen, chosen, chosen, u32::MAX - chosen]) };
-    let shown = [Register::Accepted, Register::Discarded, Register::Choice].map(Register::offset);
-    let reads = shown.map(|offset| Call::ReadRegister { offset });
-    let counts = asked.into_iter().map(|stream| Call::StreamCounts { stream });
-    [choice].into_iter().chain(reads).chain(counts).collect()
-}
-
-/// Where the accepted frames of a stream are counted in a port.
-fn accepted_of(stream: u8) -> usize {
-    in_block(counts(usize::from(stream)) + ACCEPTED)
-}
-
-/// Where its discards are counted.
-fn discarded_of(stream: u8) -> usize {
-    in_block(counts(usize::from(stream)) + DISCARDED)
+    let weights = Weights { read_register: 40, write_register: 20, ..WITHDRAWING.weights };
+    let run = play_asking("counts_asked_for", 8, 400, Profile { weights, ..WITHDRAWING }, questions);
+    let counted = [Counting::Shown, Counting::NotShown, Counting::OfUnchosen, Counting::Zeroed, Counting::KeptWhenRefused];
+    run.demand(&counted.map(|counting| (Seen::Counting(counting), 10)))?;
+    let asked = [Counting::Asked, Counting::AskedUnchosen, Counting::RefusedAbove, Counting::Chosen, Counting::ChosenAbove];
+    run.demand(&asked.map(|counting| (Seen::Counting(counting), 50)))?;
+    run.demand_none(Seen::Counting(Counting::RefusedShort))
 }
 
 /// Registers that are read and written again and again, beside calls that raise each flag and each count.
@@ -141,7 +121,10 @@ fn registers_accessed() -> Result<(), String> {
     run.demand(&[(Seen::OtherRegisterWritten, 100), (Seen::ReadRefused(26), 25), (Seen::WriteRefused(26), 25)])?;
     run.demand(&EVERY_FLAG.map(|(flag, _)| (Seen::FlagSet(flag), 15)))?;
     run.demand(&EVERY_FLAG.map(|(flag, _)| (Seen::FlagCleared(flag), 15)))?;
-    run.demand(&EVERY_COUNT.map(|(count, _)| (Seen::Counted(count), 100)))
+    run.demand(&EVERY_COUNT.map(|count| (Seen::Counted(count), 100)))?;
+    run.demand(
+        &[Counting::Chosen, Counting::ChosenAbove, Counting::Shown, Counting::NotShown].map(|counting| (Seen::Counting(counting), 50)),
+    )
 }
 
 /// Every argument outside its range, at its ends and where fewer bits would hide it.
@@ -242,6 +225,7 @@ impl Both {
         run.count_call(call, &reply, &self.octets.record, prior_waited);
         self.freed.follow(&mut run.coverage, call, &reply, &ending);
         before.count_changes(&mut run.coverage, call, &self.held());
+        before.count_withdrawal(&mut run.coverage, call, &reply);
     }
 
     /// What the register block holds.
