@@ -103,7 +103,7 @@ fn pairs_looked_up() -> Result<(), String> {
 /// The counts of streams, after each call of lists that discard, withdraw, choose streams and read what is shown of them.
 #[test]
 fn counts_asked_for() -> Result<(), String> {
-    let weights = Weights { read_register: 40, write_register: 20, ..WITHDRAWING.weights };
+    let weights = Weights { read_register: 40, write_register: 50, ..WITHDRAWING.weights };
     let run = play_asking("counts_asked_for", 8, 400, Profile { weights, ..WITHDRAWING }, questions);
     let counted = [Counting::Shown, Counting::NotShown, Counting::OfUnchosen, Counting::Zeroed];
     run.demand(&counted.map(|counting| (Seen::Counting(counting), 10)))?;
