@@ -105,7 +105,7 @@ fn pairs_looked_up() -> Result<(), String> {
 fn counts_asked_for() -> Result<(), String> {
     let weights = Weights { read_register: 40, write_register: 50, ..WITHDRAWING.weights };
     let run = play_asking("counts_asked_for", 8, 400, Profile { weights, ..WITHDRAWING }, questions);
-    let counted = [Counting::Shown, Counting::NotShown, Counting::OfUnchosen, Counting::Zeroed];
+    let counted = [Counting::Shown, Counting::OfUnchosen, Counting::Zeroed];
     run.demand(&counted.map(|counting| (Seen::Counting(counting), 10)))?;
     let asked = [Counting::Asked, Counting::AskedUnchosen, Counting::RefusedAbove, Counting::Chosen, Counting::ChosenAbove];
     run.demand(&asked.map(|counting| (Seen::Counting(counting), 50)))?;
