@@ -105,9 +105,9 @@ fn pairs_looked_up() -> Result<(), String> {
 fn counts_asked_for() -> Result<(), String> {
     let weights = Weights { read_register: 40, write_register: 50, ..WITHDRAWING.weights };
     let run = play_asking("counts_asked_for", 8, 400, Profile { weights, ..WITHDRAWING }, questions);
-    let counted = [Counting::Shown, Counting::OfUnchosen, Counting::Zeroed];
-    run.demand(&counted.map(|counting| (Seen::Counting(counting), 10)))?;
-    let asked = [Counting::Asked, Counting::AskedUnchosen, Counting::RefusedAbove, Counting::Chosen, Counting::ChosenAbove];
+    let met = [Counting::Shown, Counting::OfUnchosen, Counting::Zeroed, Counting::ChosenAbove];
+    run.demand(&met.map(|counting| (Seen::Counting(counting), 10)))?;
+    let asked = [Counting::Asked, Counting::AskedUnchosen, Counting::RefusedAbove, Counting::Chosen];
     run.demand(&asked.map(|counting| (Seen::Counting(counting), 50)))?;
     run.demand_none(Seen::Counting(Counting::RefusedShort))
 }
