@@ -36,8 +36,8 @@ mod wrapping;
 /// - any list of control writes does to the port what the calls do that they name (`controls-named`,
 ///   `crates/register_laws/proofs/ControlLaws.antt`);
 /// - a stream's counts are the number of its frames that were accepted and of those that were discarded since the opening or its latest granted
-///   withdrawal, modulo 4,294,967,296 (`accepted-counts`, `discarded-counts`, `crates/register_laws/proofs/Histories.antt`), and nothing of other
-///   streams is in them (`CountsAlike`, `crates/register_laws/specs/Alike.antt`).
+///   withdrawal, modulo 4,294,967,296 (`counts-tell`, `crates/register_laws/proofs/ReadLaws.antt`), and nothing of other streams is in them
+///   (`counts-alike`, `crates/register_laws/proofs/AlikeLaws.antt`).
 ///
 /// What these ask of the host is that nobody else writes the port's octets or the memory, and that the two are always lent together. Here they are
 /// private fields of one value, so no safe program can do otherwise.

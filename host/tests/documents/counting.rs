@@ -276,9 +276,8 @@ fn each_port_has_its_own_counts() {
     assert_eq!(port.counts_of(LAST), Ok(counts(2, 1)));
 }
 
-/// The example of docs/RULE.md, section 12.7, whose columns say what is read after each use.
-#[test]
-fn the_example_of_the_rule() {
+/// The first rows of docs/RULE.md, section 12.7: three frames accepted and one discarded of stream 5, which is chosen, with a mask of bits 0 and 2.
+fn first_rows() -> Port {
     let mut port = reserved();
     assert_eq!((port.write_register(12, 5), port.write_register(CHOICE, 5)), (Ok((0, 0)), Ok((0, 0))));
     for (tag, queue, left) in [(1, Queue::Current, 200), (2, Queue::Next, 200), (3, Queue::Last, 0)] {
@@ -286,6 +285,13 @@ fn the_example_of_the_rule() {
     }
     refused(port.arrive(STREAM, 84, 4), Refusal::Discard, 14);
     assert_eq!([ACCEPTED, DISCARDED, 8, 4].map(|offset| port.read_register(offset)), [3, 1, 1, 3].map(Ok));
+    port
+}
+
+/// The rest of that table, in which control ticks and transmits; it moves no count but that of frames sent.
+#[test]
+fn the_first_example_of_the_rule() {
+    let mut port = first_rows();
     for (ones, flags) in [(6, 1), (1, 0)] {
         assert_eq!((port.write_register(8, ones), port.read_register(8)), (Ok((0, 0)), Ok(flags)));
     }
@@ -293,13 +299,40 @@ fn the_example_of_the_rule() {
     for (bits, reply) in [(3, (5, 1)), (1, (0, 0)), (1, (1, 200)), (2, (5, 3)), (2, (254, 0))] {
         assert_eq!(port.write_register(0, bits), Ok(reply));
     }
-    assert_eq!((port.flags(), port.read_register(24)), (Flags::from_bits(0b110), Ok(2)));
-    assert_eq!((port.best_effort(84, 5), port.read_register(ACCEPTED)), (waiting(84), Ok(3)));
-    for (choice, accepted, discarded) in [(64, 0, 0), (0, 0, 0), (5, 3, 1)] {
+    assert_eq!((port.flags(), port.frames_sent()), (Flags::from_bits(0b110), 2));
+    assert_eq!((port.choice(), port.chosen_counts()), (5, counts(3, 1)));
+}
+
+/// The second table, in which the stream is withdrawn and its number granted again.
+#[test]
+fn the_second_example_of_the_rule() {
+    let mut port = first_rows();
+    assert_eq!((port.withdraw(STREAM), port.chosen_counts()), (Ok(()), counts(0, 0)));
+    refused(port.arrive(STREAM, 84, 5), Refusal::Draining, 25);
+    refused(port.withdraw(STREAM), Refusal::Draining, 25);
+    for reply in [(0, 0), (1, 200), (1, 200), (1, 200)] {
+        assert_eq!((port.write_register(0, 1), port.chosen_counts()), (Ok(reply), counts(0, 0)));
+    }
+    assert_eq!(port.reserve(STREAM, 200), Ok(Reserved { free: 400 }));
+    assert_eq!((port.arrive(STREAM, 84, 6), port.chosen_counts()), (joined(Queue::Current, 116), counts(1, 0)));
+    refused(port.withdraw(6), Refusal::NotReserved, 12);
+    assert_eq!(port.chosen_counts(), counts(1, 0));
+}
+
+/// The third table, with streams at both ends and every sort of frame.
+#[test]
+fn the_third_example_of_the_rule() {
+    let mut port = opened();
+    assert_eq!((port.reserve(FIRST, 84), port.reserve(LAST, 200)), (Ok(Reserved { free: 516 }), Ok(Reserved { free: 316 })));
+    assert_eq!(port.bind(LAST, &ADDRESS, 1), Ok(()));
+    assert_eq!(port.arrive(FIRST, 84, 1), joined(Queue::Current, 84));
+    assert_eq!(port.frame(&frame(1)[..SHORTEST_FRAME], 2), joined(Queue::Current, 116).map(Framed::Arrived));
+    assert_eq!(port.best_effort(84, 3), waiting(84));
+    refused(port.arrive(LAST, 201, 4), Refusal::Discard, 14);
+    assert_eq!((port.choice(), port.chosen_counts()), (0, counts(1, 0)));
+    for (choice, accepted, discarded) in [(63, 1, 1), (64, 0, 0), (u32::MAX, 0, 0)] {
         assert_eq!((shown(&mut port, choice), port.choice()), (counts(accepted, discarded), choice));
     }
-    assert_eq!(port.withdraw(STREAM), Ok(()));
-    assert_eq!([ACCEPTED, DISCARDED, CHOICE, 24].map(|offset| port.read_register(offset)), [0, 0, 5, 2].map(Ok));
 }
 
 /// A tick, or a call of the last stream, with the frames that are bound to it. Whether it was granted.
