@@ -108,7 +108,7 @@ fn counts_asked_for() -> Result<(), String> {
     let met = [Counting::Shown, Counting::OfUnchosen, Counting::Zeroed, Counting::ChosenAbove];
     run.demand(&met.map(|counting| (Seen::Counting(counting), 10)))?;
     let asked = [Counting::Asked, Counting::AskedUnchosen, Counting::RefusedAbove, Counting::Chosen];
-    run.demand(&asked.map(|counting| (Seen::Counting(counting), 50)))?;
+    run.demand(&asked.map(|counting| (Seen::Counting(counting), 25)))?;
     run.demand_none(Seen::Counting(Counting::RefusedShort))
 }
 
@@ -123,7 +123,7 @@ fn registers_accessed() -> Result<(), String> {
     run.demand(&EVERY_FLAG.map(|(flag, _)| (Seen::FlagCleared(flag), 15)))?;
     run.demand(&EVERY_COUNT.map(|count| (Seen::Counted(count), 100)))?;
     run.demand(
-        &[Counting::Chosen, Counting::ChosenAbove, Counting::Shown, Counting::NotShown].map(|counting| (Seen::Counting(counting), 50)),
+        &[Counting::Chosen, Counting::ChosenAbove, Counting::Shown, Counting::NotShown].map(|counting| (Seen::Counting(counting), 25)),
     )
 }
 
