@@ -122,9 +122,8 @@ fn registers_accessed() -> Result<(), String> {
     run.demand(&EVERY_FLAG.map(|(flag, _)| (Seen::FlagSet(flag), 15)))?;
     run.demand(&EVERY_FLAG.map(|(flag, _)| (Seen::FlagCleared(flag), 15)))?;
     run.demand(&EVERY_COUNT.map(|count| (Seen::Counted(count), 100)))?;
-    run.demand(
-        &[Counting::Chosen, Counting::ChosenAbove, Counting::Shown, Counting::NotShown].map(|counting| (Seen::Counting(counting), 25)),
-    )
+    let shown = [Counting::Chosen, Counting::ChosenAbove, Counting::Shown, Counting::NotShown];
+    run.demand(&shown.map(|counting| (Seen::Counting(counting), 25)))
 }
 
 /// Every argument outside its range, at its ends and where fewer bits would hide it.
