@@ -4,9 +4,11 @@
  * octets, and the port finds both. Meanwhile it sends a gateway's frame of the longest length as best effort. Then the machine that sends the stream
  * is taken off the line, and another one gets its share: the host withdraws the stream, sends the frame that still waits, and asks for the other
  * stream after each tick until it is granted. At last it serves the node's controller, which sees the port as registers: a discarded frame and a
- * purged one raise the interrupt line, the host reads which it was and the counters, and clears the flags that it has read; and it ends epochs and
- * sends by single writes to control. The set-up goes through the calls that test the whole record. After the granted Open nothing but these calls
- * writes the port and the memory, so the traffic goes through the calls that scan nothing, whose replies are then the same.
+ * purged one raise the interrupt line, the host reads which it was and the counts of the stream that the controller has chosen, and clears the flags
+ * that it has read; and it ends epochs and sends by single writes to control. Whenever support asks which machine is talking too much, the host tells
+ * the counts of every stream that has some, and the controller's choice stays as it is. The set-up goes through the calls that test the whole record.
+ * After the granted Open nothing but these calls writes the port and the memory, so the traffic goes through the calls that scan nothing, whose
+ * replies are then the same.
  */
 #include <stdio.h>
 #include <stdlib.h>
@@ -30,7 +32,7 @@ static void granted(const char *call, uint8_t refusal)
     }
 }
 
-/* The destination address to which stream 5 is bound, and the VLAN tag of its frames: VID 100, with the priority bits set. */
+/* The destination address to which a stream is bound, 5 at first and 6 later, and the VLAN tag of its frames: VID 100, with the priority bits set. */
 static const uint8_t address[BUNNYSOLDER_ADDRESS_LENGTH] = { 0x01, 0x00, 0x5E, 0x00, 0x00, 0x05 };
 static const uint8_t vlan_tag[] = { 0x81, 0x00, 0xE0, 0x64 };
 
@@ -53,7 +55,7 @@ static void bind(uint8_t stream)
     printf("bind: stream %u has an address and VID 100\n", stream);
 }
 
-/* What became of a frame of stream 5: where it has joined, or that it was discarded or the stream drains. */
+/* What became of a frame of a stream: where it has joined, or that it was discarded or the stream drains. */
 static void came(const char *call, uint32_t tag, uint8_t refusal)
 {
     static const char *const places[] = { "", "current", "next", "last" };
@@ -76,7 +78,7 @@ static void arrive(uint32_t charge, uint32_t tag)
     came("arrive", tag, bunnysolder_arrive_unscanned(port, sizeof port, memory, sizeof memory, 5, charge, tag, &first, &second));
 }
 
-/* A frame of a length comes from the wire: by its header it is one of stream 5. */
+/* A frame of a length comes from the wire: by its header it is one of the stream that is bound to the address. */
 static void frame(size_t length, uint32_t tag)
 {
     static uint8_t octets[BUNNYSOLDER_LONGEST_FRAME];
@@ -118,6 +120,23 @@ static void tick(void)
 {
     granted("tick", bunnysolder_tick_unscanned(port, sizeof port, memory, sizeof memory, &first, &second));
     printf("tick: %u frames purged\n", first);
+}
+
+/* Tells support the counts of each stream that has some, or that none has. */
+static void tell_support(void)
+{
+    unsigned stream;
+    int told = 0;
+
+    for (stream = 0; stream < BUNNYSOLDER_STREAMS; stream++) {
+        granted("stream counts", bunnysolder_stream_counts(port, sizeof port, (uint8_t)stream, &first, &second));
+        if (first != 0 || second != 0) {
+            printf("support: %u frames accepted and %u discarded of stream %u\n", first, second, stream);
+            told = 1;
+        }
+    }
+    if (!told)
+        printf("support: no frames of any stream\n");
 }
 
 /* Two frames of stream 5 over an epoch's end, and one of best effort, which is sent while the second waits. */
@@ -192,29 +211,41 @@ static void tell(uint32_t flags)
         printf("flag: a transmit had nothing to send\n");
 }
 
-/* Serves the interrupts until the line is down: tells flags and counters, and clears the flags that it has read by writing them back. */
+/* The counts that the controller sees: those of the stream that it has chosen, and the frames that the whole port has sent. */
+static void tell_counts(void)
+{
+    printf("counts: %u frames accepted and %u discarded of stream %u, %u sent of all\n", read_register(BUNNYSOLDER_REGISTER_ACCEPTED),
+           read_register(BUNNYSOLDER_REGISTER_DISCARDED), read_register(BUNNYSOLDER_REGISTER_CHOICE), read_register(BUNNYSOLDER_REGISTER_SENT));
+}
+
+/* Serves the interrupts until the line is down: tells flags and counts, and clears the flags that it has read by writing them back. */
 static void serve_interrupts(void)
 {
     while (interrupted()) {
         uint32_t flags = read_register(BUNNYSOLDER_REGISTER_FLAGS);
 
         tell(flags);
-        printf("counters: %u frames accepted, %u discarded, %u sent\n", read_register(BUNNYSOLDER_REGISTER_ACCEPTED),
-               read_register(BUNNYSOLDER_REGISTER_DISCARDED), read_register(BUNNYSOLDER_REGISTER_SENT));
+        tell_counts();
         write_register(BUNNYSOLDER_REGISTER_FLAGS, flags);
     }
 }
 
-/* Stream 5 has 100 octets per epoch now. The charge of frame 22 is over that, so it is discarded. No transmit follows the tick between the two
- * writes to control, so the tick of the second one purges frame 21. Each raises the interrupt line. */
+/* The controller looks after stream 6, which has the address now; its frame 19 is sent. Stream 5 has 100 octets per epoch. The charge of frame 22 is
+ * over that, so it is discarded: the flag says so, and the counts for support say that it was one of stream 5. No transmit follows the tick between
+ * the two writes to control, so the tick of the second one purges frame 21. Each raises the interrupt line. */
 static void serve_the_controller(void)
 {
     write_register(BUNNYSOLDER_REGISTER_MASK, BUNNYSOLDER_FLAG_DISCARD | BUNNYSOLDER_FLAG_PURGE);
     printf("mask: a discard and a purge raise the interrupt line\n");
+    write_register(BUNNYSOLDER_REGISTER_CHOICE, 6);
+    printf("choice: the counts of stream 6 are shown\n");
+    frame(76, 19);
+    transmit();
     arrive(84, 20);
     arrive(84, 21);
     arrive(101, 22);
     serve_interrupts();
+    tell_support();
     tick_and_transmit();
     tick();
     tick_and_transmit();
@@ -228,7 +259,9 @@ int main(void)
     reserve(5, 200);
     bind(5);
     relay();
+    tell_support();
     take_off_the_line();
+    tell_support();
     serve_the_controller();
     return EXIT_SUCCESS;
 }

@@ -1,6 +1,7 @@
 /*
  * Every function that bunnysolder.h declares, called through it: both sorts of call play document 01's sample, by charges and by frames, and a
- * withdrawal, the longest frames, the registers and the lookups of document 02, and must reply what the documents say. The last line is the total.
+ * withdrawal, the longest frames, the registers, the lookups and the counts of streams of document 02, and must reply what the documents say. The
+ * last line is the total.
  */
 #include <stdio.h>
 #include <string.h>
@@ -220,7 +221,7 @@ static void register_refusals(const struct sort *s)
     reads(s, mask, 0);
 }
 
-/* A closed port refuses ticks and transmits (1), and keeps a mask; a refused Open leaves the mask and a granted one makes it zero. */
+/* A closed port refuses ticks and transmits (1), and keeps a mask and a choice; a refused Open leaves both and a granted one makes them zero. */
 static void registers_of_a_closed_port(const struct sort *s)
 {
     const size_t p = sizeof port, m = sizeof memory;
@@ -235,17 +236,21 @@ static void registers_of_a_closed_port(const struct sort *s)
     writes(s, BUNNYSOLDER_REGISTER_CONTROL, ALL_ONES - BUNNYSOLDER_CONTROL_TICK - BUNNYSOLDER_CONTROL_TRANSMIT, BUNNYSOLDER_GRANTED, 0, 0);
     writes(s, BUNNYSOLDER_REGISTER_FLAGS, ALL_ONES, BUNNYSOLDER_GRANTED, 0, 0);
     writes(s, BUNNYSOLDER_REGISTER_MASK, WIDE_MASK, BUNNYSOLDER_GRANTED, 0, 0);
+    writes(s, BUNNYSOLDER_REGISTER_CHOICE, ALL_ONES, BUNNYSOLDER_GRANTED, 0, 0);
     reads(s, BUNNYSOLDER_REGISTER_MASK, WIDE_MASK);
+    reads(s, BUNNYSOLDER_REGISTER_CHOICE, ALL_ONES);
     reads(s, BUNNYSOLDER_REGISTER_FLAGS, 0);
     reads(s, BUNNYSOLDER_REGISTER_STATUS, 0);
     replies("open", s->open(port, p, memory, m, 2103, 1, &first, &second), BUNNYSOLDER_LINK_RANGE, 0, 0);
     reads(s, BUNNYSOLDER_REGISTER_MASK, WIDE_MASK);
+    reads(s, BUNNYSOLDER_REGISTER_CHOICE, ALL_ONES);
     replies("open", s->open(port, p, memory, m, 2620, 1, &first, &second), BUNNYSOLDER_GRANTED, 600, 0);
     reads(s, BUNNYSOLDER_REGISTER_MASK, 0);
+    reads(s, BUNNYSOLDER_REGISTER_CHOICE, 0);
     reads(s, BUNNYSOLDER_REGISTER_STATUS, BUNNYSOLDER_STATUS_OPEN);
 }
 
-/* Opens the port with stream 5 on it, P 200, and has a discard or a purge raise the interrupt line. */
+/* Opens the port with stream 5 on it, P 200, chooses that stream, and has a discard or a purge raise the interrupt line. */
 static void open_with_mask(const struct sort *s)
 {
     const size_t p = sizeof port, m = sizeof memory;
@@ -254,11 +259,12 @@ static void open_with_mask(const struct sort *s)
     replies("open", s->open(port, p, memory, m, 2620, 1, &first, &second), BUNNYSOLDER_GRANTED, 600, 0);
     replies("reserve", s->reserve(port, p, memory, m, 5, 200, &first, &second), BUNNYSOLDER_GRANTED, 400, 0);
     writes(s, BUNNYSOLDER_REGISTER_MASK, BUNNYSOLDER_FLAG_DISCARD | BUNNYSOLDER_FLAG_PURGE, BUNNYSOLDER_GRANTED, 0, 0);
+    writes(s, BUNNYSOLDER_REGISTER_CHOICE, 5, BUNNYSOLDER_GRANTED, 0, 0);
 }
 
 /*
  * A charge of 201 is over P, so it is discarded: its flag raises the line, and the line falls where the flag is cleared. A charge of 83 is no discard
- * (13). An Open that is refused (2) leaves flags, mask and counters.
+ * (13). An Open that is refused (2) leaves flags, mask, choice and counts.
  */
 static void discard_raises_the_line(const struct sort *s)
 {
@@ -281,12 +287,13 @@ static void discard_raises_the_line(const struct sort *s)
     reads(s, BUNNYSOLDER_REGISTER_ACCEPTED, 1);
     reads(s, BUNNYSOLDER_REGISTER_DISCARDED, 1);
     reads(s, BUNNYSOLDER_REGISTER_SENT, 0);
+    reads(s, BUNNYSOLDER_REGISTER_CHOICE, 5);
 }
 
 /*
- * Writes to control tick and transmit. Charges 120 and 100 join current and next, and 84 best effort. The first tick makes 120 prior; the second
- * purges it and makes 100 prior, which the transmit of the same write sends; then best effort is sent, and then nothing, whose flag is not in the
- * mask.
+ * Writes to control tick and transmit. Charges 120 and 100 join current and next, and 84 best effort, whose frames are counted where they are sent
+ * alone. The first tick makes 120 prior; the second purges it and makes 100 prior, which the transmit of the same write sends; then best effort is
+ * sent, and then nothing, whose flag is not in the mask.
  */
 static void control_ticks_and_transmits(const struct sort *s)
 {
@@ -307,12 +314,26 @@ static void control_ticks_and_transmits(const struct sort *s)
     reads(s, BUNNYSOLDER_REGISTER_FLAGS, BUNNYSOLDER_FLAG_NOTHING);
     reads(s, BUNNYSOLDER_REGISTER_STATUS, BUNNYSOLDER_STATUS_OPEN);
     reads(s, BUNNYSOLDER_REGISTER_CONTROL, 0);
-    reads(s, BUNNYSOLDER_REGISTER_ACCEPTED, 3);
+    reads(s, BUNNYSOLDER_REGISTER_ACCEPTED, 2);
     reads(s, BUNNYSOLDER_REGISTER_DISCARDED, 0);
     reads(s, BUNNYSOLDER_REGISTER_SENT, 2);
 }
 
-/* After two accepted frames, of which one was sent, no write to an offset but those of control, flags and mask changes what is read. */
+/* What the registers from 16 on show after the calls below: one frame of the chosen stream accepted, one sent, and the choice. */
+static uint32_t shown_at(uint32_t offset)
+{
+    switch (offset) {
+    case BUNNYSOLDER_REGISTER_ACCEPTED:
+    case BUNNYSOLDER_REGISTER_SENT:
+        return 1;
+    case BUNNYSOLDER_REGISTER_CHOICE:
+        return 5;
+    default:
+        return 0;
+    }
+}
+
+/* After two frames, of which one was sent, no write to an offset but those of control, flags, mask and choice changes what is read. */
 static void writes_that_do_nothing(const struct sort *s)
 {
     const size_t p = sizeof port, m = sizeof memory;
@@ -323,10 +344,11 @@ static void writes_that_do_nothing(const struct sort *s)
     replies("best effort", s->best_effort(port, p, memory, m, 84, 8, &first, &second), BUNNYSOLDER_GRANTED, 84, 0);
     replies("transmit", s->transmit(port, p, memory, m, &first, &second), BUNNYSOLDER_GRANTED, 5, 7);
     writes(s, BUNNYSOLDER_REGISTER_STATUS, ALL_ONES, BUNNYSOLDER_GRANTED, 0, 0);
-    for (offset = BUNNYSOLDER_REGISTER_ACCEPTED; offset <= LAST_OFFSET; offset += 4) {
-        writes(s, offset, ALL_ONES, BUNNYSOLDER_GRANTED, 0, 0);
-        reads(s, offset, offset == BUNNYSOLDER_REGISTER_ACCEPTED ? 2 : offset == BUNNYSOLDER_REGISTER_SENT ? 1 : 0);
-    }
+    for (offset = BUNNYSOLDER_REGISTER_ACCEPTED; offset <= LAST_OFFSET; offset += 4)
+        if (offset != BUNNYSOLDER_REGISTER_CHOICE)
+            writes(s, offset, ALL_ONES, BUNNYSOLDER_GRANTED, 0, 0);
+    for (offset = BUNNYSOLDER_REGISTER_ACCEPTED; offset <= LAST_OFFSET; offset += 4)
+        reads(s, offset, shown_at(offset));
     writes(s, BUNNYSOLDER_REGISTER_CONTROL, 0, BUNNYSOLDER_GRANTED, 0, 0);
     reads(s, BUNNYSOLDER_REGISTER_STATUS, BUNNYSOLDER_STATUS_OPEN);
     reads(s, BUNNYSOLDER_REGISTER_FLAGS, 0);
@@ -448,6 +470,159 @@ static void lookups(const struct sort *s)
     lookups_of_any_port(s);
 }
 
+/* The first and the last stream, and the first number that is none. */
+#define FIRST_STREAM 0
+#define LAST_STREAM (BUNNYSOLDER_STREAMS - 1)
+#define NO_STREAM BUNNYSOLDER_STREAMS
+
+/* Stream counts must be refused with a number, or with 0 reply two counts, and leave every octet of the port. */
+static void counts(size_t port_length, uint8_t stream, uint8_t number, uint32_t accepted, uint32_t discarded)
+{
+    static uint8_t before[sizeof port];
+
+    memcpy(before, port, sizeof port);
+    replies("stream counts", bunnysolder_stream_counts(port, port_length, stream, &first, &second), number, accepted, discarded);
+    if (memcmp(before, port, sizeof port) != 0) {
+        printf("  stream counts writes the port\n");
+        wrong++;
+    }
+}
+
+/* The counts of a stream must be these: those of the whole port, and what the registers at 16 and 20 read where the stream is chosen. */
+static void stream_has(const struct sort *s, uint8_t stream, uint32_t accepted, uint32_t discarded)
+{
+    counts(sizeof port, stream, BUNNYSOLDER_GRANTED, accepted, discarded);
+    writes(s, BUNNYSOLDER_REGISTER_CHOICE, stream, BUNNYSOLDER_GRANTED, 0, 0);
+    reads(s, BUNNYSOLDER_REGISTER_ACCEPTED, accepted);
+    reads(s, BUNNYSOLDER_REGISTER_DISCARDED, discarded);
+}
+
+/* Opens the port with the first and the last stream on it, P 200 each, the last one bound to the address and VID 100. Stream 1 is not reserved. */
+static void open_with_both_ends(const struct sort *s)
+{
+    const size_t p = sizeof port, m = sizeof memory;
+
+    never_opened();
+    replies("open", s->open(port, p, memory, m, 2620, 1, &first, &second), BUNNYSOLDER_GRANTED, 600, 0);
+    replies("reserve", s->reserve(port, p, memory, m, FIRST_STREAM, 200, &first, &second), BUNNYSOLDER_GRANTED, 400, 0);
+    replies("reserve", s->reserve(port, p, memory, m, LAST_STREAM, 200, &first, &second), BUNNYSOLDER_GRANTED, 200, 0);
+    replies("bind", s->bind(port, p, memory, m, LAST_STREAM, address, 100, &first, &second), BUNNYSOLDER_GRANTED, 0, 0);
+    tag_frame(100);
+}
+
+/*
+ * Each stream's frames are counted by themselves, those that come as Frames too. The first stream has one frame accepted. Of the last one, 120 and
+ * the shortest frame, whose charge is 84, are accepted, and 201 and then any other are discarded. A best-effort frame is counted nowhere, and so is
+ * an arrival that is refused with another number (13, 12).
+ */
+static void counts_of_each_stream(const struct sort *s)
+{
+    const size_t p = sizeof port, m = sizeof memory, shortest = BUNNYSOLDER_SHORTEST_FRAME;
+
+    open_with_both_ends(s);
+    stream_has(s, FIRST_STREAM, 0, 0);
+    stream_has(s, LAST_STREAM, 0, 0);
+    replies("arrive", s->arrive(port, p, memory, m, FIRST_STREAM, 84, 1, &first, &second), BUNNYSOLDER_GRANTED, BUNNYSOLDER_CURRENT, 116);
+    replies("arrive", s->arrive(port, p, memory, m, LAST_STREAM, 120, 2, &first, &second), BUNNYSOLDER_GRANTED, BUNNYSOLDER_CURRENT, 80);
+    replies("frame", s->frame(port, p, memory, m, frame, shortest, 3, &first, &second), BUNNYSOLDER_GRANTED, BUNNYSOLDER_NEXT, 116);
+    stream_has(s, LAST_STREAM, 2, 0);
+    replies("arrive", s->arrive(port, p, memory, m, LAST_STREAM, 201, 4, &first, &second), BUNNYSOLDER_DISCARD, 0, 0);
+    replies("frame", s->frame(port, p, memory, m, frame, shortest, 5, &first, &second), BUNNYSOLDER_DISCARD, 0, 0);
+    replies("arrive", s->arrive(port, p, memory, m, LAST_STREAM, 83, 6, &first, &second), BUNNYSOLDER_CHARGE_RANGE, 0, 0);
+    replies("arrive", s->arrive(port, p, memory, m, 1, 84, 7, &first, &second), BUNNYSOLDER_NOT_RESERVED, 0, 0);
+    replies("best effort", s->best_effort(port, p, memory, m, 84, 8, &first, &second), BUNNYSOLDER_GRANTED, 84, 0);
+    frame[12] = 0x08;
+    replies("frame", s->frame(port, p, memory, m, frame, shortest, 9, &first, &second), BUNNYSOLDER_GRANTED, 168, 0);
+    stream_has(s, FIRST_STREAM, 1, 0);
+    stream_has(s, 1, 0, 0);
+    stream_has(s, LAST_STREAM, 2, 2);
+}
+
+/* A choice is kept as written. The last stream's shows its counts, and every number above it shows zeros, also one whose low octet is that stream. */
+static void choices(const struct sort *s)
+{
+    static const uint32_t above[] = { NO_STREAM, 255, 256 + LAST_STREAM, 65536 + LAST_STREAM, ALL_ONES - BUNNYSOLDER_STREAMS, ALL_ONES };
+    const size_t p = sizeof port, m = sizeof memory;
+    size_t i;
+
+    open_with_both_ends(s);
+    reads(s, BUNNYSOLDER_REGISTER_CHOICE, 0);
+    replies("arrive", s->arrive(port, p, memory, m, LAST_STREAM, 120, 1, &first, &second), BUNNYSOLDER_GRANTED, BUNNYSOLDER_CURRENT, 80);
+    replies("arrive", s->arrive(port, p, memory, m, LAST_STREAM, 201, 2, &first, &second), BUNNYSOLDER_DISCARD, 0, 0);
+    for (i = 0; i < sizeof above / sizeof *above; i++) {
+        stream_has(s, LAST_STREAM, 1, 1);
+        writes(s, BUNNYSOLDER_REGISTER_CHOICE, above[i], BUNNYSOLDER_GRANTED, 0, 0);
+        reads(s, BUNNYSOLDER_REGISTER_CHOICE, above[i]);
+        reads(s, BUNNYSOLDER_REGISTER_ACCEPTED, 0);
+        reads(s, BUNNYSOLDER_REGISTER_DISCARDED, 0);
+        counts(p, LAST_STREAM, BUNNYSOLDER_GRANTED, 1, 1);
+        reads(s, BUNNYSOLDER_REGISTER_CHOICE, above[i]);
+    }
+}
+
+/* A refused withdrawal leaves the counts. A granted one makes both of its stream 0 at once, and no other's; granted again, it counts from 0. */
+static void counts_of_a_withdrawn_stream(const struct sort *s)
+{
+    const size_t p = sizeof port, m = sizeof memory;
+    int tick;
+
+    open_with_both_ends(s);
+    replies("arrive", s->arrive(port, p, memory, m, FIRST_STREAM, 84, 1, &first, &second), BUNNYSOLDER_GRANTED, BUNNYSOLDER_CURRENT, 116);
+    replies("arrive", s->arrive(port, p, memory, m, LAST_STREAM, 120, 2, &first, &second), BUNNYSOLDER_GRANTED, BUNNYSOLDER_CURRENT, 80);
+    replies("arrive", s->arrive(port, p, memory, m, LAST_STREAM, 201, 3, &first, &second), BUNNYSOLDER_DISCARD, 0, 0);
+    replies("withdraw", s->withdraw(port, p, memory, m, NO_STREAM, &first, &second), BUNNYSOLDER_STREAM_RANGE, 0, 0);
+    stream_has(s, LAST_STREAM, 1, 1);
+    replies("withdraw", s->withdraw(port, p, memory, m, LAST_STREAM, &first, &second), BUNNYSOLDER_GRANTED, 0, 0);
+    stream_has(s, LAST_STREAM, 0, 0);
+    stream_has(s, FIRST_STREAM, 1, 0);
+    replies("transmit", s->transmit(port, p, memory, m, &first, &second), BUNNYSOLDER_GRANTED, FIRST_STREAM, 1);
+    replies("transmit", s->transmit(port, p, memory, m, &first, &second), BUNNYSOLDER_GRANTED, LAST_STREAM, 2);
+    for (tick = 0; tick < 4; tick++) {
+        replies("arrive", s->arrive(port, p, memory, m, LAST_STREAM, 84, 4, &first, &second), BUNNYSOLDER_DRAINING, 0, 0);
+        replies("tick", s->tick(port, p, memory, m, &first, &second), BUNNYSOLDER_GRANTED, 0, 0);
+    }
+    replies("reserve", s->reserve(port, p, memory, m, LAST_STREAM, 200, &first, &second), BUNNYSOLDER_GRANTED, 200, 0);
+    replies("arrive", s->arrive(port, p, memory, m, LAST_STREAM, 84, 5, &first, &second), BUNNYSOLDER_GRANTED, BUNNYSOLDER_CURRENT, 116);
+    stream_has(s, LAST_STREAM, 1, 0);
+    stream_has(s, FIRST_STREAM, 1, 0);
+}
+
+/*
+ * A port that is too short is refused (19) before a stream above the last (5), and nothing else is: a closed port has counts, of any content, and so
+ * has a port of ones, which is unfit. A granted Open makes all counts zero; the last octet of a port is the lowest of the last stream's discards.
+ */
+static void counts_of_any_port(const struct sort *s)
+{
+    const size_t p = sizeof port, m = sizeof memory;
+    unsigned stream;
+
+    never_opened();
+    counts(p - 1, FIRST_STREAM, BUNNYSOLDER_UNFIT_RECORD, 0, 0);
+    counts(p - 1, NO_STREAM, BUNNYSOLDER_UNFIT_RECORD, 0, 0);
+    counts(0, NO_STREAM, BUNNYSOLDER_UNFIT_RECORD, 0, 0);
+    port[p - 1] = 9;
+    counts(p, LAST_STREAM, BUNNYSOLDER_GRANTED, 0, 9);
+    replies("open", s->open(port, p, memory, m, 2620, 1, &first, &second), BUNNYSOLDER_GRANTED, 600, 0);
+    for (stream = 0; stream < BUNNYSOLDER_STREAMS; stream++)
+        counts(p, (uint8_t)stream, BUNNYSOLDER_GRANTED, 0, 0);
+    memset(port, 1, sizeof port);
+    for (stream = 0; stream <= UINT8_MAX; stream++) {
+        int is_stream = stream < BUNNYSOLDER_STREAMS;
+        uint32_t ones = is_stream ? 0x01010101u : 0;
+
+        counts(p, (uint8_t)stream, is_stream ? BUNNYSOLDER_GRANTED : BUNNYSOLDER_STREAM_RANGE, ones, ones);
+    }
+}
+
+/* The counts of streams, on ports that each sort of call has made. */
+static void stream_counts(const struct sort *s)
+{
+    counts_of_each_stream(s);
+    choices(s);
+    counts_of_a_withdrawn_stream(s);
+    counts_of_any_port(s);
+}
+
 int main(void)
 {
     int passed = 0, failed = 0;
@@ -461,6 +636,7 @@ int main(void)
         longest_frames(&sorts[i]);
         registers(&sorts[i]);
         lookups(&sorts[i]);
+        stream_counts(&sorts[i]);
         printf("test %s through the header: %s\n", sorts[i].name, wrong ? "FAILED" : "ok");
         if (wrong)
             failed++;

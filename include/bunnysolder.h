@@ -4,28 +4,32 @@
  * BUNNYSOLDER_EDITION; each function is proved to meet the definition that was drawn from them.
  *
  * What is lent. `port` is the port: BUNNYSOLDER_PORT_LENGTH octets or more. First comes the record, with queues, streams and bindings, and after
- * it the register block, with the flags, the interrupt mask and the counters that enum bunnysolder_register names. `memory` holds the waiting
- * frames: BUNNYSOLDER_MEMORY_LENGTH octets or more. Octets past these lengths are neither read nor written. Both may hold anything: a call tests
- * what it is given (18 and 19 below) and never reads or writes outside the two, but for the `address` of Bind and Lookup and the `octets` of Frame,
- * which it reads. A port of zeros is closed, and may be opened; a granted Open makes the whole block zeros, whatever it held.
+ * it the register block, with what the registers of enum bunnysolder_register show: the flags, the interrupt mask, the choice, the count of frames
+ * sent, and two counts for each stream. `memory` holds the waiting frames: BUNNYSOLDER_MEMORY_LENGTH octets or more. Octets past these lengths are
+ * neither read nor written. Both may hold anything: a call tests what it is given (18 and 19 below) and never reads or writes outside the two, but
+ * for the `address` of Bind and Lookup and the `octets` of Frame, which it reads. A port of zeros is closed, and may be opened; a granted Open makes
+ * the whole block zeros, whatever it held.
  *
  * What C has to keep. Each pointer is not null and points to as many octets as its length says; `address` points to
  * BUNNYSOLDER_ADDRESS_LENGTH octets. `port`, `memory`, `address`, `octets`, `*first` and `*second` do not overlap. While a call runs nobody else
  * reads or writes `port`, `memory`, `*first` and `*second`, and nobody writes `address` and `octets`, which the call only reads. A register read
- * only reads `port` and `memory` too, and a Lookup `port`, so others may read them meanwhile. C cannot be asked for these, and no call can test them.
+ * only reads `port` and `memory` too, and a Lookup and Stream counts only read `port`, so others may read them meanwhile. C cannot be asked for
+ * these, and no call can test them.
  *
  * What comes back. A call returns 0, or the number of its refusal, and leaves its two reply numbers in `*first` and `*second`. Both are always
  * written; a refusal leaves two zeros there, and port and memory as they were. BUNNYSOLDER_DISCARD alone also moves its stream, to place last with
- * nothing left, and raises its flag and its count in the block. Of the refusals that apply the first in the order given at each function is returned.
+ * nothing left, and raises its flag and its stream's count of discards in the block. Of the refusals that apply the first in the order given at each
+ * function is returned.
  *
- * Two sorts. Each call but Lookup is there twice. bunnysolder_NAME tests the whole record and its waiting frames (19) before its own refusals, of
- * which 26 alone comes earlier; that takes the longer the more frames wait and the more streams are bound. bunnysolder_NAME_unscanned scans nothing:
- * of 18 and 19 it asks only the two lengths, and then does the same. On every record that is fit (one that 19 does not refuse) the two are equal in
- * reply, port and memory, and leave it fit; and a granted Open of either sort leaves a fit record. The block makes no record unfit, whatever it
- * holds. So a host that opens its port by a granted Open, lets nothing but these calls write port and memory from then on, and always lends the two
- * together, gets the same from both sorts. On a record that is not fit an unscanned call still ends, and reads and writes nothing but port, memory,
- * the two numbers and what it is given to read, but its reply and what it leaves need not be the rule's. bunnysolder_lookup is lent no memory and
- * tests no record: it asks only the length of the port (19), and takes what the record holds as it is.
+ * Two sorts. Each call but Lookup and Stream counts is there twice. bunnysolder_NAME tests the whole record and its waiting frames (19) before its
+ * own refusals, of which 26 alone comes earlier; that takes the longer the more frames wait and the more streams are bound.
+ * bunnysolder_NAME_unscanned scans nothing: of 18 and 19 it asks only the two lengths, and then does the same. On every record that is fit (one that
+ * 19 does not refuse) the two are equal in reply, port and memory, and leave it fit; and a granted Open of either sort leaves a fit record. The block
+ * makes no record unfit, whatever it holds. So a host that opens its port by a granted Open, lets nothing but these calls write port and memory from
+ * then on, and always lends the two together, gets the same from both sorts. On a record that is not fit an unscanned call still ends, and reads and
+ * writes nothing but port, memory, the two numbers and what it is given to read, but its reply and what it leaves need not be the rule's.
+ * bunnysolder_lookup and bunnysolder_stream_counts are lent no memory and test no record: of 18 and 19 they ask only the length of the port (19), and
+ * take what it holds as it is.
  */
 #ifndef BUNNYSOLDER_H
 #define BUNNYSOLDER_H
@@ -38,7 +42,7 @@ extern "C" {
 #endif
 
 /* The edition of the rule: the number of the last request of document 02 that the rule has; 0 is document 01 alone. */
-#define BUNNYSOLDER_EDITION 4
+#define BUNNYSOLDER_EDITION 5
 
 /* The octets of a port, which are its record and its register block, and of the memory for 1,280 frames. */
 #define BUNNYSOLDER_PORT_LENGTH 1616
@@ -46,6 +50,9 @@ extern "C" {
 
 /* The octets of a destination address. */
 #define BUNNYSOLDER_ADDRESS_LENGTH 6
+
+/* The streams of a port: they have the numbers from 0 up to one less than this. */
+#define BUNNYSOLDER_STREAMS 64
 
 /* The octets, without check sequence, of the shortest and the longest frame that Frame takes: a driver pads to the one and has room for the other. */
 #define BUNNYSOLDER_SHORTEST_FRAME 60
@@ -86,17 +93,20 @@ enum bunnysolder_sent { BUNNYSOLDER_NOTHING = 254, BUNNYSOLDER_BEST_EFFORT = 255
 
 /*
  * The registers of a port by their offsets in 64 octets: each is a number of 32 bits, whose high octet is the one at its offset. All others of the 64
- * octets read zero. Flags, mask and counters are 0 after a granted Open. Flags and counters follow every call on the port, whichever function makes
- * it; of the refusals BUNNYSOLDER_DISCARD alone sets a flag or a counter. A counter goes on to 0 after 4,294,967,295.
+ * octets read zero. Flags, mask, choice and counts are 0 after a granted Open. Flags and counts follow every call on the port, whichever function makes
+ * it; of the refusals BUNNYSOLDER_DISCARD alone sets a flag or a count. A count goes on to 0 after 4,294,967,295. Accepted and discarded frames are
+ * counted for each stream by itself, from its latest granted Withdraw or the granted Open on, whichever came later; the registers at 16 and 20 show
+ * the counts of the stream whose number stands at 28, and bunnysolder_stream_counts tells those of any stream.
  */
 enum bunnysolder_register {
     BUNNYSOLDER_REGISTER_CONTROL = 0,    /* a write ticks and transmits (enum bunnysolder_control); reads zero */
     BUNNYSOLDER_REGISTER_STATUS = 4,     /* whether the port is open and the interrupt line is up (enum bunnysolder_status) */
     BUNNYSOLDER_REGISTER_FLAGS = 8,      /* what has happened (enum bunnysolder_flag); writing a one to a flag clears it */
     BUNNYSOLDER_REGISTER_MASK = 12,      /* the interrupt mask, kept as written; the interrupt line is up exactly when flags and mask share a one */
-    BUNNYSOLDER_REGISTER_ACCEPTED = 16,  /* how many frames were accepted: those of Arrive, Best effort and Frame */
-    BUNNYSOLDER_REGISTER_DISCARDED = 20, /* how many frames were discarded (14) */
-    BUNNYSOLDER_REGISTER_SENT = 24       /* how many frames Transmit has replied: those of streams and of best effort */
+    BUNNYSOLDER_REGISTER_ACCEPTED = 16,  /* how many frames of the chosen stream were accepted: those of Arrive and of each Frame that became one */
+    BUNNYSOLDER_REGISTER_DISCARDED = 20, /* how many frames of the chosen stream were discarded (14) */
+    BUNNYSOLDER_REGISTER_SENT = 24,      /* how many frames Transmit has replied: those of all streams and of best effort */
+    BUNNYSOLDER_REGISTER_CHOICE = 28     /* the chosen stream, kept as written; with a number above 63 here 16 and 20 both read zero */
 };
 
 /* The bits of the control register; the tick comes first. A one in another bit does nothing. */
@@ -129,7 +139,8 @@ uint8_t bunnysolder_reserve_unscanned(uint8_t *port, size_t port_length, const u
 /*
  * Arrive(s, a, tag): a frame arrives on the stream. `charge` is a, the octets that it costs on the wire: its length without check sequence plus
  * 24. `tag` is the host's own number for it. Replies the queue that the frame has joined (enum bunnysolder_place) and the octets left to
- * the stream at its place afterwards. Refusals: 18 19 1 5 25 12 13, then 14 or 20. Of all calls this one, Best effort and Frame alone write the memory.
+ * the stream at its place afterwards. A grant raises the stream's count of accepted frames, 14 its count of discards, and no other stream's.
+ * Refusals: 18 19 1 5 25 12 13, then 14 or 20. Of all calls this one, Best effort and Frame alone write the memory.
  */
 uint8_t bunnysolder_arrive(uint8_t *port, size_t port_length, uint8_t *memory, size_t memory_length,
                            uint8_t stream, uint32_t charge, uint32_t tag, uint32_t *first, uint32_t *second);
@@ -137,7 +148,8 @@ uint8_t bunnysolder_arrive_unscanned(uint8_t *port, size_t port_length, uint8_t 
                                      uint8_t stream, uint32_t charge, uint32_t tag, uint32_t *first, uint32_t *second);
 
 /*
- * Tick: an epoch ends. Replies how many frames were purged, and their octets. Frees each stream whose draining ends with it. Refusals: 18 19 1.
+ * Tick: an epoch ends. Replies how many frames were purged, and their octets. Frees each stream whose draining ends with it. It raises no count and
+ * makes none zero. Refusals: 18 19 1.
  */
 uint8_t bunnysolder_tick(uint8_t *port, size_t port_length, const uint8_t *memory, size_t memory_length,
                          uint32_t *first, uint32_t *second);
@@ -156,7 +168,8 @@ uint8_t bunnysolder_transmit_unscanned(uint8_t *port, size_t port_length, const 
 /*
  * Best effort(a, tag): a frame of no stream arrives. `charge` is a and `tag` the host's own number for it, as in Arrive. It waits until neither
  * prior nor current has a frame. Replies W, the sum of the charges that wait in best effort, with this one in it, and 0. R is the sum of the
- * reserved streams' P, those that drain among them; a later Reserve may leave W above K x (L - R), and that is no fault. Refusals: 18 19 1 13 15 16.
+ * reserved streams' P, those that drain among them; a later Reserve may leave W above K x (L - R), and that is no fault. No register counts the frame
+ * before it is sent. Refusals: 18 19 1 13 15 16.
  */
 uint8_t bunnysolder_best_effort(uint8_t *port, size_t port_length, uint8_t *memory, size_t memory_length,
                                 uint32_t charge, uint32_t tag, uint32_t *first, uint32_t *second);
@@ -178,8 +191,9 @@ uint8_t bunnysolder_bind_unscanned(uint8_t *port, size_t port_length, const uint
  * Frame(octets, tag): a frame arrives, given by its octets from the destination on, without check sequence. `tag` is the host's own number for it.
  * Octets 0 to 5 are the destination; where octets 12 and 13 are 81 00 (hexadecimal), the VID is the low 12 bits of octets 14 and 15, high octet
  * first. A frame whose destination and VID are bound is an Arrive on their stream, every other a Best effort, each with its length plus 24 as its
- * charge, and replies as that call. A length under BUNNYSOLDER_SHORTEST_FRAME or above BUNNYSOLDER_LONGEST_FRAME is refused (17), 0 among them;
- * `octets` is not null even then. Nothing is kept of the octets. Refusals: 18 19 1 17, then of an Arrive 25, then 14 or 20, of a Best effort 15 16.
+ * charge, and replies and is counted as that call. A length under BUNNYSOLDER_SHORTEST_FRAME or above BUNNYSOLDER_LONGEST_FRAME is refused (17), 0
+ * among them; `octets` is not null even then. Nothing is kept of the octets. Refusals: 18 19 1 17, then of an Arrive 25, then 14 or 20, of a Best
+ * effort 15 16.
  */
 uint8_t bunnysolder_frame(uint8_t *port, size_t port_length, uint8_t *memory, size_t memory_length,
                           const uint8_t *octets, size_t octets_length, uint32_t tag, uint32_t *first, uint32_t *second);
@@ -190,8 +204,8 @@ uint8_t bunnysolder_frame_unscanned(uint8_t *port, size_t port_length, uint8_t *
  * Withdraw(s): takes a reserved stream off the line. Its frames that wait stay in their queues and are sent as before; it takes no more. It drains for
  * as many ticks as the port has queues for reserved traffic, which are four. Meanwhile each Reserve, Arrive, Bind and Withdraw of it is refused with
  * 25, and so is a Frame that becomes an Arrive on it; its P still counts in R and has its part of the share, and its binding stands against others
- * (11). The last of these ticks frees it: its number may be reserved again, its part of the share is free, and its binding is gone. Replies two zeros.
- * Refusals: 18 19 1 5 25 12.
+ * (11). The last of these ticks frees it: its number may be reserved again, its part of the share is free, and its binding is gone. Both its counts
+ * are 0 as soon as the withdrawal is granted. Replies two zeros. Refusals: 18 19 1 5 25 12.
  */
 uint8_t bunnysolder_withdraw(uint8_t *port, size_t port_length, const uint8_t *memory, size_t memory_length,
                              uint8_t stream, uint32_t *first, uint32_t *second);
@@ -210,9 +224,9 @@ uint8_t bunnysolder_register_read_unscanned(const uint8_t *port, size_t port_len
 /*
  * Register write(offset, value): a write to control is a Tick where the value has BUNNYSOLDER_CONTROL_TICK, then a Transmit where it has
  * BUNNYSOLDER_CONTROL_TRANSMIT, and replies as the last of these calls; with both bits that is the Transmit, and the flags show whether the Tick
- * purged. A write to the flags clears those that are one in the value and leaves the others; one to the mask is kept. A write to any other offset
- * does nothing. All these writes, and one to control with neither bit, reply two zeros. Refusals: 26 18 19, and then 1 only for a write to control
- * with one of the two bits: the flags and the mask of a closed port may be written.
+ * purged. A write to the flags clears those that are one in the value and leaves the others; one to the mask or the choice is kept. A write to any
+ * other offset does nothing. All these writes, and one to control with neither bit, reply two zeros. Refusals: 26 18 19, and then 1 only for a write
+ * to control with one of the two bits: the flags, the mask and the choice of a closed port may be written.
  */
 uint8_t bunnysolder_register_write(uint8_t *port, size_t port_length, const uint8_t *memory, size_t memory_length,
                                    uint32_t offset, uint32_t value, uint32_t *first, uint32_t *second);
@@ -229,6 +243,14 @@ uint8_t bunnysolder_register_write_unscanned(uint8_t *port, size_t port_length, 
  */
 uint8_t bunnysolder_lookup(const uint8_t *port, size_t port_length, const uint8_t address[BUNNYSOLDER_ADDRESS_LENGTH], uint32_t vid,
                            uint32_t *first, uint32_t *second);
+
+/*
+ * Stream counts(s): tells which machine is talking too much, for support. Replies the stream's counts of accepted and of discarded frames, those that
+ * the registers at 16 and 20 show where the stream is the chosen one. It goes by no choice and writes no port, so all streams can be read one after
+ * the other and the controller's choice stays. It takes a closed port, and a stream that is not reserved. Refusals: 19, of a port shorter than
+ * BUNNYSOLDER_PORT_LENGTH alone, then 5.
+ */
+uint8_t bunnysolder_stream_counts(const uint8_t *port, size_t port_length, uint8_t stream, uint32_t *first, uint32_t *second);
 
 #ifdef __cplusplus
 }

@@ -55,8 +55,9 @@ declare! {
 }
 
 extern "C" {
-    /// The exported call that is lent no memory.
+    /// The exported calls that are lent no memory.
     fn bunnysolder_lookup(port: &PortOctets, port_length: usize, address: &Address, vid: u32, first: &mut u32, second: &mut u32) -> u8;
+    fn bunnysolder_stream_counts(port: &PortOctets, port_length: usize, stream: u8, first: &mut u32, second: &mut u32) -> u8;
 }
 
 /// Lends a call its two numbers, and reads what it returned and left there.
@@ -154,9 +155,16 @@ pub fn lookup(port: &PortOctets, address: &Address, vid: u32) -> Replied {
     replied(|first, second| unsafe { bunnysolder_lookup(port, PORT_OCTETS, address, vid, first, second) })
 }
 
+/// Stream counts(s), which scans nothing, writes no port and is lent no memory.
+pub fn stream_counts(port: &PortOctets, stream: u8) -> Replied {
+    // SAFETY: the length is that of the port's type.
+    replied(|first, second| unsafe { bunnysolder_stream_counts(port, PORT_OCTETS, stream, first, second) })
+}
+
 #[cfg(test)]
 mod tests {
     use super::*;
+    use crate::STREAMS;
 
     /// A number that is no refusal of a call's is handed on as none of them.
     #[test]
@@ -185,6 +193,15 @@ mod tests {
     fn a_lookup_takes_a_closed_port() {
         for vid in [0, 1, u32::MAX] {
             assert_eq!(lookup(&CLOSED_PORT, &[0; ADDRESS_OCTETS], vid), Ok((255, 0)));
+        }
+    }
+
+    /// The counts of a port that was never opened are there for every stream, and no other number is one.
+    #[test]
+    fn stream_counts_take_a_closed_port() {
+        for stream in 0..=u8::MAX {
+            let expected = if usize::from(stream) < STREAMS { Ok((0, 0)) } else { Err(Refusal::StreamRange) };
+            assert_eq!(stream_counts(&CLOSED_PORT, stream), expected, "{stream}");
         }
     }
 

@@ -5,8 +5,9 @@
 //! [`EDITION`]. The host calls [`tick`](Port::tick) where an epoch ends, [`transmit`](Port::transmit) when the link can send a frame, and
 //! [`arrive`](Port::arrive), [`best_effort`](Port::best_effort) or [`frame`](Port::frame) when a frame comes; it keeps the frames themselves, under
 //! their tags. It takes a stream off the line by [`withdraw`](Port::withdraw). A node's controller sees the port as [`Register`]s: it ticks and
-//! transmits by [`control`](Port::control), and is told by an interrupt line that frames were discarded or purged. What it costs to find a frame's
-//! stream, [`lookup`](Port::lookup) tells. What a port guarantees in return, docs/GUARANTEE.md says.
+//! transmits by [`control`](Port::control), and is told by an interrupt line that frames were discarded or purged. Which stream's frames they were,
+//! support sees by [`stream_counts`](Port::stream_counts). What it costs to find a frame's stream, [`lookup`](Port::lookup) tells. What a port
+//! guarantees in return, docs/GUARANTEE.md says.
 //!
 //! The library is built, with its proofs, by `bash examples/run` in the repository.
 //!
@@ -58,7 +59,10 @@
 #![deny(unsafe_code, unsafe_op_in_unsafe_fn, missing_docs)]
 
 /// The edition of the rule: the number of the last request of document 02 that the rule has; 0 is document 01 alone.
-pub const EDITION: u32 = 4;
+pub const EDITION: u32 = 5;
+
+/// The streams of a port: they have the numbers from 0 up to one less than this.
+pub const STREAMS: usize = 64;
 
 /// The octets of the shortest frame that [`Port::frame`] takes, without check sequence; a driver pads to as many.
 pub const SHORTEST_FRAME: usize = 60;
@@ -76,5 +80,5 @@ mod reply;
 pub use exports::Address;
 pub use port::Port;
 pub use refusal::Refusal;
-pub use register::{Control, Controlled, Counts, Flags, Mask, Register, Status};
+pub use register::{Control, Controlled, Flags, Mask, Register, Status, StreamCounts};
 pub use reply::{Framed, Joined, Lookup, Purged, Queue, Reserved, Sent, Waiting};

@@ -4,8 +4,9 @@ use std::fmt;
 
 use crate::exports::{self, Address, Memory, PortOctets, CLOSED_PORT, EMPTY_MEMORY};
 use crate::refusal::Refusal;
-use crate::register::{self, Control, Controlled, Counts, Flags, Mask, Register, Status};
+use crate::register::{self, Control, Controlled, Flags, Mask, Register, Status, StreamCounts};
 use crate::reply::{self, never_refused, Framed, Joined, Lookup, Numbers, Purged, Reserved, Sent, Waiting};
+use crate::STREAMS;
 
 #[cfg(test)]
 mod comparing;
@@ -19,8 +20,9 @@ mod wrapping;
 ///
 /// # Whose replies these are
 ///
-/// Open is the exported call that tests the record, and [`lookup`](Port::lookup) the one that has no test of it. All other methods are the *quick*
-/// calls, which scan nothing. Their replies are the rule's own all the same, and that is proved:
+/// Open is the exported call that tests the record; [`lookup`](Port::lookup), [`stream_counts`](Port::stream_counts) and
+/// [`counts_of`](Port::counts_of) are those that have no test of it. All other methods are the *quick* calls, which scan nothing. Their replies are
+/// the rule's own all the same, and that is proved:
 ///
 /// - each export does what its definition says, for every record, memory and argument (the contracts in `crates/exports/src`);
 /// - a lookup finds the lowest stream that is bound to the pair, and its number is the rule's (`finds-same`, `exact-number` and `number-within`,
@@ -32,7 +34,10 @@ mod wrapping;
 /// - on a fit record the quick register accesses equal the accesses (`quick-read`, `quick-write`,
 ///   `crates/register_laws/proofs/QuickRegisters.antt`);
 /// - any list of control writes does to the port what the calls do that they name (`controls-named`,
-///   `crates/register_laws/proofs/ControlLaws.antt`).
+///   `crates/register_laws/proofs/ControlLaws.antt`);
+/// - a stream's counts are the number of its frames that were accepted and of those that were discarded since the opening or its latest granted
+///   withdrawal, modulo 4,294,967,296 (`counts-tell`, `crates/register_laws/proofs/ReadLaws.antt`), and nothing of other streams is in them
+///   (`counts-alike`, `crates/register_laws/proofs/AlikeLaws.antt`).
 ///
 /// What these ask of the host is that nobody else writes the port's octets or the memory, and that the two are always lent together. Here they are
 /// private fields of one value, so no safe program can do otherwise.
@@ -44,18 +49,22 @@ mod wrapping;
 /// # Threads
 ///
 /// A port is a plain value, and the library has no state of its own, so a port may be sent to another thread. A method that changes the port asks
-/// for `&mut`, so no two run on it at a time, and none beside one that reads a register or looks up a stream; these ask for `&`, and may run beside
-/// each other.
+/// for `&mut`, so no two run on it at a time, and none beside one that reads registers or counts or looks up a stream; these ask for `&`, and may run
+/// beside each other.
 ///
 /// # Registers
 ///
-/// A node's controller sees a port as [`Register`]s. Flags and counters follow every call on the port, by whichever method it comes, from 0 at the
-/// opening on; of the refusals [`Discard`](Refusal::Discard) alone sets a flag or a counter. The interrupt line is up exactly when flags and mask
+/// A node's controller sees a port as [`Register`]s. Flags and counts follow every call on the port, by whichever method it comes, from 0 at the
+/// opening on; of the refusals [`Discard`](Refusal::Discard) alone sets a flag or a count. The interrupt line is up exactly when flags and mask
 /// share a one. A host that has the port to itself uses the methods with types; one that hands a controller's offsets and values through uses
 /// [`read_register`](Port::read_register) and [`write_register`](Port::write_register).
 ///
+/// Accepted and discarded frames are counted for each stream by itself, and [`stream_counts`](Port::stream_counts) has the counts of all streams. A
+/// controller sees those of one stream at a time, which it chooses by a register ([`set_choice`](Port::set_choice),
+/// [`chosen_counts`](Port::chosen_counts)); reading by these methods leaves its choice as it is.
+///
 /// ```
-/// use bunnysolder::{Control, Controlled, Counts, Flags, Port, Refusal, Sent};
+/// use bunnysolder::{Control, Controlled, Flags, Port, Refusal, Sent, StreamCounts};
 ///
 /// let mut port = Port::open(2_620, 1)?;
 /// port.reserve(5, 200)?;
@@ -67,17 +76,17 @@ mod wrapping;
 /// assert_eq!(port.arrive(5, 201, 8), Err(Refusal::Discard));
 /// assert!(port.status().interrupt);
 ///
-/// // The host sees what it was, counts, and clears what it has seen: the line is down.
+/// // The host sees what it was and of which stream, and clears what it has seen: the line is down.
 /// let flags = port.flags();
 /// assert_eq!(flags, Flags { discard: true, purge: false, nothing: false });
-/// assert_eq!(port.counts(), Counts { accepted: 1, discarded: 1, sent: 0 });
+/// assert_eq!(port.counts_of(5)?, StreamCounts { accepted: 1, discarded: 1 });
 /// port.clear(flags);
 /// assert!(!port.status().interrupt);
 ///
 /// // One write ends the epoch and sends: frame 7 is in prior then.
 /// let sent = Sent::Reserved { stream: 5, tag: 7 };
 /// assert_eq!(port.control(Control { tick: true, transmit: true })?, Controlled::Transmitted(sent));
-/// assert_eq!(port.counts().sent, 1);
+/// assert_eq!(port.frames_sent(), 1);
 /// # Ok::<(), Refusal>(())
 /// ```
 ///
@@ -142,7 +151,7 @@ impl Port {
     ///
     /// Refusals, in this order: [`StreamRange`](Refusal::StreamRange) (5), [`Draining`](Refusal::Draining) (25),
     /// [`NotReserved`](Refusal::NotReserved) (12), [`ChargeRange`](Refusal::ChargeRange) (13), [`Discard`](Refusal::Discard) (14), which leaves the
-    /// stream at last with nothing left.
+    /// stream at last with nothing left. A grant and a discard are counted for the stream ([`counts_of`](Port::counts_of)).
     pub fn arrive(&mut self, stream: u8, charge: u32, tag: u32) -> Result<Joined, Refusal> {
         exports::arrive(&mut self.octets, &mut self.memory, stream, charge, tag).map(Joined::of)
     }
@@ -164,7 +173,7 @@ impl Port {
     }
 
     /// Best effort(a, tag): a frame of no stream arrives; `charge` and `tag` are as in [`arrive`](Port::arrive). It waits until neither prior nor
-    /// current has a frame. Replies W.
+    /// current has a frame. It is counted nowhere before it is sent. Replies W.
     ///
     /// Refusals, in this order: [`ChargeRange`](Refusal::ChargeRange) (13), [`BestEffortFull`](Refusal::BestEffortFull) (15),
     /// [`LimitExceeded`](Refusal::LimitExceeded) (16).
@@ -198,8 +207,8 @@ impl Port {
 
     /// Frame(octets, tag): a frame arrives, given by its octets from the destination on, without check sequence. Octets 0 to 5 are its destination;
     /// where octets 12 and 13 are 81 00 (hexadecimal), its VID is the low 12 bits of octets 14 and 15, high octet first. Where the two are bound to
-    /// a stream it is an Arrive on that stream, otherwise a Best effort, with its length plus 24 as its charge. Replies as that call. Nothing is
-    /// kept of the octets: the host keeps the frame, under its tag. A frame has [`SHORTEST_FRAME`](crate::SHORTEST_FRAME) to
+    /// a stream it is an Arrive on that stream, otherwise a Best effort, with its length plus 24 as its charge. Replies and is counted as that call.
+    /// Nothing is kept of the octets: the host keeps the frame, under its tag. A frame has [`SHORTEST_FRAME`](crate::SHORTEST_FRAME) to
     /// [`LONGEST_FRAME`](crate::LONGEST_FRAME) octets.
     ///
     /// Refusals, in this order: [`FrameLength`](Refusal::FrameLength) (17); then of an arrival [`Draining`](Refusal::Draining) (25),
@@ -264,7 +273,7 @@ impl Port {
     /// drains for as many ticks as the port has queues for reserved traffic, which are four. Meanwhile every call that names it is refused with
     /// [`Draining`](Refusal::Draining), and so is a frame that would arrive on it; its P still counts in R and has its part of the share, and its
     /// binding stands against others. The last of these ticks frees it: its number may be reserved again, its part of the share is free, and its
-    /// binding is gone.
+    /// binding is gone. Both its counts ([`counts_of`](Port::counts_of)) are 0 as soon as the withdrawal is granted.
     ///
     /// Refusals, in this order: [`StreamRange`](Refusal::StreamRange) (5), [`Draining`](Refusal::Draining) (25),
     /// [`NotReserved`](Refusal::NotReserved) (12).
@@ -351,10 +360,89 @@ impl Port {
         register::written(self.write(Register::Mask, mask.into().0));
     }
 
-    /// Reads the three counters.
-    pub fn counts(&self) -> Counts {
-        let count = |counter: Register| register::read(self.read(counter));
-        Counts { accepted: count(Register::Accepted), discarded: count(Register::Discarded), sent: count(Register::Sent) }
+    /// The counts of all streams, that of stream s at index s: which machine is talking too much. The choice does not matter for them, and stays.
+    ///
+    /// ```
+    /// use bunnysolder::{Port, Refusal, StreamCounts, STREAMS};
+    ///
+    /// let mut port = Port::open(2_620, 1)?;
+    /// port.reserve(5, 200)?;
+    /// port.reserve(63, 200)?;
+    /// port.arrive(5, 120, 7)?;
+    /// assert_eq!(port.arrive(63, 201, 8), Err(Refusal::Discard)); // 201 octets are above P
+    ///
+    /// let counts = port.stream_counts();
+    /// assert_eq!(counts[5], StreamCounts { accepted: 1, discarded: 0 });
+    /// let talkers: Vec<usize> = (0..STREAMS).filter(|&stream| counts[stream].discarded > 0).collect();
+    /// assert_eq!(talkers, [63]);
+    ///
+    /// // Once a stream is withdrawn it has no counts.
+    /// port.withdraw(63)?;
+    /// assert_eq!(port.stream_counts()[63], StreamCounts::default());
+    /// # Ok::<(), Refusal>(())
+    /// ```
+    pub fn stream_counts(&self) -> [StreamCounts; STREAMS] {
+        std::array::from_fn(|stream| {
+            let counts = exports::stream_counts(&self.octets, stream as u8);
+            StreamCounts::of(never_refused(counts, "the counts of a stream"))
+        })
+    }
+
+    /// Stream counts(s): the counts of one stream, reserved or not. The choice does not matter for them, and stays.
+    ///
+    /// Refusals: [`StreamRange`](Refusal::StreamRange) (5).
+    ///
+    /// ```
+    /// use bunnysolder::{Port, Refusal, StreamCounts};
+    ///
+    /// let mut port = Port::open(2_620, 1)?;
+    /// port.reserve(5, 200)?;
+    /// port.arrive(5, 120, 7)?;
+    /// port.best_effort(84, 8)?; // a frame of no stream
+    /// assert_eq!(port.counts_of(5)?, StreamCounts { accepted: 1, discarded: 0 });
+    /// assert_eq!(port.counts_of(6)?, StreamCounts::default());
+    /// assert_eq!(port.counts_of(64), Err(Refusal::StreamRange));
+    /// # Ok::<(), Refusal>(())
+    /// ```
+    pub fn counts_of(&self, stream: u8) -> Result<StreamCounts, Refusal> {
+        exports::stream_counts(&self.octets, stream).map(StreamCounts::of)
+    }
+
+    /// Reads what a controller sees of the counts: those of the stream that it has [chosen](Port::set_choice), at first stream 0, and two zeros where
+    /// its choice is no stream's number. A host that wants a certain stream's counts asks [`counts_of`](Port::counts_of).
+    ///
+    /// ```
+    /// use bunnysolder::{Port, Refusal, StreamCounts};
+    ///
+    /// let mut port = Port::open(2_620, 1)?;
+    /// port.reserve(5, 200)?;
+    /// port.arrive(5, 120, 7)?;
+    /// assert_eq!(port.chosen_counts(), StreamCounts::default()); // of stream 0
+    /// port.set_choice(5);
+    /// assert_eq!(port.chosen_counts(), StreamCounts { accepted: 1, discarded: 0 });
+    /// port.set_choice(64);
+    /// assert_eq!(port.chosen_counts(), StreamCounts::default()); // of no stream
+    /// # Ok::<(), Refusal>(())
+    /// ```
+    pub fn chosen_counts(&self) -> StreamCounts {
+        let count = |register: Register| register::read(self.read(register));
+        StreamCounts { accepted: count(Register::Accepted), discarded: count(Register::Discarded) }
+    }
+
+    /// Reads how many frames the port has sent since the opening, those of all streams and those of best effort; after 4,294,967,295 comes 0.
+    pub fn frames_sent(&self) -> u32 {
+        register::read(self.read(Register::Sent))
+    }
+
+    /// Reads the choice, as it was written: the number of the stream whose counts a controller sees, or one that is no stream's.
+    pub fn choice(&self) -> u32 {
+        register::read(self.read(Register::Choice))
+    }
+
+    /// Writes the choice: the stream whose counts a controller sees ([`chosen_counts`](Port::chosen_counts)). Every number is kept; with one above 63
+    /// it sees two zeros.
+    pub fn set_choice(&mut self, choice: u32) {
+        register::written(self.write(Register::Choice, choice));
     }
 
     /// Register read(offset): the register at an offset that a controller gives; zero where there is none ([`Register`]).
@@ -377,9 +465,10 @@ impl Port {
         exports::register_read(&self.octets, &self.memory, offset).map(register::read)
     }
 
-    /// Register write(offset, value): a controller's write to the register at an offset. Control, flags and mask take it as
-    /// [`control`](Port::control), [`clear`](Port::clear) and [`set_mask`](Port::set_mask) do; everywhere else it does nothing. A one in a bit that
-    /// control or the flags do not have is ignored. Replies the two numbers of the last call that a write to control asks for, otherwise two zeros.
+    /// Register write(offset, value): a controller's write to the register at an offset. Control, flags, mask and choice take it as
+    /// [`control`](Port::control), [`clear`](Port::clear), [`set_mask`](Port::set_mask) and [`set_choice`](Port::set_choice) do; everywhere else it
+    /// does nothing. A one in a bit that control or the flags do not have is ignored. Replies the two numbers of the last call that a write to control
+    /// asks for, otherwise two zeros.
     ///
     /// Refusals: [`OffsetRange`](Refusal::OffsetRange) (26).
     ///

@@ -36,7 +36,7 @@ refusals! {
     /// Why a call was refused: the rule's numbers 1 to 20, 25 and 26, in its words.
     ///
     /// A refusal leaves the port as it was. [`Discard`](Refusal::Discard) alone also moves its stream, to place last with nothing left, and raises
-    /// its flag and its count among the registers.
+    /// its flag and its stream's count of discards.
     ///
     /// A [`Port`](crate::Port) never meets 1, 2, 18, 19 and 20; its documentation says why. They are here because the rule has them.
     ///

@@ -1,4 +1,4 @@
-//! The registers of a port, as a node's controller sees them: their offsets, types for what their bits and counters mean, and how a reply is read.
+//! The registers of a port, as a node's controller sees them: their offsets, types for what their bits and counts mean, and how a reply is read.
 
 use crate::reply::{no_reply, Numbers, Purged, Sent};
 
@@ -16,17 +16,27 @@ pub enum Register {
     Flags = 8,
     /// 12: the interrupt mask ([`Mask`]), kept as written.
     Mask = 12,
-    /// 16: how many frames were accepted ([`Counts::accepted`]).
+    /// 16: how many frames of the chosen stream were accepted ([`StreamCounts::accepted`]).
     Accepted = 16,
-    /// 20: how many frames were discarded ([`Counts::discarded`]).
+    /// 20: how many frames of the chosen stream were discarded ([`StreamCounts::discarded`]).
     Discarded = 20,
-    /// 24: how many frames were sent ([`Counts::sent`]).
+    /// 24: how many frames the port has sent, those of all streams and those of best effort.
     Sent = 24,
+    /// 28: the chosen stream, whose counts 16 and 20 show, kept as written; with a number above 63 here both read zero.
+    Choice = 28,
 }
 
 /// All registers, by rising offset.
-const REGISTERS: [Register; 7] =
-    [Register::Control, Register::Status, Register::Flags, Register::Mask, Register::Accepted, Register::Discarded, Register::Sent];
+const REGISTERS: [Register; 8] = [
+    Register::Control,
+    Register::Status,
+    Register::Flags,
+    Register::Mask,
+    Register::Accepted,
+    Register::Discarded,
+    Register::Sent,
+    Register::Choice,
+];
 
 impl Register {
     /// Where the register stands in the 64 octets.
@@ -110,15 +120,15 @@ impl From<Flags> for Mask {
     }
 }
 
-/// The counters, each from 0 at the opening on; after 4,294,967,295 comes 0.
+/// The counts of one stream, each from 0 at the opening on, and from 0 again where the stream is withdrawn; after 4,294,967,295 comes 0.
+///
+/// They depend on nothing that happens to other streams.
 #[derive(Clone, Copy, Debug, Default, PartialEq, Eq, Hash)]
-pub struct Counts {
-    /// How many frames were accepted, those of streams and those of best effort.
+pub struct StreamCounts {
+    /// How many of its frames were accepted: those of Arrive, and of each Frame that became one.
     pub accepted: u32,
-    /// How many frames were discarded (14).
+    /// How many of its frames were discarded (14).
     pub discarded: u32,
-    /// How many frames were sent, those of streams and those of best effort.
-    pub sent: u32,
 }
 
 /// What a write to control replies: what its last call replies.
@@ -143,6 +153,13 @@ impl Controlled {
                 Controlled::Neither
             }
         }
+    }
+}
+
+impl StreamCounts {
+    /// The accepted and the discarded count.
+    pub(crate) fn of((accepted, discarded): Numbers) -> StreamCounts {
+        StreamCounts { accepted, discarded }
     }
 }
 
@@ -196,6 +213,12 @@ mod tests {
     fn registers_are_read() {
         assert_eq!(read((u32::MAX, 0)), u32::MAX);
         assert!(stops(read, (0, 1)));
+    }
+
+    #[test]
+    fn counts_are_read() {
+        assert_eq!(StreamCounts::of((2, 1)), StreamCounts { accepted: 2, discarded: 1 });
+        assert_eq!(StreamCounts::of((0, u32::MAX)), StreamCounts { accepted: 0, discarded: u32::MAX });
     }
 
     #[test]

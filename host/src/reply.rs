@@ -2,6 +2,7 @@
 
 use crate::exports::ADDRESS_OCTETS;
 use crate::refusal::Refusal;
+use crate::STREAMS;
 
 /// The two reply numbers of a granted call.
 pub type Numbers = (u32, u32);
@@ -10,7 +11,7 @@ pub type Numbers = (u32, u32);
 const OF_BEST_EFFORT: u32 = 255;
 const OF_NOTHING: u32 = 254;
 /// The last stream.
-const LAST_STREAM: u32 = 63;
+const LAST_STREAM: u32 = STREAMS as u32 - 1;
 /// The least charge, so the least W after a frame has joined best effort.
 const LEAST_CHARGE: u32 = 84;
 
@@ -111,7 +112,8 @@ pub(crate) fn no_reply((first, second): Numbers, call: &str) -> ! {
     outside(&format!("the reply {first} {second} to {call}"))
 }
 
-/// The reply of a call for which no refusal is left on a port that is fit and open: an access to a register that there is, and a lookup.
+/// The reply of a call for which no refusal is left on a port that is fit and open: an access to a register that there is, a lookup, and the counts of
+/// a stream that there is.
 pub(crate) fn never_refused(replied: Result<Numbers, Refusal>, call: &str) -> Numbers {
     replied.unwrap_or_else(|refusal| outside(&format!("the refusal {} to {call}", refusal.number())))
 }

@@ -6,6 +6,7 @@ use std::path::Path;
 use harness::call::{Call, Reply, ADDRESS_OCTETS};
 use harness::comparing::calls::{Charges, Profile, Weights, NEVER, ORDINARY};
 use harness::comparing::compared::Step;
+use harness::comparing::counts::{questions, Counting};
 use harness::comparing::coverage::{prior_waits, Asked, Seen};
 use harness::comparing::draining::{ending, Freed};
 use harness::comparing::fit::Octets;
@@ -21,7 +22,7 @@ use harness::comparing::tests::lists::at_each_place;
 use harness::model;
 
 use super::Port;
-use crate::{Control, Controlled, Flags, Framed, Joined, Lookup, Queue, Refusal, Register, Sent};
+use crate::{Control, Controlled, Flags, Framed, Joined, Lookup, Queue, Refusal, Register, Sent, StreamCounts};
 
 /// The seed of the lists.
 const SEED: u64 = 1;
@@ -91,13 +92,7 @@ fn withdrawn_streams() -> Result<(), String> {
 /// Lookups of a bound pair and of all that is near to it, after each call of lists that bind and withdraw.
 #[test]
 fn pairs_looked_up() -> Result<(), String> {
-    let mut run = run("pairs_looked_up");
-    for _ in 0..8 {
-        let mut random = run.next_list();
-        let profile = once_opened(WITHDRAWING);
-        let mut both = Both::open(&mut run, &profile.open(&mut random, false)).expect("L and K are in their ranges");
-        both.play_list_with_lookups(&mut run, &mut random, &profile, 150);
-    }
+    let run = play_asking("pairs_looked_up", 8, 150, WITHDRAWING, lookups_near);
     run.demand_none(Seen::Lookup(Looked::Refused))?;
     let found = [Looked::Found, Looked::FoundDraining, Looked::NoneByVid, Looked::NoneByAddress, Looked::VidAbove];
     let passed = [Looked::PastSameAddress, Looked::PastDraining].into_iter().chain((0..ADDRESS_OCTETS).map(Looked::PastAddressOctet));
@@ -105,7 +100,19 @@ fn pairs_looked_up() -> Result<(), String> {
     run.demand(&looked)
 }
 
-/// Registers that are read and written again and again, beside calls that raise each flag and each counter.
+/// The counts of streams, after each call of lists that discard, withdraw, choose streams and read what is shown of them.
+#[test]
+fn counts_asked_for() -> Result<(), String> {
+    let weights = Weights { read_register: 40, write_register: 50, ..WITHDRAWING.weights };
+    let run = play_asking("counts_asked_for", 8, 400, Profile { weights, ..WITHDRAWING }, questions);
+    let met = [Counting::Shown, Counting::OfUnchosen, Counting::Zeroed, Counting::ChosenAbove];
+    run.demand(&met.map(|counting| (Seen::Counting(counting), 10)))?;
+    let asked = [Counting::Asked, Counting::AskedUnchosen, Counting::RefusedAbove, Counting::Chosen];
+    run.demand(&asked.map(|counting| (Seen::Counting(counting), 25)))?;
+    run.demand_none(Seen::Counting(Counting::RefusedShort))
+}
+
+/// Registers that are read and written again and again, beside calls that raise each flag and each count.
 #[test]
 fn registers_accessed() -> Result<(), String> {
     let run = play("registers_accessed", 16, 600, |_| REGISTERS)?;
@@ -114,7 +121,9 @@ fn registers_accessed() -> Result<(), String> {
     run.demand(&[(Seen::OtherRegisterWritten, 100), (Seen::ReadRefused(26), 25), (Seen::WriteRefused(26), 25)])?;
     run.demand(&EVERY_FLAG.map(|(flag, _)| (Seen::FlagSet(flag), 15)))?;
     run.demand(&EVERY_FLAG.map(|(flag, _)| (Seen::FlagCleared(flag), 15)))?;
-    run.demand(&EVERY_COUNT.map(|(count, _)| (Seen::Counted(count), 100)))
+    run.demand(&EVERY_COUNT.map(|count| (Seen::Counted(count), 100)))?;
+    let shown = [Counting::Chosen, Counting::ChosenAbove, Counting::Shown, Counting::NotShown];
+    run.demand(&shown.map(|counting| (Seen::Counting(counting), 25)))
 }
 
 /// Every argument outside its range, at its ends and where fewer bits would hide it.
@@ -148,6 +157,26 @@ fn play(test: &'static str, lists: usize, calls: usize, profile: impl Fn(&mut Ra
     }
     NEVER_MET.iter().try_for_each(|&refusal| run.demand_none(Seen::Refused(refusal)))?;
     Ok(run)
+}
+
+/// Plays lists of calls of one profile, each from a granted Open on, and after each call questions that leave the record as it is.
+fn play_asking(
+    test: &'static str,
+    lists: usize,
+    calls: usize,
+    profile: Profile,
+    asked: impl Fn(&mut Random, &[u8]) -> Vec<Call>,
+) -> Run<'static> {
+    let (mut run, profile) = (run(test), once_opened(profile));
+    for _ in 0..lists {
+        let mut random = run.next_list();
+        let mut both = Both::open(&mut run, &profile.open(&mut random, false)).expect("L and K are in their ranges");
+        for _ in 0..calls {
+            both.play_list(&mut run, &mut random, &profile, 1);
+            asked(&mut random, &both.octets.record).iter().for_each(|call| both.play(&mut run, call));
+        }
+    }
+    run
 }
 
 /// The profile with the steps of a host that owns a port: it opens it once, and writes none of its octets.
@@ -185,15 +214,6 @@ impl Both {
         }
     }
 
-    /// Plays the calls of one list, and after each of them lookups near what is bound then.
-    fn play_list_with_lookups(&mut self, run: &mut Run, random: &mut Random, profile: &Profile, calls: usize) {
-        for _ in 0..calls {
-            self.play_list(run, random, profile, 1);
-            let lookups = lookups_near(random, &self.octets.record);
-            lookups.iter().for_each(|lookup| self.play(run, lookup));
-        }
-    }
-
     /// Plays a call on both, which must do the same.
     fn play(&mut self, run: &mut Run, call: &Call) {
         let (prior_waited, ending) = (prior_waits(&self.octets.record), ending(call, &self.octets.record));
@@ -204,6 +224,7 @@ impl Both {
         run.count_call(call, &reply, &self.octets.record, prior_waited);
         self.freed.follow(&mut run.coverage, call, &reply, &ending);
         before.count_changes(&mut run.coverage, call, &self.held());
+        before.count_withdrawal(&mut run.coverage, call, &reply);
     }
 
     /// What the register block holds.
@@ -236,7 +257,17 @@ fn through(port: &mut Port, call: &Call) -> Reply {
         Call::ReadRegister { offset } => numbers(read(port, offset), |register| (register, 0)),
         Call::WriteRegister { offset, value } => numbers(write(port, offset, value), |numbers| numbers),
         Call::Lookup { ref address, vid } => numbers(Ok(port.lookup(address, vid)), of_lookup),
+        Call::StreamCounts { stream } => numbers(stream_counts(port, stream), |counts| (counts.accepted, counts.discarded)),
     }
+}
+
+/// Asks for the counts of one stream, and where there is one for those of all, which must say the same.
+fn stream_counts(port: &Port, stream: u8) -> Result<StreamCounts, Refusal> {
+    let counts = port.counts_of(stream);
+    if let Some(among_all) = port.stream_counts().get(usize::from(stream)) {
+        assert_eq!(counts, Ok(*among_all), "{stream}");
+    }
+    counts
 }
 
 /// Reads by an offset, and where it is a register's by the method with its type, which must say the same.
@@ -255,9 +286,10 @@ fn of_register(port: &Port, register: Register) -> u32 {
         Register::Status => port.status().bits(),
         Register::Flags => port.flags().bits(),
         Register::Mask => port.mask().0,
-        Register::Accepted => port.counts().accepted,
-        Register::Discarded => port.counts().discarded,
-        Register::Sent => port.counts().sent,
+        Register::Accepted => port.chosen_counts().accepted,
+        Register::Discarded => port.chosen_counts().discarded,
+        Register::Sent => port.frames_sent(),
+        Register::Choice => port.choice(),
     }
 }
 
@@ -268,6 +300,7 @@ fn write(port: &mut Port, offset: u32, value: u32) -> Result<(u32, u32), Refusal
         Some(Register::Control) if control.bits() == value => return port.control(control).map(of_control),
         Some(Register::Flags) if flags.bits() == value => port.clear(flags),
         Some(Register::Mask) if flags.bits() == value => port.set_mask(flags),
+        Some(Register::Choice) => port.set_choice(value),
         _ => return port.write_register(offset, value),
     }
     Ok((0, 0))

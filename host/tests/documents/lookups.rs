@@ -167,7 +167,7 @@ fn a_lookup_changes_nothing() {
         assert_eq!(port.frame(&octets[..SHORTEST_FRAME], 9), joined(Queue::Current, 116).map(Framed::Arrived));
     }
     assert_eq!(asked.lookup(&ending(68), VID), none(2));
-    let registers = |port: &Port| (port.status(), port.flags(), port.mask(), port.counts());
+    let registers = |port: &Port| (port.status(), port.flags(), port.mask(), port.stream_counts(), port.frames_sent(), port.choice());
     assert_eq!(registers(&asked), registers(&other));
     assert_eq!((asked.transmit(), asked.transmit()), (other.transmit(), other.transmit()));
 }

@@ -1,6 +1,7 @@
 //! Documents 01 and 02 through a port of this package, as a user calls it, with the replies that the documents state.
 
 mod cases;
+mod counting;
 mod envelope;
 mod lookups;
 mod names;

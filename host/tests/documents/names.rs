@@ -1,6 +1,6 @@
 //! The names, numbers and words of the refusals, also of those that no port meets, and the numbers and registers that the header defines too.
 
-use bunnysolder::{Control, Flags, Refusal, Register, Status, EDITION, LONGEST_FRAME, SHORTEST_FRAME};
+use bunnysolder::{Control, Flags, Refusal, Register, Status, EDITION, LONGEST_FRAME, SHORTEST_FRAME, STREAMS};
 
 /// The header for C.
 const HEADER: &str = include_str!("../../../include/bunnysolder.h");
@@ -81,6 +81,12 @@ fn defined(name: &str) -> Vec<&'static str> {
 #[test]
 fn the_edition_is_that_of_the_header() {
     assert_eq!(defined("EDITION"), [EDITION.to_string()]);
+}
+
+/// There are as many streams as in the header.
+#[test]
+fn the_streams_are_those_of_the_header() {
+    assert_eq!(defined("STREAMS"), [STREAMS.to_string()]);
 }
 
 /// The lengths of frames are those of the header.

@@ -1,8 +1,10 @@
-//! Request 3 of document 02, "Register block": each sentence of it that a port of this package can meet, with values derived by hand. A closed port,
-//! and 26 before 18, are met by `harness/header.c`; the counters' wrap by the tests of `src/port`.
+//! Request 3 of document 02, "Register block": each sentence of it that a port of this package can meet, with values derived by hand; accepted and
+//! discarded frames are counted as request 5 has it. A closed port, and 26 before 18, are met by `harness/header.c`; the wrap of the counts by the
+//! tests of `src/port`.
 
 use bunnysolder::{
-    Control, Controlled, Counts, Flags, Framed, Mask, Port, Purged, Queue, Refusal, Register, Reserved, Sent, Status, SHORTEST_FRAME,
+    Control, Controlled, Flags, Framed, Mask, Port, Purged, Queue, Refusal, Register, Reserved, Sent, Status, StreamCounts, SHORTEST_FRAME,
+    STREAMS,
 };
 
 use crate::{frame, joined, opened, refused, reserved, waiting, ADDRESS, STREAM};
@@ -27,14 +29,17 @@ fn all(port: &Port) -> [u32; 16] {
     std::array::from_fn(|number| port.read_register(4 * number as u32).expect("the offset is a register's"))
 }
 
-/// The counters.
-fn counts(accepted: u32, discarded: u32, sent: u32) -> Counts {
-    Counts { accepted, discarded, sent }
+/// The counts: accepted and discarded frames of the cases' stream, and frames that the port has sent.
+fn counts(port: &Port) -> (u32, u32, u32) {
+    let StreamCounts { accepted, discarded } = port.counts_of(STREAM).expect("it is a stream");
+    (accepted, discarded, port.frames_sent())
 }
 
-/// A port on which a frame was discarded, one purged, and a transmit had nothing to send: flags 7, accepted 1, discarded 1, sent 0.
+/// A port on which a frame was discarded, one purged, and a transmit had nothing to send: flags 7, accepted 1, discarded 1, sent 0. The stream, 5, is
+/// the chosen one.
 fn all_flags() -> Port {
     let mut port = reserved();
+    port.set_choice(u32::from(STREAM));
     assert_eq!(port.arrive(STREAM, 200, 1), joined(Queue::Current, 200));
     refused(port.arrive(STREAM, 201, 2), Refusal::Discard, 14);
     assert_eq!(port.tick(), Ok(Purged { frames: 0, octets: 0 }));
@@ -49,7 +54,8 @@ fn all_flags() -> Port {
 fn an_open_port_starts_with_zeros() {
     assert_eq!(all(&opened()), [0, 1, 0, 0, 0, 0, 0, 0, 0, 0, 0, 0, 0, 0, 0, 0]);
     assert_eq!(opened().status(), Status { open: true, interrupt: false });
-    assert_eq!((opened().flags(), opened().mask(), opened().counts()), (NONE, Mask(0), counts(0, 0, 0)));
+    assert_eq!((opened().flags(), opened().mask(), opened().choice()), (NONE, Mask(0), 0));
+    assert_eq!((opened().stream_counts(), opened().frames_sent()), ([StreamCounts::default(); STREAMS], 0));
 }
 
 /// "It refuses with 26 an offset that is no multiple of 4 or is above 60": reads and writes alike, which leave all as it was.
@@ -78,7 +84,7 @@ fn control_ticks_then_transmits() {
     assert_eq!(port.control(TICK), Ok(Controlled::Ticked(Purged { frames: 0, octets: 0 })));
     assert_eq!(port.control(TICK), Ok(Controlled::Ticked(Purged { frames: 1, octets: 84 })));
     assert_eq!(port.control(TRANSMIT), Ok(Controlled::Transmitted(Sent::Nothing)));
-    assert_eq!(port.counts(), counts(3, 0, 2));
+    assert_eq!(counts(&port), (3, 0, 2));
 }
 
 /// "a control write with neither bit two zeros", and it does nothing, whatever its other bits; with bit 0 or 1 these are ignored too.
@@ -99,15 +105,16 @@ fn control_has_two_bits() {
     assert_eq!(port.read_register(0), Ok(0)); // "control, which reads zero"
 }
 
-/// "A read replies the register": status, flags, mask and counters at their offsets, bit 0 the lowest.
+/// "A read replies the register": status, flags, mask, counts and choice at their offsets, bit 0 the lowest.
 #[test]
 fn registers_stand_at_their_offsets() {
     let mut port = all_flags();
-    assert_eq!(all(&port), [0, 0b01, 0b111, 0, 1, 1, 0, 0, 0, 0, 0, 0, 0, 0, 0, 0]);
+    assert_eq!(all(&port), [0, 0b01, 0b111, 0, 1, 1, 0, 5, 0, 0, 0, 0, 0, 0, 0, 0]);
     port.set_mask(Mask(1 << 31 | 0b100));
     assert_eq!(port.best_effort(84, 3), waiting(84));
     assert_eq!(port.transmit(), Ok(Sent::BestEffort { tag: 3 }));
-    assert_eq!(all(&port), [0, 0b11, 0b111, 1 << 31 | 0b100, 2, 1, 1, 0, 0, 0, 0, 0, 0, 0, 0, 0]);
+    refused(port.arrive(STREAM, 201, 4), Refusal::Discard, 14);
+    assert_eq!(all(&port), [0, 0b11, 0b111, 1 << 31 | 0b100, 1, 2, 1, 5, 0, 0, 0, 0, 0, 0, 0, 0]);
 }
 
 /// "8 flags (bit 0 discard, bit 1 purge of at least one frame, bit 2 nothing to send)": each comes up by its own event alone.
@@ -186,29 +193,26 @@ fn the_mask_is_kept_as_written() {
     assert!(!port.status().interrupt);
 }
 
-/// "count frames of both sorts accepted": by Arrive, Best effort and Frame; "and frames of both sorts sent".
+/// "24 count[s] [...] frames of both sorts sent": those of Arrive, Best effort and Frame; nothing is none.
 #[test]
-fn both_sorts_are_counted() {
+fn both_sorts_are_counted_where_they_are_sent() {
     let mut port = reserved();
     assert_eq!(port.bind(STREAM, &ADDRESS, 1), Ok(()));
-    assert_eq!(port.counts(), counts(0, 0, 0));
     assert_eq!(port.arrive(STREAM, 84, 1), joined(Queue::Current, 116));
-    assert_eq!(port.counts(), counts(1, 0, 0));
     assert_eq!(port.best_effort(84, 2), waiting(84));
-    assert_eq!(port.counts(), counts(2, 0, 0));
     assert_eq!(port.frame(&frame(1)[..SHORTEST_FRAME], 3), joined(Queue::Current, 32).map(Framed::Arrived));
     assert_eq!(port.frame(&frame(2)[..SHORTEST_FRAME], 4), waiting(168).map(Framed::BestEffort));
-    assert_eq!(port.counts(), counts(4, 0, 0));
+    assert_eq!(counts(&port), (2, 0, 0));
     for (sent, tag) in [(1, 1), (2, 3)] {
         assert_eq!(port.transmit(), Ok(Sent::Reserved { stream: STREAM, tag }));
-        assert_eq!(port.counts(), counts(4, 0, sent));
+        assert_eq!(counts(&port), (2, 0, sent));
     }
     for (sent, tag) in [(3, 2), (4, 4)] {
         assert_eq!(port.transmit(), Ok(Sent::BestEffort { tag }));
-        assert_eq!(port.counts(), counts(4, 0, sent));
+        assert_eq!(counts(&port), (2, 0, sent));
     }
     assert_eq!(port.transmit(), Ok(Sent::Nothing));
-    assert_eq!(port.counts(), counts(4, 0, 4));
+    assert_eq!(counts(&port), (2, 0, 4));
 }
 
 /// "discards (14)": of an Arrive and of a Frame that becomes one; a purged frame is neither discarded nor sent.
@@ -219,14 +223,14 @@ fn discards_are_counted() {
     assert_eq!(port.arrive(STREAM, 84, 1), joined(Queue::Current, 116));
     refused(port.arrive(STREAM, 201, 2), Refusal::Discard, 14);
     refused(port.frame(&frame(1)[..SHORTEST_FRAME], 3), Refusal::Discard, 14);
-    assert_eq!((port.counts(), port.flags()), (counts(1, 2, 0), DISCARD));
+    assert_eq!((counts(&port), port.flags()), ((1, 2, 0), DISCARD));
     port.clear(DISCARD);
     assert_eq!(port.tick(), Ok(Purged { frames: 0, octets: 0 }));
     assert_eq!(port.tick(), Ok(Purged { frames: 1, octets: 84 }));
-    assert_eq!((port.counts(), port.flags()), (counts(1, 2, 0), PURGE));
+    assert_eq!((counts(&port), port.flags()), ((1, 2, 0), PURGE));
 }
 
-/// "Of refusals only 14 sets a flag or count": each other one that a port can meet leaves every register.
+/// "Of refusals only 14 sets a flag or count": each other one that a port can meet leaves every register, and the counts of every stream.
 #[test]
 fn other_refusals_set_nothing() {
     let mut port = reserved();
@@ -234,7 +238,9 @@ fn other_refusals_set_nothing() {
     assert_eq!(port.reserve(6, 200), Ok(Reserved { free: 200 }));
     assert_eq!(port.reserve(7, 84), Ok(Reserved { free: 116 }));
     assert_eq!(port.withdraw(7), Ok(()));
-    let before = all(&port);
+    assert_eq!(port.arrive(STREAM, 84, 1), joined(Queue::Current, 116));
+    port.set_choice(u32::from(STREAM));
+    let before = (all(&port), port.stream_counts());
     refused(port.arrive(64, 84, 1), Refusal::StreamRange, 5);
     refused(port.reserve(STREAM, 84), Refusal::ReservedAlready, 6);
     refused(port.reserve(8, 83), Refusal::PermittedRange, 7);
@@ -248,10 +254,10 @@ fn other_refusals_set_nothing() {
     refused(port.frame(&frame(1)[..SHORTEST_FRAME - 1], 1), Refusal::FrameLength, 17);
     refused(port.arrive(7, 84, 1), Refusal::Draining, 25);
     refused(port.withdraw(7), Refusal::Draining, 25);
-    assert_eq!(all(&port), before);
+    assert_eq!((all(&port), port.stream_counts()), before);
 }
 
-/// The same of 15 and 16, by Best effort and by Frame: 256 frames wait, each counted as accepted, and no more are.
+/// The same of 15 and 16, by Best effort and by Frame: 256 frames wait, and none is counted before it is sent.
 #[test]
 fn refusals_of_best_effort_set_nothing() {
     let mut port = Port::open(21_588, 1).expect("L and K are in their ranges");
@@ -264,7 +270,7 @@ fn refusals_of_best_effort_set_nothing() {
     assert_eq!(port.best_effort(84, 256), waiting(21_504));
     refused(port.best_effort(84, 257), Refusal::BestEffortFull, 15);
     refused(port.frame(&frame(2)[..SHORTEST_FRAME], 257), Refusal::BestEffortFull, 15);
-    assert_eq!((port.counts(), port.flags()), (counts(256, 0, 0), NONE));
+    assert_eq!((port.stream_counts(), port.frames_sent(), port.flags()), ([StreamCounts::default(); STREAMS], 0, NONE));
 }
 
 /// "Other offsets read zero; writes to them, 4 and the counters do nothing", and reply two zeros.
@@ -273,8 +279,8 @@ fn other_writes_do_nothing() {
     let mut port = all_flags();
     port.set_mask(PURGE);
     let before = all(&port);
-    assert_eq!(before, [0, 0b11, 0b111, 0b010, 1, 1, 0, 0, 0, 0, 0, 0, 0, 0, 0, 0]);
-    for offset in [4].into_iter().chain((16..=LAST_OFFSET).step_by(4)) {
+    assert_eq!(before, [0, 0b11, 0b111, 0b010, 1, 1, 0, 5, 0, 0, 0, 0, 0, 0, 0, 0]);
+    for offset in [4, 16, 20, 24].into_iter().chain((32..=LAST_OFFSET).step_by(4)) {
         for value in [0, 1, u32::MAX] {
             assert_eq!(port.write_register(offset, value), Ok((0, 0)));
             assert_eq!(all(&port), before);
@@ -282,11 +288,14 @@ fn other_writes_do_nothing() {
     }
 }
 
-/// "Any list of control writes does to the port what the named calls do": the same replies, frames, flags and counters, over epochs with frames of
+/// "Any list of control writes does to the port what the named calls do": the same replies, frames, flags and counts, over epochs with frames of
 /// both sorts, of which some are sent and some purged.
 #[test]
 fn control_writes_do_what_the_calls_do() {
     let (mut controlled, mut called) = (reserved(), reserved());
+    for port in [&mut controlled, &mut called] {
+        port.set_choice(u32::from(STREAM));
+    }
     for tag in 0..40 {
         for port in [&mut controlled, &mut called] {
             let _ = port.arrive(STREAM, 84 + 10 * (tag % 12), tag);
@@ -298,7 +307,8 @@ fn control_writes_do_what_the_calls_do() {
         assert_eq!(controlled.control(asked), transmitted.or(ticked).unwrap_or(Ok(Controlled::Neither)), "frame {tag}");
         assert_eq!(all(&controlled), all(&called), "frame {tag}");
     }
-    assert!(called.flags().purge && called.counts().sent > 0, "some are purged and some are sent");
+    assert!(called.flags().purge && called.frames_sent() > 0, "some are purged and some are sent");
+    assert!(called.chosen_counts().accepted > 0 && called.chosen_counts().discarded > 0, "some are accepted and some are discarded");
 }
 
 /// A refused access is no event, and neither is a read: nothing is counted, and what waits is sent.
@@ -309,7 +319,7 @@ fn accesses_are_not_counted() {
     for offset in 0..=LAST_OFFSET + 4 {
         assert_eq!(port.read_register(offset).is_ok(), offset % 4 == 0 && offset <= LAST_OFFSET);
     }
-    assert_eq!((port.counts(), port.flags()), (counts(1, 0, 0), NONE));
+    assert_eq!((counts(&port), port.flags()), ((1, 0, 0), NONE));
     assert_eq!(port.transmit(), Ok(Sent::Reserved { stream: STREAM, tag: 7 }));
 }
 
@@ -317,8 +327,8 @@ fn accesses_are_not_counted() {
 #[test]
 fn each_port_has_its_own_registers() {
     let (first, second) = (all_flags(), opened());
-    assert_eq!((first.counts(), second.counts()), (counts(1, 1, 0), counts(0, 0, 0)));
-    assert_eq!(second.flags(), NONE);
+    assert_eq!((counts(&first), counts(&second)), ((1, 1, 0), (0, 0, 0)));
+    assert_eq!((first.choice(), second.choice(), second.flags()), (u32::from(STREAM), 0, NONE));
 }
 
 /// The registers by name are those at the offsets of the document, and there is no other.
@@ -326,6 +336,7 @@ fn each_port_has_its_own_registers() {
 fn registers_have_their_offsets() {
     let offsets = [Register::Control, Register::Status, Register::Flags, Register::Mask].map(Register::offset);
     assert_eq!(offsets, [0, 4, 8, 12]);
-    assert_eq!([Register::Accepted, Register::Discarded, Register::Sent].map(Register::offset), [16, 20, 24]);
-    assert_eq!((0..=u32::from(u8::MAX)).filter_map(Register::from_offset).map(Register::offset).max(), Some(24));
+    let offsets = [Register::Accepted, Register::Discarded, Register::Sent, Register::Choice].map(Register::offset);
+    assert_eq!(offsets, [16, 20, 24, 28]);
+    assert_eq!((0..=u32::from(u8::MAX)).filter_map(Register::from_offset).map(Register::offset).max(), Some(28));
 }

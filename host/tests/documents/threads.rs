@@ -2,7 +2,7 @@
 
 use std::thread;
 
-use bunnysolder::{Counts, Lookup, Queue, Sent, Status};
+use bunnysolder::{Lookup, Queue, Sent, Status, StreamCounts};
 
 use crate::{joined, reserved, ADDRESS, STREAM};
 
@@ -15,17 +15,17 @@ fn a_port_is_sent_to_another_thread() {
     assert_eq!(sent, Ok(Sent::Reserved { stream: STREAM, tag: 7 }));
 }
 
-/// The registers of a port are read by several threads at a time.
+/// The registers and the counts of a port are read by several threads at a time.
 #[test]
 fn registers_are_read_by_several_threads() {
     let mut port = reserved();
     assert_eq!(port.arrive(STREAM, 120, 7), joined(Queue::Current, 80));
     thread::scope(|scope| {
-        let readers = [0; 4].map(|_| scope.spawn(|| (port.status(), port.counts())));
+        let readers = [0; 4].map(|_| scope.spawn(|| (port.status(), port.stream_counts(), port.frames_sent())));
         for reader in readers {
-            let (status, counts) = reader.join().expect("the thread ends");
+            let (status, counts, sent) = reader.join().expect("the thread ends");
             assert_eq!(status, Status { open: true, interrupt: false });
-            assert_eq!(counts, Counts { accepted: 1, discarded: 0, sent: 0 });
+            assert_eq!((counts[usize::from(STREAM)], sent), (StreamCounts { accepted: 1, discarded: 0 }, 0));
         }
     });
 }
