@@ -165,7 +165,22 @@ pub fn frame(port: &mut [u8], memory: &mut [u8], octets: &[u8], tag: u32) -> Rep
     }
     let charge = header::charge(octets);
     match binding::finding::of_frame(&port[..record::RECORD_LENGTH], octets) {
-        Lookup::Bound(stream) => arrive(port, memory, stream, charge, tag),
-        Lookup::Unbound => best_effort(port, memory, charge, tag),
+        Lookup::Bound(stream) => {
+            let reply = port::arrive(
+                &mut port[..record::RECORD_LENGTH],
+                memory,
+                stream,
+                charge,
+                tag,
+            );
+            notes::arrive(port, stream, reply.refusal);
+            reply
+        }
+        Lookup::Unbound => port::best_effort(
+            &mut port[..record::RECORD_LENGTH],
+            memory,
+            charge,
+            tag,
+        ),
     }
 }
