@@ -1,5 +1,5 @@
 -- What a write to a register does to each field of the block, and when the interrupt line is up. Assumes nothing.
-use Prim.Native.Nat.{ℕ, zero, suc, _+_, _^_, _≤_, _<_}
+use Prim.Native.Nat.{ℕ, zero, suc, _^_, _≤_, _<_}
 use mathlib.Core.Path.{_≡_, refl, ap, _∙_}
 use mathlib.Core.Bool.{Bool, true, false, cond, _&&_}
 use mathlib.Core.List.{List}
@@ -10,7 +10,7 @@ use Rattle.lists.specs.Window.{Apart}
 use Rattle.lists.proofs.Order.{eq-or-not}
 use lib.ListN.{length}
 use lib.Dec.{eqb}
-use Rattle.register_block.specs.Layout.{WholeBlock, flagsOffset, maskOffset, choiceOffset, discardFlag, purgeFlag, nothingFlag, flagCount, maskOctet, choiceOctet, registerLength}
+use Rattle.register_block.specs.Layout.{WholeBlock, flagsOffset, maskOffset, choiceOffset, discardFlag, purgeFlag, nothingFlag, flagCount, maskOctet, choiceOctet}
 use Rattle.register_block.specs.Fields.{flagAt, withoutFlag, wordAt, withWord, bitOf, bit0, bit1, bit2}
 use Rattle.register_block.specs.Written.{clearedBy, flagsCleared, writtenAt}
 use Rattle.register_block.proofs.BlockLaws.{length-word, length-cleared, word-word, word-apart, word-unflag, flag-word, flag-cleared, flag-cleared-other}

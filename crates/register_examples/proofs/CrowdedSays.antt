@@ -13,7 +13,7 @@ use Rattle.record.specs.Queues.{queuesAt}
 use Rattle.record.specs.Head.{openAt, withOpen, priorAt, withPrior, delayAt, withDelay, linkAt, withLink, waitsAt, withWaits, queueAt, withQueue}
 use Rattle.record.specs.Entry.{streamAt, withStream, withPlace, drainAt, withDrain, drainsAt, boundAt, vidAt, dropped}
 use Rattle.steps.specs.Roles.{roleAt}
-use Rattle.steps.specs.Call.{Call, terms, opening}
+use Rattle.steps.specs.Call.{terms, opening}
 use Rattle.opening.specs.Opening.{openedRecord}
 use Rattle.arriving.specs.Arriving.{arriveStep}
 use Rattle.ticking.specs.Ticking.{drainedAt, tickedRecord, tickStep}

@@ -1,6 +1,5 @@
 -- A list in which other streams, best effort and transmits stand between one stream's calls, and what the theorems say of the stream's counts: each line
 -- follows from the theorem that its comment names, and would be lost with it.
-use Prim.Native.Nat.{ℕ}
 use mathlib.Core.Path.{_≡_}
 use mathlib.Core.Bool.{Bool, true}
 use mathlib.Core.List.{List, [], _∷_}

@@ -1,6 +1,6 @@
 -- Lists that are alike in ticks, a stream's own calls and which of its reservations are granted leave the stream the same counts: these are the number of its
 -- replies since it began, and demand 3 gives the stream's arrivals the same replies in both. Assumes nothing.
-use Prim.Native.Nat.{ℕ, _+_, _%_, _^_, _≤_, _<_}
+use Prim.Native.Nat.{ℕ, _+_, _%_, _^_, _≤_}
 use mathlib.Core.Path.{_≡_, refl, sym, ap, ap₂, subst, _∙_}
 use mathlib.Core.Bool.{Bool, true, false, cond, _&&_, _||_}
 use mathlib.Core.List.{List, [], _∷_, _++_}
@@ -9,24 +9,22 @@ use lib.ListN.{length}
 use lib.Dec.{eqb}
 use Rattle.lists.specs.Each.{All}
 use Rattle.stream.specs.declared.Reply.{Reply}
-use Rattle.record.specs.Layout.{streamCount}
 use Rattle.steps.specs.Call.{Call, opening, reserving, withdrawing, arriving, ticking, transmitting, joiningBestEffort, binding, framing}
 use Rattle.steps.specs.Outcome.{Outcome}
 use Rattle.port.specs.Calls.{called}
 use Rattle.port_laws.specs.Counting.{actionOf, countsAs}
-use Rattle.guarantee.specs.Events.{Made, made, Event, eventsAfter, events, marked}
-use Rattle.guarantee.specs.Claims.{isTick, isReserveOf, isWithdrawOf, isArriveOf, isOwnOf, remaining, grants, answers}
+use Rattle.guarantee.specs.Events.{made, Event, eventsAfter, marked}
+use Rattle.guarantee.specs.Claims.{isTick, isWithdrawOf, isArriveOf, isOwnOf, remaining, answers}
 use Rattle.guarantee.specs.Beyond.{withdrawalGrants}
-use Rattle.guarantee.specs.Demand3.{CallList, eventsIn}
 use Rattle.guarantee.proofs.Theorem.{demand-3, alike-withdrawals}
 use Rattle.register_block.specs.Layout.{blockLength, acceptedOctet, discardedOctet}
 use Rattle.register_block.specs.Fields.{wordAt}
 use Rattle.registers.specs.Lent.{recordPart, blockPart}
 use Rattle.register_laws.specs.Uses.{allCalls, UseList, openedBy, leftBy}
 use Rattle.register_laws.specs.Happenings.{Happening, replied, written, happeningsIn}
-use Rattle.register_laws.specs.History.{Sort, sortOf, grantedOpen, beginning, arrivalReplied, isReply}
+use Rattle.register_laws.specs.History.{sortOf, grantedOpen, beginning, arrivalReplied, isReply}
 use Rattle.register_laws.specs.Guaranteed.{callsIn}
-use Rattle.register_laws.specs.Alike.{eventsOf, AlikeFor, CountsAlike}
+use Rattle.register_laws.specs.Alike.{eventsOf, CountsAlike}
 use Rattle.register_laws.proofs.FollowLaws.{onlyCalls, happenOn, call-follows, list-follows}
 use Rattle.register_laws.proofs.SinceLaws.{countFrom}
 use Rattle.register_laws.proofs.FieldLaws.{Counter, accepted-counter, discarded-counter}

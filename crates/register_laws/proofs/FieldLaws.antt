@@ -8,7 +8,7 @@ use native.Mathlib.Omega.{arith}
 use Rattle.stream.specs.declared.Reply.{Reply}
 use Rattle.record.specs.Layout.{streamCount}
 use Rattle.steps.specs.Call.{Call}
-use Rattle.register_block.specs.Layout.{WholeBlock, blockLength, maskOffset, choiceOffset, discardFlag, purgeFlag, nothingFlag, flagCount, maskOctet, sentOctet, choiceOctet, acceptedOctet, discardedOctet}
+use Rattle.register_block.specs.Layout.{WholeBlock, maskOffset, choiceOffset, discardFlag, purgeFlag, nothingFlag, flagCount, maskOctet, sentOctet, choiceOctet, acceptedOctet, discardedOctet}
 use Rattle.register_block.specs.Fields.{wordAt, flagAt}
 use Rattle.register_block.proofs.BlockLaws.{word-raised, word-raised-apart, word-flag, word-zeroed, flag-zeroed, flag-flag, flag-other, flag-raised, word-accepted, word-discarded, accepted-withdrawn, discarded-withdrawn, accepted-apart, discarded-apart, withdrawn-apart, flag-accepted, flag-discarded, flag-withdrawn, discarded-flag}
 use Rattle.register_block.proofs.WrittenLaws.{word-written, flag-written, mask-written, choice-written}

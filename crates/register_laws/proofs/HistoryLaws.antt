@@ -1,7 +1,7 @@
 -- Counters and flags tell the replies so far, and mask and choice what was last written, where each happening does to them what the laws of the fields say.
 -- Assumes nothing.
 use Prim.Native.Nat.{ℕ, _+_, _%_, _^_}
-use mathlib.Core.Path.{_≡_, refl, ap, ap₂, _∙_}
+use mathlib.Core.Path.{_≡_, refl, ap, _∙_}
 use mathlib.Core.Bool.{Bool, true, false, cond, _||_}
 use mathlib.Core.List.{List, [], _∷_, _++_}
 use native.Mathlib.Omega.{arith}
@@ -10,7 +10,7 @@ use Rattle.stream.specs.declared.Reply.{Reply}
 use Rattle.register_block.specs.Layout.{WholeBlock}
 use Rattle.register_block.specs.Fields.{wordAt, flagAt}
 use Rattle.register_laws.specs.Happenings.{Happening, replied, written, note, notedAll}
-use Rattle.register_laws.specs.History.{Sort, isReply, clears, howMany, isThere, lastFrom}
+use Rattle.register_laws.specs.History.{Sort, isReply, clears, isThere, lastFrom}
 use Rattle.register_laws.proofs.NoteLaws.{length-note}
 use Rattle.register_laws.proofs.FieldLaws.{Counter, Flag, Written}
 use Rattle.register_laws.proofs.SinceLaws.{countFrom}

@@ -23,7 +23,7 @@ use Rattle.port_laws.proofs.StayLaws.{stays-fit}
 use Rattle.port_laws.proofs.StayOpen.{stays-open, stays-long}
 use Rattle.register_block.specs.Layout.{controlOffset, statusOffset, flagsOffset, maskOffset, acceptedOffset, discardedOffset, sentOffset, choiceOffset, acceptedOctet, discardedOctet}
 use Rattle.register_block.specs.Fields.{wordAt}
-use Rattle.register_block.specs.Shown.{chosen, shownCount, registerAt}
+use Rattle.register_block.specs.Shown.{shownCount, registerAt}
 use Rattle.registers.specs.Lent.{WholePort, recordPart, blockPart, shortRefusal, portRefusal}
 use Rattle.registers.specs.Accesses.{offsetRefusal, inTurn, readBy}
 use Rattle.registers.proofs.PartLaws.{lent-else}

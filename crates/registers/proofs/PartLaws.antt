@@ -18,7 +18,7 @@ use Rattle.record.specs.Layout.{recordLength, memoryLength}
 use Rattle.record.specs.Queues.{queuesAt}
 use Rattle.steps.specs.Call.{Call}
 use Rattle.port_laws.specs.Counting.{countsAs}
-use Rattle.steps.specs.Outcome.{Outcome, outcome, gated, refused}
+use Rattle.steps.specs.Outcome.{Outcome, outcome, gated}
 use Rattle.steps.proofs.OutcomeLaws.{same-outcome, grants, refuses}
 use Rattle.registers.specs.Lent.{portLength, WholePort, recordPart, blockPart, inBlock, shortRefusal, portRefusal}
 use Rattle.registers.specs.Notes.{noted}
