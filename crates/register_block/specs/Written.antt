@@ -13,7 +13,8 @@ clearedBy flag weight number b = cond (bitOf number weight) (withoutFlag b flag)
 abbrev pub flagsCleared : ℕ → List ℕ → List ℕ
 flagsCleared number b = clearedBy nothingFlag bit2 number (clearedBy purgeFlag bit1 number (clearedBy discardFlag bit0 number b))
 
--- the block after a write: "12 the interrupt mask, kept as written", and the choice at 28 likewise; of other offsets, "writes to them, 4 and the counters do nothing"
+-- the block after a write: "12 the interrupt mask, kept as written", and the choice at 28 likewise; of other offsets, "writes to them, 4 and the counters
+-- do nothing"
 unfoldable pub writtenAt : ℕ → ℕ → List ℕ → List ℕ
 writtenAt offset number b =
     cond (eqb offset flagsOffset) (flagsCleared number b)

@@ -50,6 +50,7 @@ use Rattle.register_laws.specs.Controls.{namedIn}
 use Rattle.register_laws.specs.Cases.{controlUses}
 use Rattle.register_laws.specs.Says.{Opens, listOf, clearedUses, withdrawnUses, HistoriesSay}
 use Rattle.register_laws.proofs.Histories.{discard-flags, purge-flags, nothing-flags}
+use Rattle.register_laws.proofs.SinceLaws.{since-last}
 use Rattle.register_laws.proofs.ReadLaws.{reads-tell, counts-tell}
 use Rattle.register_laws.proofs.ControlLaws.{control-named, controls-named}
 use Rattle.register_laws.proofs.QuickRegisters.{quick-list}
@@ -127,6 +128,7 @@ histories-say =
       counted = counts-tell l 5 (omega arith) ∙ ap (bothOf 5) it-happens;
       other-counted = counts-tell l 6 (omega arith) ∙ ap (bothOf 6) it-happens;
       withdrawn-counted = counts-tell (listOf withdrawnUses it-opens) 5 (omega arith) ∙ ap (bothOf 5) it-withdraws;
+      since-withdrawal = λ before r. since-last (isReply (beginning 5)) before (replied (arriving 5 84 1) r ∷ []) (replied (withdrawing 5) (granted 0 0)) refl (refl, tt);
       sent = subst (λ (hs : List Happening). Reads l 24 (howMany (isReply sending) hs % 2 ^ 32)) it-happens (tell .sent);
       discard-up = discard-flags .since-open l (none discardFlag) ∙ ap (isThere (isReply discard)) it-happens;
       purge-up = purge-flags .since-open l (none purgeFlag) ∙ ap (isThere (isReply purge)) it-happens;

@@ -3,8 +3,9 @@ use Prim.Native.Nat.{ℕ, _^_}
 use mathlib.Core.Path.{_≡_}
 use mathlib.Core.Bool.{true, false}
 use mathlib.Core.List.{List, [], _∷_, _++_}
+use Rattle.stream.specs.declared.Reply.{Reply}
 use Rattle.stream.specs.Replies.{granted}
-use Rattle.steps.specs.Call.{terms, opening, withdrawing, ticking, transmitting}
+use Rattle.steps.specs.Call.{terms, opening, withdrawing, arriving, ticking, transmitting}
 use Rattle.fitness.specs.Fit.{recordFits}
 use Rattle.port_laws.specs.Lists.{replies, freshMemory}
 use Rattle.register_block.specs.Layout.{controlOffset, discardFlag, purgeFlag, nothingFlag}
@@ -15,8 +16,8 @@ use Rattle.registers.specs.Calls.{portCall}
 use Rattle.registers.specs.Accesses.{inTurn, registerWrite}
 use Rattle.registers.specs.StreamCounts.{portCounts}
 use Rattle.register_laws.specs.Uses.{Use, calling, writing, quicklyUsed, lent, ran, UseList, leftBy}
-use Rattle.register_laws.specs.Happenings.{happenings, repliesIn}
-use Rattle.register_laws.specs.History.{Reads}
+use Rattle.register_laws.specs.Happenings.{Happening, replied, happenings, repliesIn}
+use Rattle.register_laws.specs.History.{beginning, isReply, since, Reads}
 use Rattle.register_laws.specs.Controls.{controlWrites}
 use Rattle.register_laws.specs.Cases.{freshPort, controlUses}
 
@@ -46,6 +47,9 @@ pub record HistoriesSay : Type 0 where
   pub counted : portCounts 5 (leftBy (listOf controlUses opens) .port) ≡ granted 3 1
   pub other-counted : portCounts 6 (leftBy (listOf controlUses opens) .port) ≡ granted 0 0
   pub withdrawn-counted : portCounts 5 (leftBy (listOf withdrawnUses opens) .port) ≡ granted 0 0
+  -- `since-last`: whatever happened before a granted withdrawal, what is since then is what stands behind it
+  pub since-withdrawal : (before : List Happening) (r : Reply)
+      → since (isReply (beginning 5)) (before ++ (replied (withdrawing 5) (granted 0 0) ∷ replied (arriving 5 84 1) r ∷ [])) ≡ replied (arriving 5 84 1) r ∷ []
   -- `discard-flags`, `purge-flags`, `nothing-flags`: there was one of each since the Open
   pub discard-up : flagAt (blockPart (leftBy (listOf controlUses opens) .port)) discardFlag ≡ true
   pub purge-up : flagAt (blockPart (leftBy (listOf controlUses opens) .port)) purgeFlag ≡ true

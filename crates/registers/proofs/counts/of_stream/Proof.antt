@@ -1,4 +1,5 @@
--- `registers::counts::of_stream` meets its contract. By the length of the slice, and whether the number is a stream's; then the counts in the block. Assumes nothing.
+-- `registers::counts::of_stream` meets its contract. By the length of the slice, and whether the number is a stream's;
+-- then the counts in the block. Assumes nothing.
 use Rattle.registers.proofs.CountLaws.{counts-short, counts-none, counts-stream}
 use borrow.Author.Needs.{needs}
 use Rattle.registers.proofs.counts.of_stream.Statement.{statement}

@@ -1,4 +1,5 @@
--- `registers::quick::frame` meets its contract. The call that the frame becomes, on the record, and its note in the block; one of a length outside its range on the record alone. Assumes nothing.
+-- `registers::quick::frame` meets its contract. The call that the frame becomes, on the record, and its note in the block; one of a length outside its
+-- range on the record alone. Assumes nothing.
 use native.Mathlib.Omega.{arith}
 use mathlib.Core.Path.{refl, _∙_, sym}
 use borrow.Author.Tests.{not-true, not-false}
