@@ -1,15 +1,14 @@
 /*
  * A host that relays two frames over an epoch's end: it opens a port, reserves a stream and binds it to an address and a VID, takes two frames of
  * which the second has to wait for the next epoch, and sends them. Of the first it knows the stream and the charge; the second it gives with its
- * octets, and the port finds both. Meanwhile it sends a gateway's frame of the longest length as best effort. Then a firmware load comes: of the two
- * epochs for which best effort may wait it has one, so its next frame is refused until one of its frames was sent, and queries get through meanwhile.
- * Then the machine that sends the stream is taken off the line, and another one gets its share: the host withdraws the stream, sends the frame that
- * still waits, and asks for the other stream after each tick until it is granted. At last it serves the node's controller, which sees the port as
- * registers: a discarded frame and a purged one raise the interrupt line, the host reads which it was and the counts of the stream that the
- * controller has chosen, and clears the flags that it has read; and it ends epochs and sends by single writes to control. Whenever support asks which
- * machine is talking too much, the host tells the counts of every stream that has some, and the controller's choice stays as it is. The set-up goes
- * through the calls that test the whole record. After the granted Open nothing but these calls writes the port and the memory, so the traffic goes
- * through the calls that scan nothing, whose replies are then the same.
+ * octets, and the port finds both. Meanwhile it sends a gateway's frame of the longest length as best effort. Then the machine that sends the stream
+ * is taken off the line, and another one gets its share: the host withdraws the stream, sends the frame that still waits, and asks for the other
+ * stream after each tick until it is granted. At last it serves the node's controller, which sees the port as registers: a discarded frame and a
+ * purged one raise the interrupt line, the host reads which it was and the counts of the stream that the controller has chosen, and clears the flags
+ * that it has read; and it ends epochs and sends by single writes to control. Whenever support asks which machine is talking too much, the host tells
+ * the counts of every stream that has some, and the controller's choice stays as it is. The set-up goes through the calls that test the whole record.
+ * After the granted Open nothing but these calls writes the port and the memory, so the traffic goes through the calls that scan nothing, whose
+ * replies are then the same.
  */
 #include <stdio.h>
 #include <stdlib.h>
@@ -17,9 +16,8 @@
 
 #include "bunnysolder.h"
 
-/* The epochs for which stream 6 waits for its octets at most, and the turns in which the load offers its frames at most. */
+/* The epochs for which stream 6 waits for its octets at most. */
 #define MOST_EPOCHS 8
-#define MOST_TURNS 16
 
 static uint8_t port[BUNNYSOLDER_PORT_LENGTH];
 static uint8_t memory[BUNNYSOLDER_MEMORY_LENGTH];
@@ -84,40 +82,19 @@ static void arrive(uint32_t charge, uint32_t tag)
 static void frame(size_t length, uint32_t tag)
 {
     static uint8_t octets[BUNNYSOLDER_LONGEST_FRAME];
-    const uint8_t caller = BUNNYSOLDER_QUERY;
 
     memcpy(octets, address, sizeof address);
     memcpy(octets + 12, vlan_tag, sizeof vlan_tag);
-    came("frame", tag, bunnysolder_frame_unscanned(port, sizeof port, memory, sizeof memory, caller, octets, length, tag, &first, &second));
+    came("frame", tag, bunnysolder_frame_unscanned(port, sizeof port, memory, sizeof memory, octets, length, tag, &first, &second));
 }
 
-/* A frame of a length comes from the wire without VLAN tag, so it is one of no stream: a query, or a frame of a firmware load. Its refusal. */
-static uint8_t best_effort_frame(uint8_t caller, size_t length, uint32_t tag)
+/* A gateway's frame of the longest length comes from the wire, without VLAN tag: it is one of no stream. */
+static void gateway_frame(uint32_t tag)
 {
     static const uint8_t octets[BUNNYSOLDER_LONGEST_FRAME];
 
-    return bunnysolder_frame_unscanned(port, sizeof port, memory, sizeof memory, caller, octets, length, tag, &first, &second);
-}
-
-/* A query of a length comes from the wire. */
-static void query(size_t length, uint32_t tag)
-{
-    granted("query", best_effort_frame(BUNNYSOLDER_QUERY, length, tag));
-    printf("query: frame %u joins best effort, where %u octets wait\n", tag, first);
-}
-
-/* A firmware load offers a frame of the longest length. Whether it is accepted. */
-static int firmware(uint32_t tag)
-{
-    uint8_t refusal = best_effort_frame(BUNNYSOLDER_FIRMWARE, BUNNYSOLDER_LONGEST_FRAME, tag);
-
-    if (refusal == BUNNYSOLDER_FIRMWARE_EXCEEDED) {
-        printf("firmware: frame %u is refused with %u, the load is at its limit\n", tag, refusal);
-        return 0;
-    }
-    granted("firmware", refusal);
-    printf("firmware: frame %u joins best effort, where %u octets wait\n", tag, first);
-    return 1;
+    granted("frame", bunnysolder_frame_unscanned(port, sizeof port, memory, sizeof memory, octets, sizeof octets, tag, &first, &second));
+    printf("frame: frame %u is best effort, where %u octets wait\n", tag, first);
 }
 
 /* What a call that transmits has replied. */
@@ -125,10 +102,8 @@ static void sent(const char *call)
 {
     if (first == BUNNYSOLDER_NOTHING)
         printf("%s: nothing\n", call);
-    else if (first == BUNNYSOLDER_QUERY)
-        printf("%s: frame %u, a query\n", call, second);
-    else if (first == BUNNYSOLDER_FIRMWARE)
-        printf("%s: frame %u of the firmware load\n", call, second);
+    else if (first == BUNNYSOLDER_BEST_EFFORT)
+        printf("%s: frame %u of best effort\n", call, second);
     else
         printf("%s: frame %u of stream %u\n", call, second, first);
 }
@@ -164,37 +139,17 @@ static void tell_support(void)
         printf("support: no frames of any stream\n");
 }
 
-/* Two frames of stream 5 over an epoch's end, and a gateway's query, which is sent while the second waits. */
+/* Two frames of stream 5 over an epoch's end, and one of best effort, which is sent while the second waits. */
 static void relay(void)
 {
     arrive(120, 7);
     frame(76, 8);
-    query(BUNNYSOLDER_LONGEST_FRAME, 12);
+    gateway_frame(12);
     transmit();
     transmit();
     transmit();
     tick();
     transmit();
-}
-
-/* A firmware load of frames 30 to 32. It may have 2,620 - 200 octets waiting, so one frame of 2,020. While its next one is refused a query comes and
- * a frame is sent; then the load offers that one again. */
-static void load_firmware(void)
-{
-    uint32_t tag = 30;
-    int turn;
-
-    for (turn = 0; turn < MOST_TURNS && tag <= 32; turn++) {
-        if (firmware(tag)) {
-            tag++;
-        } else {
-            query(BUNNYSOLDER_SHORTEST_FRAME, 40 + (uint32_t)turn);
-            transmit();
-        }
-    }
-    do
-        transmit();
-    while (first != BUNNYSOLDER_NOTHING);
 }
 
 /* Stream 5 is taken off the line while its frame 9 waits for the next epoch. Stream 6 gets more than was free beside it, and its address; the rest is
@@ -299,13 +254,12 @@ static void serve_the_controller(void)
 
 int main(void)
 {
-    granted("open", bunnysolder_open(port, sizeof port, memory, sizeof memory, 2620, 2, 1, &first, &second));
+    granted("open", bunnysolder_open(port, sizeof port, memory, sizeof memory, 2620, 1, &first, &second));
     printf("open: the share is %u octets\n", first);
     reserve(5, 200);
     bind(5);
     relay();
     tell_support();
-    load_firmware();
     take_off_the_line();
     tell_support();
     serve_the_controller();

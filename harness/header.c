@@ -1,7 +1,7 @@
 /*
  * Every function that bunnysolder.h declares, called through it: both sorts of call play document 01's sample, by charges and by frames, and a
- * withdrawal, the longest frames, the registers, the lookups, the counts of streams and the firmware loads of document 02, and must reply what the
- * documents say. The last line is the total.
+ * withdrawal, the longest frames, the registers, the lookups and the counts of streams of document 02, and must reply what the documents say. The
+ * last line is the total.
  */
 #include <stdio.h>
 #include <string.h>
@@ -11,14 +11,14 @@
 /* One sort of call. Both sorts have the same types, or this does not compile. */
 struct sort {
     const char *name;
-    uint8_t (*open)(uint8_t *, size_t, const uint8_t *, size_t, uint32_t, uint32_t, uint32_t, uint32_t *, uint32_t *);
+    uint8_t (*open)(uint8_t *, size_t, const uint8_t *, size_t, uint32_t, uint32_t, uint32_t *, uint32_t *);
     uint8_t (*reserve)(uint8_t *, size_t, const uint8_t *, size_t, uint8_t, uint32_t, uint32_t *, uint32_t *);
     uint8_t (*arrive)(uint8_t *, size_t, uint8_t *, size_t, uint8_t, uint32_t, uint32_t, uint32_t *, uint32_t *);
     uint8_t (*tick)(uint8_t *, size_t, const uint8_t *, size_t, uint32_t *, uint32_t *);
     uint8_t (*transmit)(uint8_t *, size_t, const uint8_t *, size_t, uint32_t *, uint32_t *);
-    uint8_t (*best_effort)(uint8_t *, size_t, uint8_t *, size_t, uint8_t, uint32_t, uint32_t, uint32_t *, uint32_t *);
+    uint8_t (*best_effort)(uint8_t *, size_t, uint8_t *, size_t, uint32_t, uint32_t, uint32_t *, uint32_t *);
     uint8_t (*bind)(uint8_t *, size_t, const uint8_t *, size_t, uint8_t, const uint8_t *, uint32_t, uint32_t *, uint32_t *);
-    uint8_t (*frame)(uint8_t *, size_t, uint8_t *, size_t, uint8_t, const uint8_t *, size_t, uint32_t, uint32_t *, uint32_t *);
+    uint8_t (*frame)(uint8_t *, size_t, uint8_t *, size_t, const uint8_t *, size_t, uint32_t, uint32_t *, uint32_t *);
     uint8_t (*withdraw)(uint8_t *, size_t, const uint8_t *, size_t, uint8_t, uint32_t *, uint32_t *);
     uint8_t (*register_read)(const uint8_t *, size_t, const uint8_t *, size_t, uint32_t, uint32_t *, uint32_t *);
     uint8_t (*register_write)(uint8_t *, size_t, const uint8_t *, size_t, uint32_t, uint32_t, uint32_t *, uint32_t *);
@@ -65,8 +65,8 @@ static void sample(const struct sort *s)
 
     never_opened();
     replies("transmit", s->transmit(port, p, memory, m, &first, &second), BUNNYSOLDER_CLOSED, 0, 0);
-    replies("open", s->open(port, p, memory, m, 23525, 1, 0, &first, &second), BUNNYSOLDER_LINK_RANGE, 0, 0);
-    replies("open", s->open(port, p, memory, m, 2620, 1, 0, &first, &second), BUNNYSOLDER_GRANTED, 600, 0);
+    replies("open", s->open(port, p, memory, m, 23525, 1, &first, &second), BUNNYSOLDER_LINK_RANGE, 0, 0);
+    replies("open", s->open(port, p, memory, m, 2620, 1, &first, &second), BUNNYSOLDER_GRANTED, 600, 0);
     replies("reserve", s->reserve(port, p, memory, m, 5, 200, &first, &second), BUNNYSOLDER_GRANTED, 400, 0);
     replies("reserve", s->reserve(port, p, memory, m, 6, 401, &first, &second), BUNNYSOLDER_SHARE_EXCEEDED, 0, 0);
     replies("arrive", s->arrive(port, p, memory, m, 5, 120, 7, &first, &second), BUNNYSOLDER_GRANTED, BUNNYSOLDER_CURRENT, 80);
@@ -76,10 +76,10 @@ static void sample(const struct sort *s)
     replies("tick", s->tick(port, p, memory, m, &first, &second), BUNNYSOLDER_GRANTED, 0, 0);
     replies("transmit", s->transmit(port, p, memory, m, &first, &second), BUNNYSOLDER_GRANTED, 5, 8);
     replies("arrive", s->arrive(port, p, memory, m, 5, 201, 9, &first, &second), BUNNYSOLDER_DISCARD, 0, 0);
-    replies("best effort", s->best_effort(port, p, memory, m, BUNNYSOLDER_QUERY, 2020, 10, &first, &second), BUNNYSOLDER_GRANTED, 2020, 0);
-    replies("best effort", s->best_effort(port, p, memory, m, BUNNYSOLDER_QUERY, 400, 11, &first, &second), BUNNYSOLDER_GRANTED, 2420, 0);
-    replies("best effort", s->best_effort(port, p, memory, m, BUNNYSOLDER_QUERY, 84, 12, &first, &second), BUNNYSOLDER_LIMIT_EXCEEDED, 0, 0);
-    replies("transmit", s->transmit(port, p, memory, m, &first, &second), BUNNYSOLDER_GRANTED, BUNNYSOLDER_QUERY, 10);
+    replies("best effort", s->best_effort(port, p, memory, m, 2020, 10, &first, &second), BUNNYSOLDER_GRANTED, 2020, 0);
+    replies("best effort", s->best_effort(port, p, memory, m, 400, 11, &first, &second), BUNNYSOLDER_GRANTED, 2420, 0);
+    replies("best effort", s->best_effort(port, p, memory, m, 84, 12, &first, &second), BUNNYSOLDER_LIMIT_EXCEEDED, 0, 0);
+    replies("transmit", s->transmit(port, p, memory, m, &first, &second), BUNNYSOLDER_GRANTED, BUNNYSOLDER_BEST_EFFORT, 10);
     replies("tick", s->tick(port, p, memory, m - 1, &first, &second), BUNNYSOLDER_SHORT_MEMORY, 0, 0);
     replies("tick", s->tick(port, p - 1, memory, m, &first, &second), BUNNYSOLDER_UNFIT_RECORD, 0, 0);
 }
@@ -104,24 +104,24 @@ static void sample_by_frames(const struct sort *s)
 
     never_opened();
     tag_frame(100);
-    replies("open", s->open(port, p, memory, m, 2620, 1, 0, &first, &second), BUNNYSOLDER_GRANTED, 600, 0);
+    replies("open", s->open(port, p, memory, m, 2620, 1, &first, &second), BUNNYSOLDER_GRANTED, 600, 0);
     replies("reserve", s->reserve(port, p, memory, m, 5, 200, &first, &second), BUNNYSOLDER_GRANTED, 400, 0);
     replies("reserve", s->reserve(port, p, memory, m, 6, 200, &first, &second), BUNNYSOLDER_GRANTED, 200, 0);
     replies("bind", s->bind(port, p, memory, m, 5, address, 4095, &first, &second), BUNNYSOLDER_VID_RANGE, 0, 0);
     replies("bind", s->bind(port, p, memory, m, 5, address, 100, &first, &second), BUNNYSOLDER_GRANTED, 0, 0);
     replies("bind", s->bind(port, p, memory, m, 5, address, 101, &first, &second), BUNNYSOLDER_BOUND_ALREADY, 0, 0);
     replies("bind", s->bind(port, p, memory, m, 6, address, 100, &first, &second), BUNNYSOLDER_PAIR_BOUND_ALREADY, 0, 0);
-    replies("frame", s->frame(port, p, memory, m, BUNNYSOLDER_QUERY, frame, 96, 7, &first, &second), BUNNYSOLDER_GRANTED, BUNNYSOLDER_CURRENT, 80);
-    replies("frame", s->frame(port, p, memory, m, BUNNYSOLDER_QUERY, frame, 76, 8, &first, &second), BUNNYSOLDER_GRANTED, BUNNYSOLDER_NEXT, 100);
+    replies("frame", s->frame(port, p, memory, m, frame, 96, 7, &first, &second), BUNNYSOLDER_GRANTED, BUNNYSOLDER_CURRENT, 80);
+    replies("frame", s->frame(port, p, memory, m, frame, 76, 8, &first, &second), BUNNYSOLDER_GRANTED, BUNNYSOLDER_NEXT, 100);
     replies("transmit", s->transmit(port, p, memory, m, &first, &second), BUNNYSOLDER_GRANTED, 5, 7);
     replies("transmit", s->transmit(port, p, memory, m, &first, &second), BUNNYSOLDER_GRANTED, BUNNYSOLDER_NOTHING, 0);
     replies("tick", s->tick(port, p, memory, m, &first, &second), BUNNYSOLDER_GRANTED, 0, 0);
     replies("transmit", s->transmit(port, p, memory, m, &first, &second), BUNNYSOLDER_GRANTED, 5, 8);
-    replies("frame", s->frame(port, p, memory, m, BUNNYSOLDER_QUERY, frame, 0, 9, &first, &second), BUNNYSOLDER_FRAME_LENGTH, 0, 0);
+    replies("frame", s->frame(port, p, memory, m, frame, 0, 9, &first, &second), BUNNYSOLDER_FRAME_LENGTH, 0, 0);
     frame[12] = 0x08;
-    replies("frame", s->frame(port, p, memory, m, BUNNYSOLDER_QUERY, frame, 1518, 10, &first, &second), BUNNYSOLDER_GRANTED, 1542, 0);
-    replies("frame", s->frame(port, p, memory, m, BUNNYSOLDER_QUERY, frame, 655, 11, &first, &second), BUNNYSOLDER_LIMIT_EXCEEDED, 0, 0);
-    replies("transmit", s->transmit(port, p, memory, m, &first, &second), BUNNYSOLDER_GRANTED, BUNNYSOLDER_QUERY, 10);
+    replies("frame", s->frame(port, p, memory, m, frame, 1518, 10, &first, &second), BUNNYSOLDER_GRANTED, 1542, 0);
+    replies("frame", s->frame(port, p, memory, m, frame, 655, 11, &first, &second), BUNNYSOLDER_LIMIT_EXCEEDED, 0, 0);
+    replies("transmit", s->transmit(port, p, memory, m, &first, &second), BUNNYSOLDER_GRANTED, BUNNYSOLDER_BEST_EFFORT, 10);
 }
 
 /* A stream is withdrawn: its frame is sent, it takes no more, and its share and number are free at the fourth tick. */
@@ -132,7 +132,7 @@ static void withdrawal(const struct sort *s)
 
     never_opened();
     replies("withdraw", s->withdraw(port, p, memory, m, 5, &first, &second), BUNNYSOLDER_CLOSED, 0, 0);
-    replies("open", s->open(port, p, memory, m, 2620, 1, 0, &first, &second), BUNNYSOLDER_GRANTED, 600, 0);
+    replies("open", s->open(port, p, memory, m, 2620, 1, &first, &second), BUNNYSOLDER_GRANTED, 600, 0);
     replies("withdraw", s->withdraw(port, p, memory, m, 5, &first, &second), BUNNYSOLDER_NOT_RESERVED, 0, 0);
     replies("withdraw", s->withdraw(port, p, memory, m, 64, &first, &second), BUNNYSOLDER_STREAM_RANGE, 0, 0);
     replies("reserve", s->reserve(port, p, memory, m, 5, 200, &first, &second), BUNNYSOLDER_GRANTED, 400, 0);
@@ -157,29 +157,28 @@ static void withdrawal(const struct sort *s)
 static void longest_frames(const struct sort *s)
 {
     const size_t p = sizeof port, m = sizeof memory, longest = BUNNYSOLDER_LONGEST_FRAME, shortest = BUNNYSOLDER_SHORTEST_FRAME;
-    const uint8_t query = BUNNYSOLDER_QUERY;
 
     never_opened();
-    replies("open", s->open(port, p, memory, m, 9145, 1, 0, &first, &second), BUNNYSOLDER_GRANTED, 7125, 0);
+    replies("open", s->open(port, p, memory, m, 9145, 1, &first, &second), BUNNYSOLDER_GRANTED, 7125, 0);
     replies("reserve", s->reserve(port, p, memory, m, 5, 3563, &first, &second), BUNNYSOLDER_GRANTED, 3562, 0);
     replies("reserve", s->reserve(port, p, memory, m, 6, 2019, &first, &second), BUNNYSOLDER_GRANTED, 1543, 0);
     replies("bind", s->bind(port, p, memory, m, 5, address, 100, &first, &second), BUNNYSOLDER_GRANTED, 0, 0);
     replies("bind", s->bind(port, p, memory, m, 6, address, 101, &first, &second), BUNNYSOLDER_GRANTED, 0, 0);
     tag_frame(100);
-    replies("frame", s->frame(port, p, memory, m, query, frame, 1519, 7, &first, &second), BUNNYSOLDER_GRANTED, BUNNYSOLDER_CURRENT, 2020);
-    replies("frame", s->frame(port, p, memory, m, query, frame, longest + 1, 8, &first, &second), BUNNYSOLDER_FRAME_LENGTH, 0, 0);
-    replies("frame", s->frame(port, p, memory, m, query, frame, longest, 9, &first, &second), BUNNYSOLDER_GRANTED, BUNNYSOLDER_CURRENT, 3563);
-    replies("frame", s->frame(port, p, memory, m, query, frame, shortest - 1, 10, &first, &second), BUNNYSOLDER_FRAME_LENGTH, 0, 0);
-    replies("frame", s->frame(port, p, memory, m, query, frame, shortest, 11, &first, &second), BUNNYSOLDER_GRANTED, BUNNYSOLDER_NEXT, 3479);
+    replies("frame", s->frame(port, p, memory, m, frame, 1519, 7, &first, &second), BUNNYSOLDER_GRANTED, BUNNYSOLDER_CURRENT, 2020);
+    replies("frame", s->frame(port, p, memory, m, frame, longest + 1, 8, &first, &second), BUNNYSOLDER_FRAME_LENGTH, 0, 0);
+    replies("frame", s->frame(port, p, memory, m, frame, longest, 9, &first, &second), BUNNYSOLDER_GRANTED, BUNNYSOLDER_CURRENT, 3563);
+    replies("frame", s->frame(port, p, memory, m, frame, shortest - 1, 10, &first, &second), BUNNYSOLDER_FRAME_LENGTH, 0, 0);
+    replies("frame", s->frame(port, p, memory, m, frame, shortest, 11, &first, &second), BUNNYSOLDER_GRANTED, BUNNYSOLDER_NEXT, 3479);
     tag_frame(101);
-    replies("frame", s->frame(port, p, memory, m, query, frame, 1519, 12, &first, &second), BUNNYSOLDER_GRANTED, BUNNYSOLDER_CURRENT, 476);
-    replies("frame", s->frame(port, p, memory, m, query, frame, longest, 13, &first, &second), BUNNYSOLDER_DISCARD, 0, 0);
-    replies("frame", s->frame(port, p, memory, m, query, frame, longest + 1, 14, &first, &second), BUNNYSOLDER_FRAME_LENGTH, 0, 0);
+    replies("frame", s->frame(port, p, memory, m, frame, 1519, 12, &first, &second), BUNNYSOLDER_GRANTED, BUNNYSOLDER_CURRENT, 476);
+    replies("frame", s->frame(port, p, memory, m, frame, longest, 13, &first, &second), BUNNYSOLDER_DISCARD, 0, 0);
+    replies("frame", s->frame(port, p, memory, m, frame, longest + 1, 14, &first, &second), BUNNYSOLDER_FRAME_LENGTH, 0, 0);
     frame[12] = 0x08;
-    replies("frame", s->frame(port, p, memory, m, query, frame, 1519, 15, &first, &second), BUNNYSOLDER_GRANTED, 1543, 0);
-    replies("frame", s->frame(port, p, memory, m, query, frame, longest + 1, 16, &first, &second), BUNNYSOLDER_FRAME_LENGTH, 0, 0);
-    replies("frame", s->frame(port, p, memory, m, query, frame, longest, 17, &first, &second), BUNNYSOLDER_GRANTED, 3563, 0);
-    replies("frame", s->frame(port, p, memory, m, query, frame, shortest, 18, &first, &second), BUNNYSOLDER_LIMIT_EXCEEDED, 0, 0);
+    replies("frame", s->frame(port, p, memory, m, frame, 1519, 15, &first, &second), BUNNYSOLDER_GRANTED, 1543, 0);
+    replies("frame", s->frame(port, p, memory, m, frame, longest + 1, 16, &first, &second), BUNNYSOLDER_FRAME_LENGTH, 0, 0);
+    replies("frame", s->frame(port, p, memory, m, frame, longest, 17, &first, &second), BUNNYSOLDER_GRANTED, 3563, 0);
+    replies("frame", s->frame(port, p, memory, m, frame, shortest, 18, &first, &second), BUNNYSOLDER_LIMIT_EXCEEDED, 0, 0);
 }
 
 /* A value with each of its bits one, a mask with some above the flags' bits, and the last offset that a register can have. */
@@ -242,10 +241,10 @@ static void registers_of_a_closed_port(const struct sort *s)
     reads(s, BUNNYSOLDER_REGISTER_CHOICE, ALL_ONES);
     reads(s, BUNNYSOLDER_REGISTER_FLAGS, 0);
     reads(s, BUNNYSOLDER_REGISTER_STATUS, 0);
-    replies("open", s->open(port, p, memory, m, 2103, 1, 0, &first, &second), BUNNYSOLDER_LINK_RANGE, 0, 0);
+    replies("open", s->open(port, p, memory, m, 2103, 1, &first, &second), BUNNYSOLDER_LINK_RANGE, 0, 0);
     reads(s, BUNNYSOLDER_REGISTER_MASK, WIDE_MASK);
     reads(s, BUNNYSOLDER_REGISTER_CHOICE, ALL_ONES);
-    replies("open", s->open(port, p, memory, m, 2620, 1, 0, &first, &second), BUNNYSOLDER_GRANTED, 600, 0);
+    replies("open", s->open(port, p, memory, m, 2620, 1, &first, &second), BUNNYSOLDER_GRANTED, 600, 0);
     reads(s, BUNNYSOLDER_REGISTER_MASK, 0);
     reads(s, BUNNYSOLDER_REGISTER_CHOICE, 0);
     reads(s, BUNNYSOLDER_REGISTER_STATUS, BUNNYSOLDER_STATUS_OPEN);
@@ -257,7 +256,7 @@ static void open_with_mask(const struct sort *s)
     const size_t p = sizeof port, m = sizeof memory;
 
     never_opened();
-    replies("open", s->open(port, p, memory, m, 2620, 1, 0, &first, &second), BUNNYSOLDER_GRANTED, 600, 0);
+    replies("open", s->open(port, p, memory, m, 2620, 1, &first, &second), BUNNYSOLDER_GRANTED, 600, 0);
     replies("reserve", s->reserve(port, p, memory, m, 5, 200, &first, &second), BUNNYSOLDER_GRANTED, 400, 0);
     writes(s, BUNNYSOLDER_REGISTER_MASK, BUNNYSOLDER_FLAG_DISCARD | BUNNYSOLDER_FLAG_PURGE, BUNNYSOLDER_GRANTED, 0, 0);
     writes(s, BUNNYSOLDER_REGISTER_CHOICE, 5, BUNNYSOLDER_GRANTED, 0, 0);
@@ -277,7 +276,7 @@ static void discard_raises_the_line(const struct sort *s)
     reads(s, BUNNYSOLDER_REGISTER_STATUS, BUNNYSOLDER_STATUS_OPEN);
     replies("arrive", s->arrive(port, p, memory, m, 5, 201, 9, &first, &second), BUNNYSOLDER_DISCARD, 0, 0);
     reads(s, BUNNYSOLDER_REGISTER_STATUS, BUNNYSOLDER_STATUS_OPEN | BUNNYSOLDER_STATUS_INTERRUPT);
-    replies("open", s->open(port, p, memory, m, 2620, 1, 0, &first, &second), BUNNYSOLDER_OPEN_ALREADY, 0, 0);
+    replies("open", s->open(port, p, memory, m, 2620, 1, &first, &second), BUNNYSOLDER_OPEN_ALREADY, 0, 0);
     reads(s, BUNNYSOLDER_REGISTER_FLAGS, BUNNYSOLDER_FLAG_DISCARD);
     writes(s, BUNNYSOLDER_REGISTER_FLAGS, BUNNYSOLDER_FLAG_PURGE | BUNNYSOLDER_FLAG_NOTHING, BUNNYSOLDER_GRANTED, 0, 0);
     reads(s, BUNNYSOLDER_REGISTER_FLAGS, BUNNYSOLDER_FLAG_DISCARD);
@@ -303,14 +302,14 @@ static void control_ticks_and_transmits(const struct sort *s)
     open_with_mask(s);
     replies("arrive", s->arrive(port, p, memory, m, 5, 120, 7, &first, &second), BUNNYSOLDER_GRANTED, BUNNYSOLDER_CURRENT, 80);
     replies("arrive", s->arrive(port, p, memory, m, 5, 100, 8, &first, &second), BUNNYSOLDER_GRANTED, BUNNYSOLDER_NEXT, 100);
-    replies("best effort", s->best_effort(port, p, memory, m, BUNNYSOLDER_QUERY, 84, 9, &first, &second), BUNNYSOLDER_GRANTED, 84, 0);
+    replies("best effort", s->best_effort(port, p, memory, m, 84, 9, &first, &second), BUNNYSOLDER_GRANTED, 84, 0);
     writes(s, BUNNYSOLDER_REGISTER_CONTROL, BUNNYSOLDER_CONTROL_TICK, BUNNYSOLDER_GRANTED, 0, 0);
     reads(s, BUNNYSOLDER_REGISTER_FLAGS, 0);
     writes(s, BUNNYSOLDER_REGISTER_CONTROL, BUNNYSOLDER_CONTROL_TICK | BUNNYSOLDER_CONTROL_TRANSMIT, BUNNYSOLDER_GRANTED, 5, 8);
     reads(s, BUNNYSOLDER_REGISTER_FLAGS, BUNNYSOLDER_FLAG_PURGE);
     reads(s, BUNNYSOLDER_REGISTER_STATUS, BUNNYSOLDER_STATUS_OPEN | BUNNYSOLDER_STATUS_INTERRUPT);
     writes(s, BUNNYSOLDER_REGISTER_FLAGS, ALL_ONES, BUNNYSOLDER_GRANTED, 0, 0);
-    writes(s, BUNNYSOLDER_REGISTER_CONTROL, BUNNYSOLDER_CONTROL_TRANSMIT, BUNNYSOLDER_GRANTED, BUNNYSOLDER_QUERY, 9);
+    writes(s, BUNNYSOLDER_REGISTER_CONTROL, BUNNYSOLDER_CONTROL_TRANSMIT, BUNNYSOLDER_GRANTED, BUNNYSOLDER_BEST_EFFORT, 9);
     writes(s, BUNNYSOLDER_REGISTER_CONTROL, BUNNYSOLDER_CONTROL_TRANSMIT, BUNNYSOLDER_GRANTED, BUNNYSOLDER_NOTHING, 0);
     reads(s, BUNNYSOLDER_REGISTER_FLAGS, BUNNYSOLDER_FLAG_NOTHING);
     reads(s, BUNNYSOLDER_REGISTER_STATUS, BUNNYSOLDER_STATUS_OPEN);
@@ -342,7 +341,7 @@ static void writes_that_do_nothing(const struct sort *s)
 
     open_with_mask(s);
     replies("arrive", s->arrive(port, p, memory, m, 5, 120, 7, &first, &second), BUNNYSOLDER_GRANTED, BUNNYSOLDER_CURRENT, 80);
-    replies("best effort", s->best_effort(port, p, memory, m, BUNNYSOLDER_QUERY, 84, 8, &first, &second), BUNNYSOLDER_GRANTED, 84, 0);
+    replies("best effort", s->best_effort(port, p, memory, m, 84, 8, &first, &second), BUNNYSOLDER_GRANTED, 84, 0);
     replies("transmit", s->transmit(port, p, memory, m, &first, &second), BUNNYSOLDER_GRANTED, 5, 7);
     writes(s, BUNNYSOLDER_REGISTER_STATUS, ALL_ONES, BUNNYSOLDER_GRANTED, 0, 0);
     for (offset = BUNNYSOLDER_REGISTER_ACCEPTED; offset <= LAST_OFFSET; offset += 4)
@@ -394,7 +393,7 @@ static void finds_stream(const uint8_t *wanted, uint32_t vid, uint32_t stream, u
 /* A lookup on the whole port must find no stream. */
 static void finds_none(const uint8_t *wanted, uint32_t vid, uint32_t octets)
 {
-    finds(sizeof port, wanted, vid, BUNNYSOLDER_GRANTED, BUNNYSOLDER_UNBOUND, octets);
+    finds(sizeof port, wanted, vid, BUNNYSOLDER_GRANTED, BUNNYSOLDER_BEST_EFFORT, octets);
 }
 
 /* Opens the port with streams 5 and 6 on it, bound to the addresses that end 66 and 67, both with VID 100. */
@@ -403,7 +402,7 @@ static void open_with_bindings(const struct sort *s)
     const size_t p = sizeof port, m = sizeof memory;
 
     never_opened();
-    replies("open", s->open(port, p, memory, m, 2620, 1, 0, &first, &second), BUNNYSOLDER_GRANTED, 600, 0);
+    replies("open", s->open(port, p, memory, m, 2620, 1, &first, &second), BUNNYSOLDER_GRANTED, 600, 0);
     replies("reserve", s->reserve(port, p, memory, m, 5, 200, &first, &second), BUNNYSOLDER_GRANTED, 400, 0);
     replies("reserve", s->reserve(port, p, memory, m, 6, 200, &first, &second), BUNNYSOLDER_GRANTED, 200, 0);
     finds_none(ending_66, 100, 0);
@@ -504,7 +503,7 @@ static void open_with_both_ends(const struct sort *s)
     const size_t p = sizeof port, m = sizeof memory;
 
     never_opened();
-    replies("open", s->open(port, p, memory, m, 2620, 1, 0, &first, &second), BUNNYSOLDER_GRANTED, 600, 0);
+    replies("open", s->open(port, p, memory, m, 2620, 1, &first, &second), BUNNYSOLDER_GRANTED, 600, 0);
     replies("reserve", s->reserve(port, p, memory, m, FIRST_STREAM, 200, &first, &second), BUNNYSOLDER_GRANTED, 400, 0);
     replies("reserve", s->reserve(port, p, memory, m, LAST_STREAM, 200, &first, &second), BUNNYSOLDER_GRANTED, 200, 0);
     replies("bind", s->bind(port, p, memory, m, LAST_STREAM, address, 100, &first, &second), BUNNYSOLDER_GRANTED, 0, 0);
@@ -519,22 +518,21 @@ static void open_with_both_ends(const struct sort *s)
 static void counts_of_each_stream(const struct sort *s)
 {
     const size_t p = sizeof port, m = sizeof memory, shortest = BUNNYSOLDER_SHORTEST_FRAME;
-    const uint8_t query = BUNNYSOLDER_QUERY;
 
     open_with_both_ends(s);
     stream_has(s, FIRST_STREAM, 0, 0);
     stream_has(s, LAST_STREAM, 0, 0);
     replies("arrive", s->arrive(port, p, memory, m, FIRST_STREAM, 84, 1, &first, &second), BUNNYSOLDER_GRANTED, BUNNYSOLDER_CURRENT, 116);
     replies("arrive", s->arrive(port, p, memory, m, LAST_STREAM, 120, 2, &first, &second), BUNNYSOLDER_GRANTED, BUNNYSOLDER_CURRENT, 80);
-    replies("frame", s->frame(port, p, memory, m, query, frame, shortest, 3, &first, &second), BUNNYSOLDER_GRANTED, BUNNYSOLDER_NEXT, 116);
+    replies("frame", s->frame(port, p, memory, m, frame, shortest, 3, &first, &second), BUNNYSOLDER_GRANTED, BUNNYSOLDER_NEXT, 116);
     stream_has(s, LAST_STREAM, 2, 0);
     replies("arrive", s->arrive(port, p, memory, m, LAST_STREAM, 201, 4, &first, &second), BUNNYSOLDER_DISCARD, 0, 0);
-    replies("frame", s->frame(port, p, memory, m, query, frame, shortest, 5, &first, &second), BUNNYSOLDER_DISCARD, 0, 0);
+    replies("frame", s->frame(port, p, memory, m, frame, shortest, 5, &first, &second), BUNNYSOLDER_DISCARD, 0, 0);
     replies("arrive", s->arrive(port, p, memory, m, LAST_STREAM, 83, 6, &first, &second), BUNNYSOLDER_CHARGE_RANGE, 0, 0);
     replies("arrive", s->arrive(port, p, memory, m, 1, 84, 7, &first, &second), BUNNYSOLDER_NOT_RESERVED, 0, 0);
-    replies("best effort", s->best_effort(port, p, memory, m, query, 84, 8, &first, &second), BUNNYSOLDER_GRANTED, 84, 0);
+    replies("best effort", s->best_effort(port, p, memory, m, 84, 8, &first, &second), BUNNYSOLDER_GRANTED, 84, 0);
     frame[12] = 0x08;
-    replies("frame", s->frame(port, p, memory, m, query, frame, shortest, 9, &first, &second), BUNNYSOLDER_GRANTED, 168, 0);
+    replies("frame", s->frame(port, p, memory, m, frame, shortest, 9, &first, &second), BUNNYSOLDER_GRANTED, 168, 0);
     stream_has(s, FIRST_STREAM, 1, 0);
     stream_has(s, 1, 0, 0);
     stream_has(s, LAST_STREAM, 2, 2);
@@ -604,7 +602,7 @@ static void counts_of_any_port(const struct sort *s)
     counts(0, NO_STREAM, BUNNYSOLDER_UNFIT_RECORD, 0, 0);
     port[p - 1] = 9;
     counts(p, LAST_STREAM, BUNNYSOLDER_GRANTED, 0, 9);
-    replies("open", s->open(port, p, memory, m, 2620, 1, 0, &first, &second), BUNNYSOLDER_GRANTED, 600, 0);
+    replies("open", s->open(port, p, memory, m, 2620, 1, &first, &second), BUNNYSOLDER_GRANTED, 600, 0);
     for (stream = 0; stream < BUNNYSOLDER_STREAMS; stream++)
         counts(p, (uint8_t)stream, BUNNYSOLDER_GRANTED, 0, 0);
     memset(port, 1, sizeof port);
@@ -625,144 +623,6 @@ static void stream_counts(const struct sort *s)
     counts_of_any_port(s);
 }
 
-/* An Open with L 2,620 and this K and F must be refused with a number, or with 0 reply the share. */
-static void opens(const struct sort *s, uint32_t delay, uint32_t limit, uint8_t number)
-{
-    uint32_t share = number == BUNNYSOLDER_GRANTED ? 600 : 0;
-
-    replies("open", s->open(port, sizeof port, memory, sizeof memory, 2620, delay, limit, &first, &second), number, share, 0);
-}
-
-/* A best-effort frame of a caller must be refused with a number, or with 0 reply W. */
-static void offers(const struct sort *s, uint8_t caller, uint32_t charge, uint32_t tag, uint8_t number, uint32_t waits)
-{
-    replies("best effort", s->best_effort(port, sizeof port, memory, sizeof memory, caller, charge, tag, &first, &second), number, waits, 0);
-}
-
-/* A transmit must reply a stream and a tag. */
-static void sends(const struct sort *s, uint32_t stream, uint32_t tag)
-{
-    replies("transmit", s->transmit(port, sizeof port, memory, sizeof memory, &first, &second), BUNNYSOLDER_GRANTED, stream, tag);
-}
-
-/* Opens the port with this K and F and with stream 5 on it, P 200, so that 2,420 octets of an epoch are not reserved. */
-static void open_with_limit(const struct sort *s, uint32_t delay, uint32_t limit)
-{
-    never_opened();
-    opens(s, delay, limit, BUNNYSOLDER_GRANTED);
-    replies("reserve", s->reserve(port, sizeof port, memory, sizeof memory, 5, 200, &first, &second), BUNNYSOLDER_GRANTED, 400, 0);
-}
-
-/* F is 0 to K, and one above K is refused (27), also where fewer bits would hide that; 2, 3 and 4 come before it. */
-static void limits_of_openings(const struct sort *s)
-{
-    const size_t p = sizeof port, m = sizeof memory;
-    uint32_t delay, limit;
-
-    for (delay = 1; delay <= 16; delay++) {
-        for (limit = 0; limit <= delay; limit++) {
-            never_opened();
-            opens(s, delay, limit, BUNNYSOLDER_GRANTED);
-            opens(s, delay, delay + 1, BUNNYSOLDER_OPEN_ALREADY);
-        }
-        never_opened();
-        opens(s, delay, delay + 1, BUNNYSOLDER_FIRMWARE_RANGE);
-        opens(s, delay, 256, BUNNYSOLDER_FIRMWARE_RANGE);
-        opens(s, delay, 65536, BUNNYSOLDER_FIRMWARE_RANGE);
-        opens(s, delay, ALL_ONES, BUNNYSOLDER_FIRMWARE_RANGE);
-    }
-    opens(s, 0, 1, BUNNYSOLDER_DELAY_RANGE);
-    opens(s, 17, 18, BUNNYSOLDER_DELAY_RANGE);
-    replies("open", s->open(port, p, memory, m, 2103, 1, 2, &first, &second), BUNNYSOLDER_LINK_RANGE, 0, 0);
-    offers(s, BUNNYSOLDER_FIRMWARE, 83, 1, BUNNYSOLDER_CLOSED, 0);
-    offers(s, BUNNYSOLDER_QUERY, 83, 1, BUNNYSOLDER_CLOSED, 0);
-}
-
-/*
- * With K 2 and F 1 firmware may have 2,420 octets waiting and both callers 4,840: the frame that fills a limit is accepted and one octet more is
- * refused, with 28 for the firmware's own limit and with 16 for that of both. Sending a firmware frame makes room for another, sending a query none.
- * Where no firmware waits, queries alone may have all that both may.
- */
-static void limit_of_firmware(const struct sort *s)
-{
-    open_with_limit(s, 2, 1);
-    offers(s, BUNNYSOLDER_FIRMWARE, 83, 1, BUNNYSOLDER_CHARGE_RANGE, 0);
-    offers(s, BUNNYSOLDER_QUERY, 84, 2, BUNNYSOLDER_GRANTED, 84);
-    offers(s, BUNNYSOLDER_FIRMWARE, 2020, 3, BUNNYSOLDER_GRANTED, 2104);
-    offers(s, BUNNYSOLDER_FIRMWARE, 401, 4, BUNNYSOLDER_FIRMWARE_EXCEEDED, 0);
-    offers(s, BUNNYSOLDER_FIRMWARE, 400, 5, BUNNYSOLDER_GRANTED, 2504);
-    offers(s, BUNNYSOLDER_QUERY, 2020, 6, BUNNYSOLDER_GRANTED, 4524);
-    offers(s, BUNNYSOLDER_FIRMWARE, 84, 7, BUNNYSOLDER_FIRMWARE_EXCEEDED, 0);
-    offers(s, BUNNYSOLDER_FIRMWARE, 317, 8, BUNNYSOLDER_LIMIT_EXCEEDED, 0);
-    offers(s, BUNNYSOLDER_QUERY, 317, 9, BUNNYSOLDER_LIMIT_EXCEEDED, 0);
-    offers(s, BUNNYSOLDER_QUERY, 316, 10, BUNNYSOLDER_GRANTED, 4840);
-    sends(s, BUNNYSOLDER_QUERY, 2);
-    offers(s, BUNNYSOLDER_FIRMWARE, 84, 11, BUNNYSOLDER_FIRMWARE_EXCEEDED, 0);
-    sends(s, BUNNYSOLDER_FIRMWARE, 3);
-    offers(s, BUNNYSOLDER_FIRMWARE, 2020, 12, BUNNYSOLDER_GRANTED, 4756);
-    sends(s, BUNNYSOLDER_FIRMWARE, 5);
-    sends(s, BUNNYSOLDER_QUERY, 6);
-    sends(s, BUNNYSOLDER_QUERY, 10);
-    sends(s, BUNNYSOLDER_FIRMWARE, 12);
-    sends(s, BUNNYSOLDER_NOTHING, 0);
-    offers(s, BUNNYSOLDER_QUERY, 2020, 13, BUNNYSOLDER_GRANTED, 2020);
-    offers(s, BUNNYSOLDER_QUERY, 2020, 14, BUNNYSOLDER_GRANTED, 4040);
-    offers(s, BUNNYSOLDER_QUERY, 800, 15, BUNNYSOLDER_GRANTED, 4840);
-    offers(s, BUNNYSOLDER_FIRMWARE, 84, 16, BUNNYSOLDER_LIMIT_EXCEEDED, 0);
-}
-
-/* Every octet names a caller: 253 firmware, which without a limit of its own is refused (28), and each other a query, which is sent as one. */
-static void callers(const struct sort *s)
-{
-    const size_t p = sizeof port, m = sizeof memory;
-    unsigned caller;
-
-    tag_frame(100);
-    for (caller = 0; caller <= UINT8_MAX; caller++) {
-        uint8_t number = caller == BUNNYSOLDER_FIRMWARE ? BUNNYSOLDER_FIRMWARE_EXCEEDED : BUNNYSOLDER_GRANTED;
-        uint32_t charge = number == BUNNYSOLDER_GRANTED ? 84 : 0;
-
-        open_with_limit(s, 16, 0);
-        offers(s, (uint8_t)caller, 84, 1, number, charge);
-        replies("frame", s->frame(port, p, memory, m, (uint8_t)caller, frame, 60, 2, &first, &second), number, 2 * charge, 0);
-        if (number == BUNNYSOLDER_GRANTED) {
-            sends(s, BUNNYSOLDER_QUERY, 1);
-            sends(s, BUNNYSOLDER_QUERY, 2);
-        }
-        sends(s, BUNNYSOLDER_NOTHING, 0);
-    }
-}
-
-/* A Frame of no stream is its caller's: charges of 2,020 and 400 fill the firmware's limit of 2,420. One of a bound pair arrives for any caller. */
-static void frames_of_firmware(const struct sort *s)
-{
-    const size_t p = sizeof port, m = sizeof memory, longest = BUNNYSOLDER_LONGEST_FRAME, shortest = BUNNYSOLDER_SHORTEST_FRAME;
-    const uint8_t caller = BUNNYSOLDER_FIRMWARE;
-
-    open_with_limit(s, 2, 1);
-    tag_frame(100);
-    replies("frame", s->frame(port, p, memory, m, caller, frame, longest + 1, 1, &first, &second), BUNNYSOLDER_FRAME_LENGTH, 0, 0);
-    replies("frame", s->frame(port, p, memory, m, caller, frame, longest, 2, &first, &second), BUNNYSOLDER_GRANTED, 2020, 0);
-    replies("frame", s->frame(port, p, memory, m, caller, frame, 377, 3, &first, &second), BUNNYSOLDER_FIRMWARE_EXCEEDED, 0, 0);
-    replies("frame", s->frame(port, p, memory, m, BUNNYSOLDER_QUERY, frame, 377, 4, &first, &second), BUNNYSOLDER_GRANTED, 2421, 0);
-    replies("frame", s->frame(port, p, memory, m, caller, frame, 376, 5, &first, &second), BUNNYSOLDER_GRANTED, 2821, 0);
-    replies("bind", s->bind(port, p, memory, m, 5, address, 100, &first, &second), BUNNYSOLDER_GRANTED, 0, 0);
-    replies("frame", s->frame(port, p, memory, m, caller, frame, shortest, 6, &first, &second), BUNNYSOLDER_GRANTED, BUNNYSOLDER_CURRENT, 116);
-    sends(s, 5, 6);
-    sends(s, BUNNYSOLDER_FIRMWARE, 2);
-    sends(s, BUNNYSOLDER_QUERY, 4);
-    sends(s, BUNNYSOLDER_FIRMWARE, 5);
-}
-
-/* Firmware loads beside queries. */
-static void firmware(const struct sort *s)
-{
-    limits_of_openings(s);
-    limit_of_firmware(s);
-    callers(s);
-    frames_of_firmware(s);
-}
-
 int main(void)
 {
     int passed = 0, failed = 0;
@@ -777,7 +637,6 @@ int main(void)
         registers(&sorts[i]);
         lookups(&sorts[i]);
         stream_counts(&sorts[i]);
-        firmware(&sorts[i]);
         printf("test %s through the header: %s\n", sorts[i].name, wrong ? "FAILED" : "ok");
         if (wrong)
             failed++;

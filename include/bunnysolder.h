@@ -42,7 +42,7 @@ extern "C" {
 #endif
 
 /* The edition of the rule: the number of the last request of document 02 that the rule has; 0 is document 01 alone. */
-#define BUNNYSOLDER_EDITION 6
+#define BUNNYSOLDER_EDITION 5
 
 /* The octets of a port, which are its record and its register block, and of the memory for 1,280 frames. */
 #define BUNNYSOLDER_PORT_LENGTH 1616
@@ -82,25 +82,14 @@ enum bunnysolder_refusal {
     BUNNYSOLDER_UNFIT_RECORD = 19,       /* the record is unfit, or the port shorter than BUNNYSOLDER_PORT_LENGTH */
     BUNNYSOLDER_QUEUE_FULL = 20,         /* the chosen queue holds 256 frames; never met from a granted Open on, while nobody else writes */
     BUNNYSOLDER_DRAINING = 25,           /* the stream was withdrawn, and drains */
-    BUNNYSOLDER_OFFSET_RANGE = 26,       /* the offset is no multiple of 4, or above 60 */
-    BUNNYSOLDER_FIRMWARE_RANGE = 27,     /* F is above K */
-    BUNNYSOLDER_FIRMWARE_EXCEEDED = 28   /* the firmware octets waiting, with the charge in them, would be above F x (L - R) */
+    BUNNYSOLDER_OFFSET_RANGE = 26        /* the offset is no multiple of 4, or above 60 */
 };
 
 /* The first reply number of Arrive, also where a Frame becomes one: the queue that the frame has joined. */
 enum bunnysolder_place { BUNNYSOLDER_CURRENT = 1, BUNNYSOLDER_NEXT = 2, BUNNYSOLDER_LAST = 3 };
 
-/*
- * The callers of best effort, of which Best effort and Frame name one: a firmware load, or a query; every other octet names a query too. The frame
- * keeps its caller as its stream, so these two are also the first reply number of the Transmit that sends it.
- */
-enum bunnysolder_caller { BUNNYSOLDER_FIRMWARE = 253, BUNNYSOLDER_QUERY = 255 };
-
-/* The first reply number of Transmit where there is nothing to send. */
-enum bunnysolder_sent { BUNNYSOLDER_NOTHING = 254 };
-
-/* The first reply number of Lookup where no stream is bound to the pair. */
-enum bunnysolder_found { BUNNYSOLDER_UNBOUND = 255 };
+/* The first reply number of Transmit where no reserved stream's frame is sent; 255 is also that of a Lookup which finds no stream. */
+enum bunnysolder_sent { BUNNYSOLDER_NOTHING = 254, BUNNYSOLDER_BEST_EFFORT = 255 };
 
 /*
  * The registers of a port by their offsets in 64 octets: each is a number of 32 bits, whose high octet is the one at its offset. All others of the 64
@@ -130,15 +119,13 @@ enum bunnysolder_status { BUNNYSOLDER_STATUS_OPEN = 1, BUNNYSOLDER_STATUS_INTERR
 enum bunnysolder_flag { BUNNYSOLDER_FLAG_DISCARD = 1, BUNNYSOLDER_FLAG_PURGE = 2, BUNNYSOLDER_FLAG_NOTHING = 4 };
 
 /*
- * Open(L, K, F): empties the queues, drops all reservations and bindings, ends all draining, and makes the register block zeros. `link` is L, the
- * link octets in an epoch; `delay` is K, the best-effort delay bound in epochs; `firmware` is F, the limit of firmware loads in epochs, 0 to K. With
- * F 0 no firmware frame is accepted; with F equal to K none is refused for its own limit. Replies the share, L - 2,020, and 0.
- * Refusals: 18 19 2 3 4 27.
+ * Open(L, K): empties the queues, drops all reservations and bindings, ends all draining, and makes the register block zeros. `link` is L, the link
+ * octets in an epoch; `delay` is K, the best-effort delay bound in epochs. Replies the share, L - 2,020, and 0. Refusals: 18 19 2 3 4.
  */
 uint8_t bunnysolder_open(uint8_t *port, size_t port_length, const uint8_t *memory, size_t memory_length,
-                         uint32_t link, uint32_t delay, uint32_t firmware, uint32_t *first, uint32_t *second);
+                         uint32_t link, uint32_t delay, uint32_t *first, uint32_t *second);
 uint8_t bunnysolder_open_unscanned(uint8_t *port, size_t port_length, const uint8_t *memory, size_t memory_length,
-                                   uint32_t link, uint32_t delay, uint32_t firmware, uint32_t *first, uint32_t *second);
+                                   uint32_t link, uint32_t delay, uint32_t *first, uint32_t *second);
 
 /*
  * Reserve(s, P): `permitted` is P, the stream's permitted octets per epoch. Replies the share still free, with the new P taken from it, and 0.
@@ -170,8 +157,8 @@ uint8_t bunnysolder_tick_unscanned(uint8_t *port, size_t port_length, const uint
                                    uint32_t *first, uint32_t *second);
 
 /*
- * Transmit: the link can send a frame. Replies the stream of the frame to send, which for one of best effort is its caller (enum bunnysolder_caller:
- * 255 query, 253 firmware), or BUNNYSOLDER_NOTHING, and the frame's tag (0 for nothing). Refusals: 18 19 1.
+ * Transmit: the link can send a frame. Replies the stream of the frame to send (enum bunnysolder_sent: 255 best effort, 254 nothing) and its
+ * tag (0 for nothing). Refusals: 18 19 1.
  */
 uint8_t bunnysolder_transmit(uint8_t *port, size_t port_length, const uint8_t *memory, size_t memory_length,
                              uint32_t *first, uint32_t *second);
@@ -179,19 +166,15 @@ uint8_t bunnysolder_transmit_unscanned(uint8_t *port, size_t port_length, const 
                                        uint32_t *first, uint32_t *second);
 
 /*
- * Best effort(caller, a, tag): a frame of no stream arrives. `caller` says whose it is (enum bunnysolder_caller): 253 firmware, any other a query.
- * `charge` is a and `tag` the host's own number for it, as in Arrive. It waits until neither prior nor current has a frame; both callers' frames
- * wait in one queue, first in first out. Replies W, the sum of the charges that wait in best effort, with this one in it, and 0. R is the sum of the
- * reserved streams' P, those that drain among them. Every frame must fit the limit on W, K x (L - R) (16), and a firmware frame also its own: the
- * firmware octets waiting, with this charge in them, are at most F x (L - R) (28). A host that is refused with 28 offers the frame again once a
- * Transmit has sent a firmware frame. While no Reserve is granted with firmware waiting, a query is not refused with 16 where the octets of queries
- * waiting, with its charge in them, are at most (K - F) x (L - R). A later Reserve may leave either sum above its limit, and that is no fault. No
- * register counts the frame before it is sent. Refusals: 18 19 1 13 15 16, then of a firmware frame 28.
+ * Best effort(a, tag): a frame of no stream arrives. `charge` is a and `tag` the host's own number for it, as in Arrive. It waits until neither
+ * prior nor current has a frame. Replies W, the sum of the charges that wait in best effort, with this one in it, and 0. R is the sum of the
+ * reserved streams' P, those that drain among them; a later Reserve may leave W above K x (L - R), and that is no fault. No register counts the frame
+ * before it is sent. Refusals: 18 19 1 13 15 16.
  */
 uint8_t bunnysolder_best_effort(uint8_t *port, size_t port_length, uint8_t *memory, size_t memory_length,
-                                uint8_t caller, uint32_t charge, uint32_t tag, uint32_t *first, uint32_t *second);
+                                uint32_t charge, uint32_t tag, uint32_t *first, uint32_t *second);
 uint8_t bunnysolder_best_effort_unscanned(uint8_t *port, size_t port_length, uint8_t *memory, size_t memory_length,
-                                          uint8_t caller, uint32_t charge, uint32_t tag, uint32_t *first, uint32_t *second);
+                                          uint32_t charge, uint32_t tag, uint32_t *first, uint32_t *second);
 
 /*
  * Bind(s, address, VID): gives a reserved stream a destination address and a VLAN id, so that a Frame that has both arrives on it. No two streams
@@ -205,18 +188,17 @@ uint8_t bunnysolder_bind_unscanned(uint8_t *port, size_t port_length, const uint
                                    uint32_t *first, uint32_t *second);
 
 /*
- * Frame(caller, octets, tag): a frame arrives, given by its octets from the destination on, without check sequence. `caller` says whose it is, as in
- * Best effort; `tag` is the host's own number for it. Octets 0 to 5 are the destination; where octets 12 and 13 are 81 00 (hexadecimal), the VID is
- * the low 12 bits of octets 14 and 15, high octet first. A frame whose destination and VID are bound is an Arrive on their stream, whoever its caller
- * is, every other a Best effort of the caller, each with its length plus 24 as its charge, and replies and is counted as that call. A length under
- * BUNNYSOLDER_SHORTEST_FRAME or above BUNNYSOLDER_LONGEST_FRAME is refused (17), 0 among them; `octets` is not null even then. Nothing is kept of
- * the octets. Refusals: 18 19 1 17, then of an Arrive 25, then 14 or 20, of a Best effort 15 16, and of a firmware frame 28.
+ * Frame(octets, tag): a frame arrives, given by its octets from the destination on, without check sequence. `tag` is the host's own number for it.
+ * Octets 0 to 5 are the destination; where octets 12 and 13 are 81 00 (hexadecimal), the VID is the low 12 bits of octets 14 and 15, high octet
+ * first. A frame whose destination and VID are bound is an Arrive on their stream, every other a Best effort, each with its length plus 24 as its
+ * charge, and replies and is counted as that call. A length under BUNNYSOLDER_SHORTEST_FRAME or above BUNNYSOLDER_LONGEST_FRAME is refused (17), 0
+ * among them; `octets` is not null even then. Nothing is kept of the octets. Refusals: 18 19 1 17, then of an Arrive 25, then 14 or 20, of a Best
+ * effort 15 16.
  */
 uint8_t bunnysolder_frame(uint8_t *port, size_t port_length, uint8_t *memory, size_t memory_length,
-                          uint8_t caller, const uint8_t *octets, size_t octets_length, uint32_t tag, uint32_t *first, uint32_t *second);
+                          const uint8_t *octets, size_t octets_length, uint32_t tag, uint32_t *first, uint32_t *second);
 uint8_t bunnysolder_frame_unscanned(uint8_t *port, size_t port_length, uint8_t *memory, size_t memory_length,
-                                    uint8_t caller, const uint8_t *octets, size_t octets_length, uint32_t tag,
-                                    uint32_t *first, uint32_t *second);
+                                    const uint8_t *octets, size_t octets_length, uint32_t tag, uint32_t *first, uint32_t *second);
 
 /*
  * Withdraw(s): takes a reserved stream off the line. Its frames that wait stay in their queues and are sent as before; it takes no more. It drains for
@@ -254,8 +236,8 @@ uint8_t bunnysolder_register_write_unscanned(uint8_t *port, size_t port_length, 
 /*
  * Lookup(address, VID): finds the stream of a pair as Bind (11) and a Frame with a VLAN tag do, for those who measure what that costs. It goes
  * through the bindings by rising stream up to the one that matches, those of draining streams among them; it compares the VID and, only where that is
- * equal, the address from its last octet back, up to the first octet that differs. Replies the stream, or BUNNYSOLDER_UNBOUND where none is bound to
- * the pair, as a Frame of it is a Best effort then; and how many address octets were compared: the sum over all bindings gone through, the octets
+ * equal, the address from its last octet back, up to the first octet that differs. Replies the stream, or BUNNYSOLDER_BEST_EFFORT where none is bound
+ * to the pair, as a Frame of it is a Best effort then; and how many address octets were compared: the sum over all bindings gone through, the octets
  * that differ among them, 0 to 384. It writes no port, so no register changes. It takes a closed port, and every VID; one that no binding has finds
  * no stream. Refusals: 19, of a port shorter than BUNNYSOLDER_PORT_LENGTH alone.
  */

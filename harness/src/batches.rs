@@ -1,7 +1,7 @@
 //! Batches of calls whose cost is measured, and the ports that they start from: one with no stream, one with few, one with all streams bound and no
 //! frame, a full one, full ones whose streams are bound as those of a plant are, such without a frame for lookups, and one whose streams have counts.
 
-use crate::call::{Call, Reply, ADDRESS_OCTETS, FIRMWARE, QUERY};
+use crate::call::{Call, Reply, ADDRESS_OCTETS};
 use crate::comparing::fit::Octets;
 use crate::comparing::frames::Header;
 use crate::comparing::random::Random;
@@ -9,16 +9,15 @@ use crate::comparing::registers::{ACCEPTED, CHOICE, CONTROL, DISCARDED, MASK, ST
 use crate::comparing::sides::Play;
 use crate::comparing::stated::Pair;
 use crate::model::port::{
-    BEST_EFFORT, DRAINING_TICKS, LAST, LEAST_CHARGE, LEAST_PERMITTED, LINKS, QUERY_STREAM, QUEUES, QUEUE_PLACES, STREAMS,
+    BEST_EFFORT, BEST_EFFORT_STREAM, DRAINING_TICKS, LAST, LEAST_CHARGE, LEAST_PERMITTED, LINKS, QUEUES, QUEUE_PLACES, STREAMS,
 };
-use crate::model::refusal::{DISCARD, DRAINING, FIRMWARE_EXCEEDED};
+use crate::model::refusal::{DISCARD, DRAINING};
 use crate::model::registers::{TICKS, TRANSMITS};
 use crate::{exports, in_place, layout, model};
 
-/// L, K and F of every port: the greatest share, 21,504 octets, is 256 frames of the least charge, and firmware has half of best effort's limit.
+/// L and K of every port: the greatest share, 21,504 octets, is 256 frames of the least charge.
 const LINK: u32 = *LINKS.end();
 const DELAY: u32 = 16;
-const FIRMWARE_LIMIT: u32 = DELAY / 2;
 
 /// How many calls a batch has, unless each purges a whole queue.
 const BATCH: usize = 64;
@@ -105,23 +104,10 @@ fn few() -> Vec<Batch> {
         Batch::granted("transmit", arrived.clone(), vec![Call::Transmit; BATCH]),
         Batch { refusal: DISCARD, ..Batch::granted("arrive, discarded", spent(), arrivals) },
         Batch::granted("tick, nothing to purge", opened(FEW), vec![Call::Tick; BATCH]),
-        Batch::granted("best effort", opened(FEW), best_effort(QUERY)),
+        Batch::granted("best effort", opened(FEW), best_effort()),
     ];
-    batches.extend(of_firmware(opened(FEW)));
     batches.extend(registers(opened(FEW), arrived));
     batches
-}
-
-/// The batches of firmware frames on a port without a frame: accepted, refused where firmware has all of its limit, and sent.
-fn of_firmware(port: Octets) -> [Batch; 3] {
-    let load = best_effort(FIRMWARE);
-    let loaded = after(port.clone(), &vec![load.clone(); QUEUE_PLACES / BATCH].concat());
-    let sent = after(port.clone(), &load);
-    [
-        Batch::granted("best effort of firmware", port, load.clone()),
-        Batch { refusal: FIRMWARE_EXCEEDED, ..Batch::granted("best effort of firmware, refused 28", loaded, load) },
-        Batch::granted("transmit of firmware", sent, vec![Call::Transmit; BATCH]),
-    ]
 }
 
 /// The batches of accesses to registers, of which the last starts from a port with a batch of frames to send.
@@ -165,8 +151,7 @@ fn full() -> Vec<Batch> {
         Batch::granted("transmit, 1,280 to 1,216 frames", all_full.clone(), vec![Call::Transmit; BATCH]),
         Batch::granted("tick, 256 frames purged", all_full, ticks),
         Batch::granted("tick, nothing to purge", purged, vec![Call::Tick; BATCH]),
-        Batch::granted("best effort, 1,216 to 1,280", best_effort_fills.clone(), best_effort(QUERY)),
-        Batch::granted("firmware, 1,216 to 1,280", best_effort_fills.clone(), best_effort(FIRMWARE)),
+        Batch::granted("best effort, 1,216 to 1,280", best_effort_fills.clone(), best_effort()),
         Batch::granted("frame of stream 63, 1,216 to 1,280", last_stream_fills, frames(&tagged)),
         Batch::granted("frame, untagged, 1,216 to 1,280", best_effort_fills, frames(&untagged)),
     ];
@@ -233,9 +218,9 @@ fn arrivals(streams: usize) -> Vec<Call> {
     (0..BATCH).map(|i| Call::Arrive { stream: (i % streams) as u8, charge: LEAST_CHARGE, tag: i as u32 }).collect()
 }
 
-/// A batch of best-effort frames of a caller and the least charge.
-fn best_effort(caller: u8) -> Vec<Call> {
-    (0..BATCH).map(|i| Call::BestEffort { caller, charge: LEAST_CHARGE, tag: i as u32 }).collect()
+/// A batch of best-effort frames of the least charge.
+fn best_effort() -> Vec<Call> {
+    (0..BATCH).map(|i| Call::BestEffort { charge: LEAST_CHARGE, tag: i as u32 }).collect()
 }
 
 /// A batch of frames of the least charge with one header.
@@ -298,8 +283,7 @@ fn opened_for_the_last() -> Octets {
 /// An open port with this many streams, each with its P by the share and its number.
 fn reserved(streams: u8, permitted: impl Fn(u32, u8) -> u32) -> Octets {
     let mut port = Octets::zero();
-    let open = Call::Open { link: LINK, delay: DELAY, firmware: FIRMWARE_LIMIT };
-    let share = exports::call(&open, &mut port.record, &mut port.memory).first;
+    let share = exports::call(&Call::Open { link: LINK, delay: DELAY }, &mut port.record, &mut port.memory).first;
     let reserves: Vec<Call> = (0..streams).map(|stream| Call::Reserve { stream, permitted: permitted(share, stream) }).collect();
     after(port, &reserves)
 }
@@ -343,7 +327,7 @@ fn fill(port: &mut Octets, queue: usize, count: usize) {
     layout::put_two(&mut port.record, layout::count(queue), count as u32);
     for ahead in 0..count {
         let frame = layout::frame(queue, start, ahead);
-        let stream = if queue == BEST_EFFORT { QUERY_STREAM } else { (ahead % STREAMS) as u32 };
+        let stream = if queue == BEST_EFFORT { BEST_EFFORT_STREAM } else { (ahead % STREAMS) as u32 };
         layout::put_two(&mut port.memory, frame + layout::FRAME_STREAM, stream);
         layout::put_two(&mut port.memory, frame + layout::FRAME_CHARGE, LEAST_CHARGE);
     }

@@ -6,23 +6,18 @@ use std::sync::Arc;
 /// The octets of a destination address: "a destination address of six octets".
 pub const ADDRESS_OCTETS: usize = 6;
 
-/// The caller query of a best-effort frame: "255 for query". Any caller but firmware's is a query.
-pub const QUERY: u8 = 255;
-/// The caller firmware of a best-effort frame: "253 for firmware".
-pub const FIRMWARE: u8 = 253;
-
-/// A call with its arguments: numbers are unsigned 32-bit, a stream and a caller are octets. It holds the address of a Bind or a Lookup and the octets of a
+/// A call with its arguments: numbers are unsigned 32-bit, a stream is an octet. It holds the address of a Bind or a Lookup and the octets of a
 /// Frame, which its copies share.
 #[derive(Clone, Copy, Debug, PartialEq, Eq, Hash)]
 pub enum Call<Address = [u8; ADDRESS_OCTETS], Octets = Arc<[u8]>> {
-    Open { link: u32, delay: u32, firmware: u32 },
+    Open { link: u32, delay: u32 },
     Reserve { stream: u8, permitted: u32 },
     Arrive { stream: u8, charge: u32, tag: u32 },
     Tick,
     Transmit,
-    BestEffort { caller: u8, charge: u32, tag: u32 },
+    BestEffort { charge: u32, tag: u32 },
     Bind { stream: u8, address: Address, vid: u32 },
-    Frame { caller: u8, octets: Octets, tag: u32 },
+    Frame { octets: Octets, tag: u32 },
     Withdraw { stream: u8 },
     ReadRegister { offset: u32 },
     WriteRegister { offset: u32, value: u32 },
@@ -68,14 +63,14 @@ impl Call {
     /// The call with its address or octets lent from where it holds them.
     pub fn given(&self) -> Given<'_> {
         match *self {
-            Call::Open { link, delay, firmware } => Call::Open { link, delay, firmware },
+            Call::Open { link, delay } => Call::Open { link, delay },
             Call::Reserve { stream, permitted } => Call::Reserve { stream, permitted },
             Call::Arrive { stream, charge, tag } => Call::Arrive { stream, charge, tag },
             Call::Tick => Call::Tick,
             Call::Transmit => Call::Transmit,
-            Call::BestEffort { caller, charge, tag } => Call::BestEffort { caller, charge, tag },
+            Call::BestEffort { charge, tag } => Call::BestEffort { charge, tag },
             Call::Bind { stream, ref address, vid } => Call::Bind { stream, address, vid },
-            Call::Frame { caller, ref octets, tag } => Call::Frame { caller, octets, tag },
+            Call::Frame { ref octets, tag } => Call::Frame { octets, tag },
             Call::Withdraw { stream } => Call::Withdraw { stream },
             Call::ReadRegister { offset } => Call::ReadRegister { offset },
             Call::WriteRegister { offset, value } => Call::WriteRegister { offset, value },
@@ -91,17 +86,16 @@ const TOLD_OCTETS: usize = 16;
 impl fmt::Display for Call {
     fn fmt(&self, f: &mut fmt::Formatter<'_>) -> fmt::Result {
         match self {
-            Call::Open { link, delay, firmware: 0 } => write!(f, "open {link} {delay}"),
-            Call::Open { link, delay, firmware } => write!(f, "open {link} {delay} {firmware}"),
+            Call::Open { link, delay } => write!(f, "open {link} {delay}"),
             Call::Reserve { stream, permitted } => write!(f, "reserve {stream} {permitted}"),
             Call::Arrive { stream, charge, tag } => write!(f, "arrive {stream} {charge} {tag}"),
             Call::Tick => write!(f, "tick"),
             Call::Transmit => write!(f, "transmit"),
-            Call::BestEffort { caller, charge, tag } => write!(f, "{} {charge} {tag}", best_effort_of(*caller)),
+            Call::BestEffort { charge, tag } => write!(f, "best effort {charge} {tag}"),
             Call::Bind { stream, address, vid } => write!(f, "bind {stream} {} {vid}", hexadecimal(address)),
-            Call::Frame { caller, octets, tag } => {
+            Call::Frame { octets, tag } => {
                 let header = hexadecimal(&octets[..octets.len().min(TOLD_OCTETS)]);
-                write!(f, "{}frame of {} octets [{header}] {tag}", frame_of(*caller), octets.len())
+                write!(f, "frame of {} octets [{header}] {tag}", octets.len())
             }
             Call::Withdraw { stream } => write!(f, "withdraw {stream}"),
             Call::ReadRegister { offset } => write!(f, "read register {offset}"),
@@ -109,24 +103,6 @@ impl fmt::Display for Call {
             Call::Lookup { address, vid } => write!(f, "lookup {} {vid}", hexadecimal(address)),
             Call::StreamCounts { stream } => write!(f, "stream counts {stream}"),
         }
-    }
-}
-
-/// The name of a best-effort frame of a caller, that of a query and of firmware as in the text form of captures.
-fn best_effort_of(caller: u8) -> String {
-    match caller {
-        QUERY => String::from("best effort"),
-        FIRMWARE => String::from("firmware"),
-        other => format!("best effort of caller {other}"),
-    }
-}
-
-/// What stands before a frame that is told by its octets: nothing for a query's.
-fn frame_of(caller: u8) -> String {
-    match caller {
-        QUERY => String::new(),
-        FIRMWARE => String::from("firmware "),
-        other => format!("caller {other}'s "),
     }
 }
 

@@ -17,14 +17,14 @@ macro_rules! declare {
 }
 
 declare! {
-    bunnysolder_open, bunnysolder_open_unscanned: *mut u8, *const u8, (link: u32, delay: u32, firmware: u32);
+    bunnysolder_open, bunnysolder_open_unscanned: *mut u8, *const u8, (link: u32, delay: u32);
     bunnysolder_reserve, bunnysolder_reserve_unscanned: *mut u8, *const u8, (stream: u8, permitted: u32);
     bunnysolder_arrive, bunnysolder_arrive_unscanned: *mut u8, *mut u8, (stream: u8, charge: u32, tag: u32);
     bunnysolder_tick, bunnysolder_tick_unscanned: *mut u8, *const u8, ();
     bunnysolder_transmit, bunnysolder_transmit_unscanned: *mut u8, *const u8, ();
-    bunnysolder_best_effort, bunnysolder_best_effort_unscanned: *mut u8, *mut u8, (caller: u8, charge: u32, tag: u32);
+    bunnysolder_best_effort, bunnysolder_best_effort_unscanned: *mut u8, *mut u8, (charge: u32, tag: u32);
     bunnysolder_bind, bunnysolder_bind_unscanned: *mut u8, *const u8, (stream: u8, address: *const u8, vid: u32);
-    bunnysolder_frame, bunnysolder_frame_unscanned: *mut u8, *mut u8, (caller: u8, octets: *const u8, octets_length: usize, tag: u32);
+    bunnysolder_frame, bunnysolder_frame_unscanned: *mut u8, *mut u8, (octets: *const u8, octets_length: usize, tag: u32);
     bunnysolder_withdraw, bunnysolder_withdraw_unscanned: *mut u8, *const u8, (stream: u8);
     bunnysolder_register_read, bunnysolder_register_read_unscanned: *const u8, *const u8, (offset: u32);
     bunnysolder_register_write, bunnysolder_register_write_unscanned: *mut u8, *const u8, (offset: u32, value: u32);
@@ -36,12 +36,12 @@ extern "C" {
 }
 
 /// The calls as functions of C; Tick and Transmit have no arguments of their own.
-type Open = unsafe extern "C" fn(*mut u8, usize, *const u8, usize, u32, u32, u32, &mut u32, &mut u32) -> u8;
+type Open = unsafe extern "C" fn(*mut u8, usize, *const u8, usize, u32, u32, &mut u32, &mut u32) -> u8;
 type Reserve = unsafe extern "C" fn(*mut u8, usize, *const u8, usize, u8, u32, &mut u32, &mut u32) -> u8;
 type Arrive = unsafe extern "C" fn(*mut u8, usize, *mut u8, usize, u8, u32, u32, &mut u32, &mut u32) -> u8;
-type BestEffort = unsafe extern "C" fn(*mut u8, usize, *mut u8, usize, u8, u32, u32, &mut u32, &mut u32) -> u8;
+type BestEffort = unsafe extern "C" fn(*mut u8, usize, *mut u8, usize, u32, u32, &mut u32, &mut u32) -> u8;
 type Bind = unsafe extern "C" fn(*mut u8, usize, *const u8, usize, u8, *const u8, u32, &mut u32, &mut u32) -> u8;
-type Frame = unsafe extern "C" fn(*mut u8, usize, *mut u8, usize, u8, *const u8, usize, u32, &mut u32, &mut u32) -> u8;
+type Frame = unsafe extern "C" fn(*mut u8, usize, *mut u8, usize, *const u8, usize, u32, &mut u32, &mut u32) -> u8;
 type Withdraw = unsafe extern "C" fn(*mut u8, usize, *const u8, usize, u8, &mut u32, &mut u32) -> u8;
 type ReadRegister = unsafe extern "C" fn(*const u8, usize, *const u8, usize, u32, &mut u32, &mut u32) -> u8;
 type WriteRegister = unsafe extern "C" fn(*mut u8, usize, *const u8, usize, u32, u32, &mut u32, &mut u32) -> u8;
@@ -106,16 +106,14 @@ impl Sort {
         // numbers are its own.
         let refusal = unsafe {
             match *call {
-                Call::Open { link, delay, firmware } => (self.open)(p, n, m, k, link, delay, firmware, &mut first, &mut second),
+                Call::Open { link, delay } => (self.open)(p, n, m, k, link, delay, &mut first, &mut second),
                 Call::Reserve { stream, permitted } => (self.reserve)(p, n, m, k, stream, permitted, &mut first, &mut second),
                 Call::Arrive { stream, charge, tag } => (self.arrive)(p, n, m, k, stream, charge, tag, &mut first, &mut second),
                 Call::Tick => (self.tick)(p, n, m, k, &mut first, &mut second),
                 Call::Transmit => (self.transmit)(p, n, m, k, &mut first, &mut second),
-                Call::BestEffort { caller, charge, tag } => (self.best_effort)(p, n, m, k, caller, charge, tag, &mut first, &mut second),
+                Call::BestEffort { charge, tag } => (self.best_effort)(p, n, m, k, charge, tag, &mut first, &mut second),
                 Call::Bind { stream, address, vid } => (self.bind)(p, n, m, k, stream, address.as_ptr(), vid, &mut first, &mut second),
-                Call::Frame { caller, octets, tag } => {
-                    (self.frame)(p, n, m, k, caller, octets.as_ptr(), octets.len(), tag, &mut first, &mut second)
-                }
+                Call::Frame { octets, tag } => (self.frame)(p, n, m, k, octets.as_ptr(), octets.len(), tag, &mut first, &mut second),
                 Call::Withdraw { stream } => (self.withdraw)(p, n, m, k, stream, &mut first, &mut second),
                 Call::ReadRegister { offset } => (self.register_read)(p, n, m, k, offset, &mut first, &mut second),
                 Call::WriteRegister { offset, value } => (self.register_write)(p, n, m, k, offset, value, &mut first, &mut second),

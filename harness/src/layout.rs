@@ -11,14 +11,10 @@ pub const OPEN: usize = 0;
 pub const PRIOR: usize = 1;
 /// K in the record, one octet.
 pub const DELAY: usize = 2;
-/// F in the record, one octet.
-pub const FIRMWARE: usize = 3;
 /// L in the record, two octets.
 pub const LINK: usize = 6;
 /// W in the record, four octets.
 pub const WAITS: usize = 8;
-/// The sum of the firmware octets that wait in best effort, in the record, four octets.
-pub const FIRMWARE_WAITS: usize = 12;
 /// Where the entries of the queues begin in the record.
 const QUEUE_ENTRIES: usize = 16;
 /// The octets of a queue's entry: start, then count.
@@ -154,27 +150,13 @@ pub fn permitted_sum(record: &[u8]) -> u32 {
 
 /// K × (L − R), 0 where R is above L, in a record of any content.
 pub fn best_effort_limit(record: &[u8]) -> u64 {
-    u64::from(record[DELAY]) * unreserved(record)
-}
-
-/// F × (L − R), 0 where R is above L, in a record of any content.
-pub fn firmware_limit(record: &[u8]) -> u64 {
-    u64::from(record[FIRMWARE]) * unreserved(record)
-}
-
-/// L − R, 0 where R is above L, in a record of any content.
-fn unreserved(record: &[u8]) -> u64 {
-    u64::from(two(record, LINK).saturating_sub(permitted_sum(record)))
+    let unreserved = two(record, LINK).saturating_sub(permitted_sum(record));
+    u64::from(record[DELAY]) * u64::from(unreserved)
 }
 
 /// W with a charge more.
 pub fn waits_with(record: &[u8], charge: u32) -> u64 {
     u64::from(four(record, WAITS)) + u64::from(charge)
-}
-
-/// The firmware octets waiting with a charge more.
-pub fn firmware_waits_with(record: &[u8], charge: u32) -> u64 {
-    u64::from(four(record, FIRMWARE_WAITS)) + u64::from(charge)
 }
 
 /// What an octet of a lent port, record and register block, belongs to, for a report.
@@ -183,10 +165,8 @@ pub fn record_field(at: usize) -> String {
         OPEN => "open mark".into(),
         PRIOR => "prior".into(),
         DELAY => "K".into(),
-        FIRMWARE => "F".into(),
         LINK..=7 => "L".into(),
-        WAITS..FIRMWARE_WAITS => "W".into(),
-        FIRMWARE_WAITS..QUEUE_ENTRIES => "firmware octets waiting".into(),
+        WAITS..=11 => "W".into(),
         QUEUE_ENTRIES..QUEUE_ENTRIES_END => queue_field(at - QUEUE_ENTRIES),
         STREAM_ENTRIES..RECORD_OCTETS => stream_field(at - STREAM_ENTRIES),
         RECORD_OCTETS..PORT_OCTETS => block_field(at - RECORD_OCTETS),

@@ -41,14 +41,14 @@ macro_rules! declare {
 }
 
 declare! {
-    bunnysolder_open: &mut PortOctets, &Memory, (link: u32, delay: u32, firmware: u32);
+    bunnysolder_open: &mut PortOctets, &Memory, (link: u32, delay: u32);
     bunnysolder_reserve_unscanned: &mut PortOctets, &Memory, (stream: u8, permitted: u32);
     bunnysolder_arrive_unscanned: &mut PortOctets, &mut Memory, (stream: u8, charge: u32, tag: u32);
     bunnysolder_tick_unscanned: &mut PortOctets, &Memory, ();
     bunnysolder_transmit_unscanned: &mut PortOctets, &Memory, ();
-    bunnysolder_best_effort_unscanned: &mut PortOctets, &mut Memory, (caller: u8, charge: u32, tag: u32);
+    bunnysolder_best_effort_unscanned: &mut PortOctets, &mut Memory, (charge: u32, tag: u32);
     bunnysolder_bind_unscanned: &mut PortOctets, &Memory, (stream: u8, address: &Address, vid: u32);
-    bunnysolder_frame_unscanned: &mut PortOctets, &mut Memory, (caller: u8, octets: *const u8, octets_length: usize, tag: u32);
+    bunnysolder_frame_unscanned: &mut PortOctets, &mut Memory, (octets: *const u8, octets_length: usize, tag: u32);
     bunnysolder_withdraw_unscanned: &mut PortOctets, &Memory, (stream: u8);
     bunnysolder_register_read_unscanned: &PortOctets, &Memory, (offset: u32);
     bunnysolder_register_write_unscanned: &mut PortOctets, &Memory, (offset: u32, value: u32);
@@ -69,10 +69,10 @@ fn replied(call: impl FnOnce(&mut u32, &mut u32) -> u8) -> Replied {
     }
 }
 
-/// Open(L, K, F), the call that scans the record first.
-pub fn open(port: &mut PortOctets, memory: &Memory, link: u32, delay: u32, firmware: u32) -> Replied {
+/// Open(L, K), the call that scans the record first.
+pub fn open(port: &mut PortOctets, memory: &Memory, link: u32, delay: u32) -> Replied {
     // SAFETY: the two lengths are those of the port's and the memory's types.
-    replied(|first, second| unsafe { bunnysolder_open(port, PORT_OCTETS, memory, MEMORY_OCTETS, link, delay, firmware, first, second) })
+    replied(|first, second| unsafe { bunnysolder_open(port, PORT_OCTETS, memory, MEMORY_OCTETS, link, delay, first, second) })
 }
 
 /// The quick Reserve(s, P).
@@ -103,11 +103,11 @@ pub fn transmit(port: &mut PortOctets, memory: &Memory) -> Replied {
     replied(|first, second| unsafe { bunnysolder_transmit_unscanned(port, PORT_OCTETS, memory, MEMORY_OCTETS, first, second) })
 }
 
-/// The quick Best effort(caller, a, tag), the caller by its octet.
-pub fn best_effort(port: &mut PortOctets, memory: &mut Memory, caller: u8, charge: u32, tag: u32) -> Replied {
+/// The quick Best effort(a, tag).
+pub fn best_effort(port: &mut PortOctets, memory: &mut Memory, charge: u32, tag: u32) -> Replied {
     replied(|first, second| {
         // SAFETY: the two lengths are those of the port's and the memory's types.
-        unsafe { bunnysolder_best_effort_unscanned(port, PORT_OCTETS, memory, MEMORY_OCTETS, caller, charge, tag, first, second) }
+        unsafe { bunnysolder_best_effort_unscanned(port, PORT_OCTETS, memory, MEMORY_OCTETS, charge, tag, first, second) }
     })
 }
 
@@ -119,13 +119,13 @@ pub fn bind(port: &mut PortOctets, memory: &Memory, stream: u8, address: &Addres
     })
 }
 
-/// The quick Frame(caller, octets, tag), the caller by its octet.
-pub fn frame(port: &mut PortOctets, memory: &mut Memory, caller: u8, octets: &[u8], tag: u32) -> Replied {
+/// The quick Frame(octets, tag).
+pub fn frame(port: &mut PortOctets, memory: &mut Memory, octets: &[u8], tag: u32) -> Replied {
     let (begin, length) = (octets.as_ptr(), octets.len());
     replied(|first, second| {
         // SAFETY: the two lengths are those of the port's and the memory's types; the octets' pointer and length are those of a slice, whose
         // pointer is never null and which nobody writes while it is lent.
-        unsafe { bunnysolder_frame_unscanned(port, PORT_OCTETS, memory, MEMORY_OCTETS, caller, begin, length, tag, first, second) }
+        unsafe { bunnysolder_frame_unscanned(port, PORT_OCTETS, memory, MEMORY_OCTETS, begin, length, tag, first, second) }
     })
 }
 
@@ -164,18 +164,7 @@ pub fn stream_counts(port: &PortOctets, stream: u8) -> Replied {
 #[cfg(test)]
 mod tests {
     use super::*;
-    use crate::caller::Caller;
     use crate::STREAMS;
-
-    /// Octets of the shortest frame without VLAN tag.
-    const UNTAGGED: [u8; 60] = [0; 60];
-
-    /// A port of L 2,620 with this K and F.
-    fn opened(delay: u32, firmware: u32) -> (PortOctets, Memory) {
-        let (mut port, memory) = (CLOSED_PORT, EMPTY_MEMORY);
-        assert_eq!(open(&mut port, &memory, 2_620, delay, firmware), Ok((600, 0)));
-        (port, memory)
-    }
 
     /// A number that is no refusal of a call's is handed on as none of them.
     #[test]
@@ -197,63 +186,6 @@ mod tests {
         assert_eq!(replied(leaving(14)), Err(Refusal::Discard));
         assert_eq!(replied(leaving(25)), Err(Refusal::Draining));
         assert_eq!(replied(leaving(26)), Err(Refusal::OffsetRange));
-        assert_eq!(replied(leaving(28)), Err(Refusal::FirmwareExceeded));
-    }
-
-    /// "253 is firmware, any other query": 253 alone meets the firmware's limit, which is 0 here, and every other octet's frame is sent as a query.
-    #[test]
-    fn every_octet_names_a_caller() {
-        for caller in 0..=u8::MAX {
-            let (mut port, mut memory) = opened(1, 0);
-            let by_charge = best_effort(&mut port, &mut memory, caller, 84, 1);
-            let by_octets = frame(&mut port, &mut memory, caller, &UNTAGGED, 2);
-            let sent = [1, 2].map(|_| transmit(&mut port, &memory));
-            match Caller::from_octet(caller) {
-                Caller::Firmware => {
-                    assert_eq!([by_charge, by_octets], [Err(Refusal::FirmwareExceeded); 2], "{caller}");
-                    assert_eq!(sent, [Ok((254, 0)); 2], "{caller}");
-                }
-                Caller::Query => {
-                    assert_eq!([by_charge, by_octets], [Ok((84, 0)), Ok((168, 0))], "{caller}");
-                    assert_eq!(sent, [Ok((255, 1)), Ok((255, 2))], "{caller}");
-                }
-            }
-            assert_eq!(Caller::from_octet(caller) == Caller::Firmware, caller == 253);
-        }
-    }
-
-    /// A frame keeps its caller's octet as its stream, in memory and in the reply of the transmit that sends it.
-    #[test]
-    fn a_frame_keeps_its_caller() {
-        for caller in [Caller::Firmware, Caller::Query].map(Caller::octet) {
-            let (mut port, mut memory) = opened(1, 1);
-            assert_eq!(best_effort(&mut port, &mut memory, caller, 84, 1), Ok((84, 0)));
-            assert_eq!(frame(&mut port, &mut memory, caller, &UNTAGGED, 2), Ok((168, 0)));
-            let places = &memory[MEMORY_OCTETS / 5 * 4..]; // those of best effort, the last of five queues
-            assert_eq!(places[..16], [0, caller, 0, 84, 0, 0, 0, 1, 0, caller, 0, 84, 0, 0, 0, 2]);
-            assert_eq!([1, 2].map(|_| transmit(&mut port, &memory)), [1, 2].map(|tag| Ok((u32::from(caller), tag))));
-        }
-    }
-
-    /// A closed port refuses a best-effort frame of every caller with 1, before its charge or its length.
-    #[test]
-    fn a_closed_port_refuses_every_caller() {
-        for caller in 0..=u8::MAX {
-            let (mut port, mut memory) = (CLOSED_PORT, EMPTY_MEMORY);
-            assert_eq!(best_effort(&mut port, &mut memory, caller, 83, 1), Err(Refusal::Closed), "{caller}");
-            assert_eq!(frame(&mut port, &mut memory, caller, &[], 1), Err(Refusal::Closed), "{caller}");
-            assert!((port, memory) == (CLOSED_PORT, EMPTY_MEMORY), "{caller}");
-        }
-    }
-
-    /// A port that is open refuses another Open with 2, before 27; one that is refused with 27 leaves a closed port closed.
-    #[test]
-    fn a_limit_above_is_refused_on_a_closed_port() {
-        let (mut port, memory) = opened(1, 1);
-        assert_eq!(open(&mut port, &memory, 2_620, 1, 2), Err(Refusal::OpenAlready));
-        let mut closed = CLOSED_PORT;
-        assert_eq!(open(&mut closed, &memory, 2_620, 1, 2), Err(Refusal::FirmwareRange));
-        assert!(closed == CLOSED_PORT);
     }
 
     /// A port that was never opened has no binding, and a lookup on it is no refusal.

@@ -4,11 +4,10 @@
 //! the memory for its frames, and its methods are calls of the library that is proved to hold to the rule, docs/RULE.md, of the edition
 //! [`EDITION`]. The host calls [`tick`](Port::tick) where an epoch ends, [`transmit`](Port::transmit) when the link can send a frame, and
 //! [`arrive`](Port::arrive), [`best_effort`](Port::best_effort) or [`frame`](Port::frame) when a frame comes; it keeps the frames themselves, under
-//! their tags. Best effort has two [`Caller`]s, and firmware loads have a limit of their own beside queries. The host takes a stream off the line by
-//! [`withdraw`](Port::withdraw). A node's controller sees the port as [`Register`]s: it ticks and transmits by [`control`](Port::control), and is told
-//! by an interrupt line that frames were discarded or purged. Which stream's frames they were, support sees by
-//! [`stream_counts`](Port::stream_counts). What it costs to find a frame's stream, [`lookup`](Port::lookup) tells. What a port guarantees in return,
-//! docs/GUARANTEE.md says.
+//! their tags. It takes a stream off the line by [`withdraw`](Port::withdraw). A node's controller sees the port as [`Register`]s: it ticks and
+//! transmits by [`control`](Port::control), and is told by an interrupt line that frames were discarded or purged. Which stream's frames they were,
+//! support sees by [`stream_counts`](Port::stream_counts). What it costs to find a frame's stream, [`lookup`](Port::lookup) tells. What a port
+//! guarantees in return, docs/GUARANTEE.md says.
 //!
 //! The library is built, with its proofs, by `bash examples/run` in the repository.
 //!
@@ -20,9 +19,9 @@
 //! ```
 //! use bunnysolder::{Joined, Port, Purged, Queue, Refusal, Reserved, Sent};
 //!
-//! // L = 2,620, K = 1 and F = 0 at both ports: the share is 2,620 − 2,020 = 600. Stream 5 gets P = 200 of it, so 600 − 200 = 400 are still free.
-//! let mut first = Port::open(2_620, 1, 0)?;
-//! let mut second = Port::open(2_620, 1, 0)?;
+//! // L = 2,620 and K = 1 at both ports: the share is 2,620 − 2,020 = 600. Stream 5 gets P = 200 of it, so 600 − 200 = 400 are still free.
+//! let mut first = Port::open(2_620, 1)?;
+//! let mut second = Port::open(2_620, 1)?;
 //! assert_eq!([first.share(), second.share()], [600, 600]);
 //! assert_eq!(first.reserve(5, 200)?, Reserved { free: 400 });
 //! assert_eq!(second.reserve(5, 200)?, Reserved { free: 400 });
@@ -60,7 +59,7 @@
 #![deny(unsafe_code, unsafe_op_in_unsafe_fn, missing_docs)]
 
 /// The edition of the rule: the number of the last request of document 02 that the rule has; 0 is document 01 alone.
-pub const EDITION: u32 = 6;
+pub const EDITION: u32 = 5;
 
 /// The streams of a port: they have the numbers from 0 up to one less than this.
 pub const STREAMS: usize = 64;
@@ -71,7 +70,6 @@ pub const SHORTEST_FRAME: usize = 60;
 /// The octets of the longest frame that [`Port::frame`] takes, without check sequence; a driver's buffers have as many.
 pub const LONGEST_FRAME: usize = 1_996;
 
-mod caller;
 #[allow(unsafe_code)]
 mod exports;
 mod port;
@@ -79,7 +77,6 @@ mod refusal;
 mod register;
 mod reply;
 
-pub use caller::Caller;
 pub use exports::Address;
 pub use port::Port;
 pub use refusal::Refusal;

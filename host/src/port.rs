@@ -2,7 +2,6 @@
 
 use std::fmt;
 
-use crate::caller::Caller;
 use crate::exports::{self, Address, Memory, PortOctets, CLOSED_PORT, EMPTY_MEMORY};
 use crate::refusal::Refusal;
 use crate::register::{self, Control, Controlled, Flags, Mask, Register, Status, StreamCounts};
@@ -16,8 +15,8 @@ mod wrapping;
 
 /// An open port, with its record, its register block and the memory for its frames.
 ///
-/// A port comes to be by a granted Open alone, and is open from then on; another L, K or F is another port. Its octets and its memory, about
-/// twelve thousand octets, lie where the host puts it: in a variable, a field or a `Box`.
+/// A port comes to be by a granted Open alone, and is open from then on; another L or K is another port. Its octets and its memory, about twelve
+/// thousand octets, lie where the host puts it: in a variable, a field or a `Box`.
 ///
 /// # Whose replies these are
 ///
@@ -34,8 +33,6 @@ mod wrapping;
 ///   every list of calls the quick calls reply as the calls do (`quick-replies`, `crates/port_laws/proofs/StayLaws.antt`);
 /// - on a fit record the quick register accesses equal the accesses (`quick-read`, `quick-write`,
 ///   `crates/register_laws/proofs/QuickRegisters.antt`);
-/// - a query finds what F leaves of K, as long as no reservation is granted while firmware frames wait (`queries-fit`,
-///   `crates/firmware_laws/proofs/QueryLaws.antt`);
 /// - any list of control writes does to the port what the calls do that they name (`controls-named`,
 ///   `crates/register_laws/proofs/ControlLaws.antt`);
 /// - a stream's counts are the number of its frames that were accepted and of those that were discarded since the opening or its latest granted
@@ -69,7 +66,7 @@ mod wrapping;
 /// ```
 /// use bunnysolder::{Control, Controlled, Flags, Port, Refusal, Sent, StreamCounts};
 ///
-/// let mut port = Port::open(2_620, 1, 0)?;
+/// let mut port = Port::open(2_620, 1)?;
 /// port.reserve(5, 200)?;
 /// port.set_mask(Flags { discard: true, purge: true, nothing: false });
 ///
@@ -102,15 +99,15 @@ mod wrapping;
 /// # Example
 ///
 /// ```
-/// use bunnysolder::{Caller, Joined, Port, Queue, Refusal, Sent, Waiting};
+/// use bunnysolder::{Joined, Port, Queue, Refusal, Sent, Waiting};
 ///
-/// let mut port = Port::open(2_620, 1, 0)?;
+/// let mut port = Port::open(2_620, 1)?;
 /// assert_eq!(port.share(), 600); // 2,620 − 2,020
 /// port.reserve(5, 200)?;
-/// assert_eq!(port.best_effort(Caller::Query, 300, 1)?, Waiting { octets: 300 });
+/// assert_eq!(port.best_effort(300, 1)?, Waiting { octets: 300 });
 /// assert_eq!(port.arrive(5, 120, 2)?, Joined { queue: Queue::Current, left: 80 }); // 200 − 120
 /// assert_eq!(port.transmit()?, Sent::Reserved { stream: 5, tag: 2 }); // before best effort
-/// assert_eq!(port.transmit()?, Sent::BestEffort { caller: Caller::Query, tag: 1 });
+/// assert_eq!(port.transmit()?, Sent::BestEffort { tag: 1 });
 /// assert_eq!(port.transmit()?, Sent::Nothing);
 /// assert_eq!(port.arrive(6, 120, 3), Err(Refusal::NotReserved));
 /// # Ok::<(), Refusal>(())
@@ -125,23 +122,13 @@ pub struct Port {
 }
 
 impl Port {
-    /// Open(L, K, F): a port without reservations, bindings and frames, with flags, mask and counters 0. `link` is L, the link octets in an epoch;
-    /// `delay` is K, the best-effort delay bound in epochs; `firmware` is F, the limit of firmware loads in epochs, 0 to K. With F 0 no firmware frame
-    /// is accepted; with F equal to K none is refused for its own limit.
+    /// Open(L, K): a port without reservations, bindings and frames, with flags, mask and counters 0. `link` is L, the link octets in an epoch;
+    /// `delay` is K, the best-effort delay bound in epochs.
     ///
-    /// Refusals, in this order: [`LinkRange`](Refusal::LinkRange) (3), [`DelayRange`](Refusal::DelayRange) (4),
-    /// [`FirmwareRange`](Refusal::FirmwareRange) (27).
-    ///
-    /// ```
-    /// use bunnysolder::{Port, Refusal};
-    ///
-    /// assert_eq!(Port::open(2_620, 2, 2)?.share(), 600);
-    /// assert_eq!(Port::open(2_620, 2, 3).unwrap_err(), Refusal::FirmwareRange);
-    /// # Ok::<(), Refusal>(())
-    /// ```
-    pub fn open(link: u32, delay: u32, firmware: u32) -> Result<Port, Refusal> {
+    /// Refusals, in this order: [`LinkRange`](Refusal::LinkRange) (3), [`DelayRange`](Refusal::DelayRange) (4).
+    pub fn open(link: u32, delay: u32) -> Result<Port, Refusal> {
         let mut port = Port { octets: CLOSED_PORT, memory: EMPTY_MEMORY, share: 0 };
-        port.share = exports::open(&mut port.octets, &port.memory, link, delay, firmware).map(reply::share)?;
+        port.share = exports::open(&mut port.octets, &port.memory, link, delay).map(reply::share)?;
         Ok(port)
     }
 
@@ -185,15 +172,13 @@ impl Port {
         exports::transmit(&mut self.octets, &self.memory).map(Sent::of)
     }
 
-    /// Best effort(caller, a, tag): a frame of no stream arrives. `caller` says who brings it; `charge` and `tag` are as in [`arrive`](Port::arrive).
-    /// It waits until neither prior nor current has a frame, in one queue with those of the other caller. It is counted nowhere before it is sent.
-    /// Replies W, the octets of both callers that wait.
+    /// Best effort(a, tag): a frame of no stream arrives; `charge` and `tag` are as in [`arrive`](Port::arrive). It waits until neither prior nor
+    /// current has a frame. It is counted nowhere before it is sent. Replies W.
     ///
     /// Refusals, in this order: [`ChargeRange`](Refusal::ChargeRange) (13), [`BestEffortFull`](Refusal::BestEffortFull) (15),
-    /// [`LimitExceeded`](Refusal::LimitExceeded) (16); then of a firmware frame [`FirmwareExceeded`](Refusal::FirmwareExceeded) (28), after which the
-    /// host offers it again once [`transmit`](Port::transmit) has sent a firmware frame ([`Caller`] has an example).
-    pub fn best_effort(&mut self, caller: Caller, charge: u32, tag: u32) -> Result<Waiting, Refusal> {
-        exports::best_effort(&mut self.octets, &mut self.memory, caller.octet(), charge, tag).map(Waiting::of)
+    /// [`LimitExceeded`](Refusal::LimitExceeded) (16).
+    pub fn best_effort(&mut self, charge: u32, tag: u32) -> Result<Waiting, Refusal> {
+        exports::best_effort(&mut self.octets, &mut self.memory, charge, tag).map(Waiting::of)
     }
 
     /// Bind(s, address, VID): from now on a [`frame`](Port::frame) with this destination and this VLAN id arrives on this reserved stream. A stream
@@ -207,7 +192,7 @@ impl Port {
     /// use bunnysolder::{Port, Refusal};
     ///
     /// let address = [0x01, 0x00, 0x5E, 0x00, 0x00, 0x05];
-    /// let mut port = Port::open(2_620, 1, 0)?;
+    /// let mut port = Port::open(2_620, 1)?;
     /// port.reserve(5, 200)?;
     /// assert_eq!(port.bind(6, &address, 100), Err(Refusal::NotReserved));
     /// port.bind(5, &address, 100)?;
@@ -220,21 +205,21 @@ impl Port {
         exports::bind(&mut self.octets, &self.memory, stream, address, vid).map(reply::bound)
     }
 
-    /// Frame(caller, octets, tag): a frame arrives, given by its octets from the destination on, without check sequence. Octets 0 to 5 are its
-    /// destination; where octets 12 and 13 are 81 00 (hexadecimal), its VID is the low 12 bits of octets 14 and 15, high octet first. Where the two
-    /// are bound to a stream it is an Arrive on that stream, whoever its caller is, otherwise a Best effort of the caller, with its length plus 24 as
-    /// its charge. Replies and is counted as that call. Nothing is kept of the octets: the host keeps the frame, under its tag. A frame has
-    /// [`SHORTEST_FRAME`](crate::SHORTEST_FRAME) to [`LONGEST_FRAME`](crate::LONGEST_FRAME) octets.
+    /// Frame(octets, tag): a frame arrives, given by its octets from the destination on, without check sequence. Octets 0 to 5 are its destination;
+    /// where octets 12 and 13 are 81 00 (hexadecimal), its VID is the low 12 bits of octets 14 and 15, high octet first. Where the two are bound to
+    /// a stream it is an Arrive on that stream, otherwise a Best effort, with its length plus 24 as its charge. Replies and is counted as that call.
+    /// Nothing is kept of the octets: the host keeps the frame, under its tag. A frame has [`SHORTEST_FRAME`](crate::SHORTEST_FRAME) to
+    /// [`LONGEST_FRAME`](crate::LONGEST_FRAME) octets.
     ///
     /// Refusals, in this order: [`FrameLength`](Refusal::FrameLength) (17); then of an arrival [`Draining`](Refusal::Draining) (25),
     /// [`Discard`](Refusal::Discard) (14), of a best-effort frame [`BestEffortFull`](Refusal::BestEffortFull) (15),
-    /// [`LimitExceeded`](Refusal::LimitExceeded) (16), and where its caller is firmware [`FirmwareExceeded`](Refusal::FirmwareExceeded) (28).
+    /// [`LimitExceeded`](Refusal::LimitExceeded) (16).
     ///
     /// ```
-    /// use bunnysolder::{Caller, Framed, Joined, Port, Queue, Refusal, Waiting, LONGEST_FRAME, SHORTEST_FRAME};
+    /// use bunnysolder::{Framed, Joined, Port, Queue, Refusal, Waiting, LONGEST_FRAME, SHORTEST_FRAME};
     ///
     /// let address = [0x01, 0x00, 0x5E, 0x00, 0x00, 0x05];
-    /// let mut port = Port::open(2_620, 1, 0)?;
+    /// let mut port = Port::open(2_620, 1)?;
     /// port.reserve(5, 200)?;
     /// port.bind(5, &address, 100)?;
     ///
@@ -242,20 +227,17 @@ impl Port {
     /// let mut buffer = [0; LONGEST_FRAME];
     /// buffer[..6].copy_from_slice(&address);
     /// buffer[12..16].copy_from_slice(&[0x81, 0x00, 0xE0, 0x64]);
-    /// assert_eq!(port.frame(Caller::Query, &buffer[..96], 7)?, Framed::Arrived(Joined { queue: Queue::Current, left: 80 }));
+    /// assert_eq!(port.frame(&buffer[..96], 7)?, Framed::Arrived(Joined { queue: Queue::Current, left: 80 }));
     ///
     /// // With VID 101 the pair is bound to no stream: the frame is best effort. A gateway's frame may fill the buffer: 1,996 + 24 = 2,020.
     /// buffer[15] = 0x65;
-    /// assert_eq!(port.frame(Caller::Query, &buffer, 8)?, Framed::BestEffort(Waiting { octets: 2_020 }));
+    /// assert_eq!(port.frame(&buffer, 8)?, Framed::BestEffort(Waiting { octets: 2_020 }));
     ///
-    /// assert_eq!(port.frame(Caller::Query, &buffer[..SHORTEST_FRAME - 1], 9), Err(Refusal::FrameLength));
-    ///
-    /// // A firmware load has no octets here, since F is 0.
-    /// assert_eq!(port.frame(Caller::Firmware, &buffer[..SHORTEST_FRAME], 10), Err(Refusal::FirmwareExceeded));
+    /// assert_eq!(port.frame(&buffer[..SHORTEST_FRAME - 1], 9), Err(Refusal::FrameLength));
     /// # Ok::<(), Refusal>(())
     /// ```
-    pub fn frame(&mut self, caller: Caller, octets: &[u8], tag: u32) -> Result<Framed, Refusal> {
-        exports::frame(&mut self.octets, &mut self.memory, caller.octet(), octets, tag).map(Framed::of)
+    pub fn frame(&mut self, octets: &[u8], tag: u32) -> Result<Framed, Refusal> {
+        exports::frame(&mut self.octets, &mut self.memory, octets, tag).map(Framed::of)
     }
 
     /// Lookup(address, VID): finds the stream that is bound to a pair as [`bind`](Port::bind) does before it refuses with 11, and as
@@ -270,7 +252,7 @@ impl Port {
     /// use bunnysolder::{Lookup, Port, Refusal};
     ///
     /// let (first, second) = ([0x01, 0x00, 0x5E, 0x00, 0x00, 0x66], [0x01, 0x00, 0x5E, 0x00, 0x00, 0x67]);
-    /// let mut port = Port::open(2_620, 1, 0)?;
+    /// let mut port = Port::open(2_620, 1)?;
     /// port.reserve(5, 200)?;
     /// port.reserve(6, 200)?;
     /// port.bind(5, &first, 100)?;
@@ -300,7 +282,7 @@ impl Port {
     /// use bunnysolder::{Joined, Port, Queue, Refusal, Reserved, Sent};
     ///
     /// // Stream 5 has the whole share, 600, and a frame that waits.
-    /// let mut port = Port::open(2_620, 1, 0)?;
+    /// let mut port = Port::open(2_620, 1)?;
     /// port.reserve(5, 600)?;
     /// assert_eq!(port.arrive(5, 120, 7)?, Joined { queue: Queue::Current, left: 480 });
     ///
@@ -331,7 +313,7 @@ impl Port {
     /// ```
     /// use bunnysolder::{Control, Controlled, Port, Purged, Refusal, Sent};
     ///
-    /// let mut port = Port::open(2_620, 1, 0)?;
+    /// let mut port = Port::open(2_620, 1)?;
     /// let (tick, transmit) = (true, true);
     /// assert_eq!(port.control(Control { tick, transmit: false })?, Controlled::Ticked(Purged { frames: 0, octets: 0 }));
     /// assert_eq!(port.control(Control { tick, transmit })?, Controlled::Transmitted(Sent::Nothing));
@@ -367,7 +349,7 @@ impl Port {
     /// ```
     /// use bunnysolder::{Flags, Mask, Port, Refusal};
     ///
-    /// let mut port = Port::open(2_620, 1, 0)?;
+    /// let mut port = Port::open(2_620, 1)?;
     /// port.set_mask(Flags { nothing: true, ..Flags::default() });
     /// assert_eq!(port.mask(), Mask(0b100));
     /// port.set_mask(Mask(0xABCD_EF12));
@@ -383,7 +365,7 @@ impl Port {
     /// ```
     /// use bunnysolder::{Port, Refusal, StreamCounts, STREAMS};
     ///
-    /// let mut port = Port::open(2_620, 1, 0)?;
+    /// let mut port = Port::open(2_620, 1)?;
     /// port.reserve(5, 200)?;
     /// port.reserve(63, 200)?;
     /// port.arrive(5, 120, 7)?;
@@ -411,12 +393,12 @@ impl Port {
     /// Refusals: [`StreamRange`](Refusal::StreamRange) (5).
     ///
     /// ```
-    /// use bunnysolder::{Caller, Port, Refusal, StreamCounts};
+    /// use bunnysolder::{Port, Refusal, StreamCounts};
     ///
-    /// let mut port = Port::open(2_620, 1, 0)?;
+    /// let mut port = Port::open(2_620, 1)?;
     /// port.reserve(5, 200)?;
     /// port.arrive(5, 120, 7)?;
-    /// port.best_effort(Caller::Query, 84, 8)?; // a frame of no stream
+    /// port.best_effort(84, 8)?; // a frame of no stream
     /// assert_eq!(port.counts_of(5)?, StreamCounts { accepted: 1, discarded: 0 });
     /// assert_eq!(port.counts_of(6)?, StreamCounts::default());
     /// assert_eq!(port.counts_of(64), Err(Refusal::StreamRange));
@@ -432,7 +414,7 @@ impl Port {
     /// ```
     /// use bunnysolder::{Port, Refusal, StreamCounts};
     ///
-    /// let mut port = Port::open(2_620, 1, 0)?;
+    /// let mut port = Port::open(2_620, 1)?;
     /// port.reserve(5, 200)?;
     /// port.arrive(5, 120, 7)?;
     /// assert_eq!(port.chosen_counts(), StreamCounts::default()); // of stream 0
@@ -470,7 +452,7 @@ impl Port {
     /// ```
     /// use bunnysolder::{Port, Refusal, Register, Status};
     ///
-    /// let port = Port::open(2_620, 1, 0)?;
+    /// let port = Port::open(2_620, 1)?;
     /// let status = port.read_register(Register::Status.offset())?;
     /// assert_eq!(Status::from_bits(status), Status { open: true, interrupt: false });
     /// assert_eq!(status.to_be_bytes(), [0, 0, 0, 1]); // as octets, the high one first
@@ -493,7 +475,7 @@ impl Port {
     /// ```
     /// use bunnysolder::{Control, Flags, Port, Refusal, Register};
     ///
-    /// let mut port = Port::open(2_620, 1, 0)?;
+    /// let mut port = Port::open(2_620, 1)?;
     /// let (control, flags) = (Register::Control.offset(), Register::Flags.offset());
     /// let transmit = Control { tick: false, transmit: true };
     /// assert_eq!(port.write_register(control, transmit.bits())?, (254, 0)); // nothing to send

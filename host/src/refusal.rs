@@ -14,7 +14,7 @@ macro_rules! refusals {
         }
 
         impl Refusal {
-            /// The refusal of a number; none of a call has 0, which is a grant, 21 to 24, which are those of captures, or one above 28.
+            /// The refusal of a number; none of a call has 0, which is a grant, 21 to 24, which are those of captures, or one above 26.
             pub const fn from_number(number: u8) -> Option<Refusal> {
                 match number {
                     $($number => Some(Refusal::$name),)*
@@ -33,7 +33,7 @@ macro_rules! refusals {
 }
 
 refusals! {
-    /// Why a call was refused: the rule's numbers 1 to 20 and 25 to 28, in its words.
+    /// Why a call was refused: the rule's numbers 1 to 20, 25 and 26, in its words.
     ///
     /// A refusal leaves the port as it was. [`Discard`](Refusal::Discard) alone also moves its stream, to place last with nothing left, and raises
     /// its flag and its stream's count of discards.
@@ -44,7 +44,7 @@ refusals! {
     /// use bunnysolder::{Port, Refusal};
     ///
     /// // L is at least 2,020 + 84, so that the share, L − 2,020, holds a least reservation.
-    /// let refusal = Port::open(2_103, 1, 0).unwrap_err();
+    /// let refusal = Port::open(2_103, 1).unwrap_err();
     /// assert_eq!(refusal, Refusal::LinkRange);
     /// assert_eq!(refusal.number(), 3);
     /// assert_eq!(refusal.to_string(), "3: L is outside 2,104 to 23,524");
@@ -72,8 +72,6 @@ refusals! {
     QueueFull = 20, "the chosen queue holds 256 frames";
     Draining = 25, "the stream was withdrawn, and drains";
     OffsetRange = 26, "the offset is no multiple of 4, or above 60";
-    FirmwareRange = 27, "F is above K";
-    FirmwareExceeded = 28, "the firmware octets waiting with the charge in them would be above F × (L − R)";
 }
 
 impl Refusal {

@@ -1,6 +1,5 @@
 //! What the calls reply where they are granted: types for what the two reply numbers mean, and how they are read.
 
-use crate::caller::Caller;
 use crate::exports::ADDRESS_OCTETS;
 use crate::refusal::Refusal;
 use crate::STREAMS;
@@ -8,12 +7,9 @@ use crate::STREAMS;
 /// The two reply numbers of a granted call.
 pub type Numbers = (u32, u32);
 
-/// The streams that Transmit replies for the callers of best effort, and for nothing.
-const OF_QUERY: u32 = Caller::Query.octet() as u32;
-const OF_FIRMWARE: u32 = Caller::Firmware.octet() as u32;
+/// The stream that Transmit replies for best effort and a lookup where it finds none, and the one that Transmit replies for nothing.
+const OF_BEST_EFFORT: u32 = 255;
 const OF_NOTHING: u32 = 254;
-/// The stream that a lookup replies where it finds none.
-const UNBOUND: u32 = 255;
 /// The last stream.
 const LAST_STREAM: u32 = STREAMS as u32 - 1;
 /// The least charge, so the least W after a frame has joined best effort.
@@ -71,8 +67,6 @@ pub enum Sent {
     },
     /// A best-effort frame.
     BestEffort {
-        /// Who brought it.
-        caller: Caller,
         /// The frame's tag.
         tag: u32,
     },
@@ -83,7 +77,7 @@ pub enum Sent {
 /// What Best effort replies.
 #[derive(Clone, Copy, Debug, PartialEq, Eq, Hash)]
 pub struct Waiting {
-    /// W, the sum of the charges of both callers that wait in best effort, with this frame's in it.
+    /// W, the sum of the charges that wait in best effort, with this frame's in it.
     pub octets: u32,
 }
 
@@ -92,7 +86,7 @@ pub struct Waiting {
 pub enum Framed {
     /// Its destination and VID are bound to a stream: it was an Arrive on that stream.
     Arrived(Joined),
-    /// They are not: it was a Best effort of its caller.
+    /// They are not: it was a Best effort.
     BestEffort(Waiting),
 }
 
@@ -179,12 +173,11 @@ impl Purged {
 }
 
 impl Sent {
-    /// "stream (255 best effort, 254 nothing), tag (0 for nothing)", and of best effort "255 for query, 253 for firmware".
+    /// "stream (255 best effort, 254 nothing), tag (0 for nothing)".
     pub(crate) fn of(numbers: Numbers) -> Sent {
         match numbers {
             (stream @ ..=LAST_STREAM, tag) => Sent::Reserved { stream: stream as u8, tag },
-            (OF_QUERY, tag) => Sent::BestEffort { caller: Caller::Query, tag },
-            (OF_FIRMWARE, tag) => Sent::BestEffort { caller: Caller::Firmware, tag },
+            (OF_BEST_EFFORT, tag) => Sent::BestEffort { tag },
             (OF_NOTHING, 0) => Sent::Nothing,
             _ => no_reply(numbers, "Transmit"),
         }
@@ -220,7 +213,7 @@ impl Lookup {
             (stream @ ..=LAST_STREAM, compared) if (octets..=octets * (stream + 1)).contains(&compared) => {
                 Lookup { stream: Some(stream as u8), compared }
             }
-            (UNBOUND, compared) if compared <= octets * (LAST_STREAM + 1) => Lookup { stream: None, compared },
+            (OF_BEST_EFFORT, compared) if compared <= octets * (LAST_STREAM + 1) => Lookup { stream: None, compared },
             _ => no_reply(numbers, "a lookup"),
         }
     }
@@ -278,10 +271,9 @@ mod tests {
     fn sent_frames_are_read() {
         assert_eq!(Sent::of((0, 7)), Sent::Reserved { stream: 0, tag: 7 });
         assert_eq!(Sent::of((63, 254)), Sent::Reserved { stream: 63, tag: 254 });
-        assert_eq!(Sent::of((255, 0)), Sent::BestEffort { caller: Caller::Query, tag: 0 });
-        assert_eq!(Sent::of((253, 9)), Sent::BestEffort { caller: Caller::Firmware, tag: 9 });
+        assert_eq!(Sent::of((255, 0)), Sent::BestEffort { tag: 0 });
         assert_eq!(Sent::of((254, 0)), Sent::Nothing);
-        assert!([(64, 7), (252, 0), (254, 7), (256, 0), (256 + 5, 7), (256 + 253, 0)].into_iter().all(|numbers| stops(Sent::of, numbers)));
+        assert!([(64, 7), (253, 0), (254, 7), (256, 0), (256 + 5, 7)].into_iter().all(|numbers| stops(Sent::of, numbers)));
     }
 
     #[test]
@@ -303,7 +295,7 @@ mod tests {
         assert_eq!(Lookup::of((63, 384)), Lookup { stream: Some(63), compared: 384 });
         assert_eq!(Lookup::of((255, 0)), Lookup { stream: None, compared: 0 });
         assert_eq!(Lookup::of((255, 384)), Lookup { stream: None, compared: 384 });
-        let wrong = [(0, 5), (0, 7), (63, 385), (64, 6), (253, 0), (254, 0), (255, 385), (256, 0), (256 + 5, 6)];
+        let wrong = [(0, 5), (0, 7), (63, 385), (64, 6), (254, 0), (255, 385), (256, 0), (256 + 5, 6)];
         assert!(wrong.into_iter().all(|numbers| stops(Lookup::of, numbers)));
     }
 

@@ -1,3 +1,2 @@
--- The step of Best effort(caller, a, tag): document 01, "Steps", and document 02, CR 6.
-pub mod Caller
+-- The step of Best effort(a, tag): document 01, "Steps".
 pub mod BestEffort

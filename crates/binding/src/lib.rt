@@ -50,7 +50,10 @@ impl Answer {
         let found = self.found;
         match found {
             Lookup::Bound(stream) => steps::granted(stream as u32, self.compared),
-            Lookup::Unbound => steps::granted(queue::BEST_EFFORT_STREAM as u32, self.compared),
+            Lookup::Unbound => steps::granted(
+                fitness::frames::BEST_EFFORT_STREAM as u32,
+                self.compared,
+            ),
         }
     }
 }

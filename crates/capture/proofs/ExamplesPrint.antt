@@ -13,14 +13,13 @@ use Rattle.record.specs.Head.{open_at, with_open, prior_at, with_prior, delay_at
 use Rattle.record.specs.Entry.{stream_at, with_stream, drain_at, drains_at, bound_at, vid_at, dropped}
 use Rattle.fitness.specs.Fit.{record_fits, lent_refusal}
 use Rattle.opening.specs.Opening.{opened_record}
-use Rattle.gates.specs.Refusals.{open_refusal, reserve_refusal, withdraw_refusal, closed_refusal, best_effort_refusal}
+use Rattle.gates.specs.Refusals.{open_refusal, reserve_refusal, withdraw_refusal, closed_refusal}
 use Rattle.gates.specs.Table.{refusal_of}
 use Rattle.port_laws.specs.Cases.{case_link}
 use Rattle.capture_file.specs.File.{letters, lettersOf, first_of, kind_of, stream_octet_of, next_of, number_a, number_b, end_of, chain_within}
 use Rattle.capture_file.specs.Checks.{header_good, first_good, next_good, record_good, record_refusal, chain_refusal, port_refusal, ports_refusal, file_refusal}
 use Rattle.capture.specs.Events.{call_of, call_at, event_line, lines_of}
 use Rattle.capture.specs.Output.{ports_text, refused_word, output}
-use Rattle.steps.specs.Call.{opening}
 
 -- a header with these first indices for ports 0 and 1
 abbrev header : ℕ → ℕ → List ℕ
@@ -55,13 +54,3 @@ refused_first = refl
 pub kind_7_withdraws : refusal_of (call_of 7 64 0 0) (1 ∷ []) ≡ 5
 unfolding open_at withdraw_refusal closed_refusal
 kind_7_withdraws = refl
-
--- kind 1 gives F: one above K is refused on a port that is closed
-pub kind_1_gives_f : refusal_of (call_of 1 2 2620 1) (0 ∷ []) ≡ 27
-unfolding open_at open_refusal
-kind_1_gives_f = refl
-
--- and kind 4 names its caller: with K 1 and F 0 a frame of firmware's is over its own limit
-pub kind_4_names_its_caller : refusal_of (call_of 4 253 84 7) (1 ∷ 0 ∷ 1 ∷ 0 ∷ 0 ∷ 0 ∷ 10 ∷ 60 ∷ []) ≡ 28
-unfolding sum_to two_of four_of open_at delay_at link_at waits_at queue_at queues_at stream_at best_effort_refusal
-kind_4_names_its_caller = refl

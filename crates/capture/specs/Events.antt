@@ -7,14 +7,14 @@ use Rattle.port_laws.specs.Lists.{fresh_record, fresh_memory}
 use Rattle.text.specs.Lines.{line_of}
 use Rattle.capture_file.specs.File.{kind_of, stream_octet_of, number_a, number_b, open_kind, reserve_kind, arrive_kind, best_effort_kind, tick_kind, withdraw_kind, first_of, chain_within, most_events}
 
--- "open (A = L, B = K)", with "F in its stream octet"; "reserve (A = P); arrive (A charge, B tag); best effort (A charge, B tag)", with its caller in the
--- stream octet; "tick; transmit", and a withdrawal; no other kind passes the checks
+-- "open (A = L, B = K); reserve (A = P); arrive (A charge, B tag); best effort (A charge, B tag); tick; transmit", and a withdrawal; no other kind passes
+-- the checks
 abbrev pub call_of : ℕ → ℕ → ℕ → ℕ → Call
 call_of kind stream a b =
-    cond (eqb kind open_kind) (opening (terms a b stream))
+    cond (eqb kind open_kind) (opening (terms a b))
     (cond (eqb kind reserve_kind) (reserving stream a)
     (cond (eqb kind arrive_kind) (arriving stream a b)
-    (cond (eqb kind best_effort_kind) (joining_best_effort stream a b)
+    (cond (eqb kind best_effort_kind) (joining_best_effort a b)
     (cond (eqb kind tick_kind) ticking
     (cond (eqb kind withdraw_kind) (withdrawing stream) transmitting)))))
 

@@ -17,7 +17,7 @@ fn call(kind: u8, stream: u8, a: u32, b: u32, port: &mut [u8], memory: &mut [u8]
     ensures { outcome result port.new memory.new ≡ quickly_called (call_of kind stream a b) port.old memory.old }
 {
     if kind == capture_file::OPEN {
-        return port::quick::open_port(port, memory, a, b, stream as u32);
+        return port::quick::open_port(port, memory, a, b);
     }
     if kind == capture_file::RESERVE {
         return port::quick::reserve(port, memory, stream, a);
@@ -26,7 +26,7 @@ fn call(kind: u8, stream: u8, a: u32, b: u32, port: &mut [u8], memory: &mut [u8]
         return port::quick::arrive(port, memory, stream, a, b);
     }
     if kind == capture_file::BEST_EFFORT {
-        return port::quick::best_effort(port, memory, stream, a, b);
+        return port::quick::best_effort(port, memory, a, b);
     }
     if kind == capture_file::TICK {
         return port::quick::tick(port, memory);

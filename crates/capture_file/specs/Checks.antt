@@ -1,9 +1,8 @@
 -- What of a capture file is refused: "All checks of the file come before any event". The orders are document 01's.
 use Rattle.std.specs.Prelude.{ℕ, zero, suc, ◌+◌, ◌%◌, Bool, true, false, not, cond, ◌&&◌, ◌||◌, List, length, leb, ltb, eqb}
 use Rattle.lists.specs.Equal.{octets_equal}
-use Rattle.queue.specs.Place.{best_effort_stream, firmware_stream}
 use Rattle.capture_file.specs.declared.FileRefusal.{FileRefusal}
-use Rattle.capture_file.specs.File.{record_octets, record_count, port_count, letters, lettersOf, first_of, kind_of, stream_octet_of, next_of, number_a, number_b, open_kind, reserve_kind, arrive_kind, best_effort_kind, tick_kind, transmit_kind, withdraw_kind, end_of, most_events}
+use Rattle.capture_file.specs.File.{record_octets, record_count, port_count, letters, lettersOf, first_of, kind_of, stream_octet_of, next_of, number_a, number_b, open_kind, reserve_kind, arrive_kind, best_effort_kind, tick_kind, transmit_kind, withdraw_kind, best_effort_octet, end_of, most_events}
 
 -- a refusal names "the record index (0 for the whole file or the header)"
 abbrev pub refused_at : ℕ → ℕ → FileRefusal
@@ -44,18 +43,14 @@ both_zero a b = eqb a 0 && eqb b 0
 abbrev pub all_zero : ℕ → ℕ → ℕ → Bool
 all_zero stream a b = eqb stream 0 && both_zero a b
 
--- the callers of best effort: "Kind 4 has stream octet 255 for query, 253 for firmware"
-abbrev pub caller_good : ℕ → Bool
-caller_good stream = eqb stream best_effort_stream || eqb stream firmware_stream
-
--- "The stream octet is any value in 2 and 3, 255 in 4, else 0. Unused A and B are 0", with the callers in 4, and "Kind 1 has F in its stream octet", of any
--- value; "kind 7, with any stream octet and A and B 0"; there is no other kind
+-- "The stream octet is any value in 2 and 3, 255 in 4, else 0. Unused A and B are 0"; "kind 7, with any stream octet and A and B 0"; there is no other
+-- kind
 abbrev pub fields_good : ℕ → ℕ → ℕ → ℕ → Bool
 fields_good kind stream a b =
-    cond (eqb kind open_kind) true
+    cond (eqb kind open_kind) (eqb stream 0)
     (cond (eqb kind reserve_kind) (eqb b 0)
     (cond (eqb kind arrive_kind) true
-    (cond (eqb kind best_effort_kind) (caller_good stream)
+    (cond (eqb kind best_effort_kind) (eqb stream best_effort_octet)
     (cond (eqb kind tick_kind) (all_zero stream a b)
     (cond (eqb kind transmit_kind) (all_zero stream a b)
     (cond (eqb kind withdraw_kind) (both_zero a b) false))))))

@@ -74,6 +74,10 @@ transmit_kind = 6
 abbrev pub withdraw_kind : ℕ
 withdraw_kind = 7
 
+-- the stream octet of best effort
+abbrev pub best_effort_octet : ℕ
+best_effort_octet = 255
+
 -- "Records are chained by next index; zero ends the chain": at most n records of the chain that goes on with record i
 unfoldable pub chain_within : List ℕ → ℕ → ℕ → List ℕ
 chain_within f zero i = []

@@ -3,7 +3,7 @@ pub mod field;
 
 ghost use Rattle.std.specs.Prelude.{◌≡◌, ◌<◌, ◌≤◌, length};
 ghost use Rattle.capture_file.specs.File.{HasRecord, record_octets, port_count, most_events};
-ghost use Rattle.capture_file.specs.Checks.{refused_at, length_good, header_good, first_good, next_good, all_zero, caller_good, fields_good, record_good, record_refusal, chain_refusal, port_refusal, ports_refusal, file_refusal};
+ghost use Rattle.capture_file.specs.Checks.{refused_at, length_good, header_good, first_good, next_good, all_zero, fields_good, record_good, record_refusal, chain_refusal, port_refusal, ports_refusal, file_refusal};
 
 // A refusal of a file: its number, or 0 where nothing is refused, and the index of the record.
 #[derive(Drop)]
@@ -38,6 +38,9 @@ const BAD_HEADER: u8 = 22;
 const BAD_INDEX: u8 = 23;
 
 const BAD_RECORD: u8 = 24;
+
+// The stream octet of best effort.
+const BEST_EFFORT_STREAM: u8 = 255;
 
 // The most octets of a file.
 pub const MOST_OCTETS: usize = 65536;
@@ -100,22 +103,12 @@ fn next_good(file: &[u8], index: u16) -> bool
     (next as usize) < field::count(file)
 }
 
-// Whether the stream octet is that of a caller of best effort.
-fn caller_good(stream: u8) -> bool
-    ensures { result ≡ caller_good stream }
-{
-    if stream as u16 == queue::BEST_EFFORT_STREAM {
-        return true;
-    }
-    stream as u16 == queue::FIRMWARE_STREAM
-}
-
 // Whether stream octet and both numbers are as the kind wants them, and there is such a kind.
 fn fields_good(kind: u8, stream: u8, a: u32, b: u32) -> bool
     ensures { result ≡ fields_good kind stream a b }
 {
     if kind == OPEN {
-        return true;
+        return stream == 0;
     }
     if kind == RESERVE {
         return b == 0;
@@ -124,7 +117,7 @@ fn fields_good(kind: u8, stream: u8, a: u32, b: u32) -> bool
         return true;
     }
     if kind == BEST_EFFORT {
-        return caller_good(stream);
+        return stream == BEST_EFFORT_STREAM;
     }
     if kind == TICK {
         return all_zero(stream, a, b);

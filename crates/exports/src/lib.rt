@@ -13,20 +13,19 @@ ghost use Rattle.registers.specs.StreamCounts.{port_counts};
 ghost use Rattle.registers.specs.PortLookup.{port_lookup};
 ghost use Rattle.exports.specs.Handed.{handed};
 
-// Open(L, K, F).
+// Open(L, K).
 #[unsafe(no_mangle)]
 pub extern "C" fn bunnysolder_open(
     port: &mut [u8],
     memory: &[u8],
     link: u32,
     delay: u32,
-    firmware: u32,
     first: &mut u32,
     second: &mut u32,
 ) -> u8
-    ensures { outcome (handed result first.new second.new) port.new memory.now ≡ port_call (opening (terms link delay firmware)) port.old memory.now }
+    ensures { outcome (handed result first.new second.new) port.new memory.now ≡ port_call (opening (terms link delay)) port.old memory.now }
 {
-    let reply = registers::open_port(port, memory, link, delay, firmware);
+    let reply = registers::open_port(port, memory, link, delay);
     *first = reply.first;
     *second = reply.second;
     reply.refusal
@@ -118,20 +117,19 @@ pub extern "C" fn bunnysolder_transmit(
     reply.refusal
 }
 
-// Best effort(caller, a, tag).
+// Best effort(a, tag).
 #[unsafe(no_mangle)]
 pub extern "C" fn bunnysolder_best_effort(
     port: &mut [u8],
     memory: &mut [u8],
-    caller: u8,
     charge: u32,
     tag: u32,
     first: &mut u32,
     second: &mut u32,
 ) -> u8
-    ensures { outcome (handed result first.new second.new) port.new memory.new ≡ port_call (joining_best_effort caller charge tag) port.old memory.old }
+    ensures { outcome (handed result first.new second.new) port.new memory.new ≡ port_call (joining_best_effort charge tag) port.old memory.old }
 {
-    let reply = registers::best_effort(port, memory, caller, charge, tag);
+    let reply = registers::best_effort(port, memory, charge, tag);
     *first = reply.first;
     *second = reply.second;
     reply.refusal
@@ -156,20 +154,19 @@ pub extern "C" fn bunnysolder_bind(
     reply.refusal
 }
 
-// Frame(caller, octets, tag).
+// Frame(octets, tag).
 #[unsafe(no_mangle)]
 pub extern "C" fn bunnysolder_frame(
     port: &mut [u8],
     memory: &mut [u8],
-    caller: u8,
     octets: &[u8],
     tag: u32,
     first: &mut u32,
     second: &mut u32,
 ) -> u8
-    ensures { outcome (handed result first.new second.new) port.new memory.new ≡ port_call (framing caller octets.now tag) port.old memory.old }
+    ensures { outcome (handed result first.new second.new) port.new memory.new ≡ port_call (framing octets.now tag) port.old memory.old }
 {
-    let reply = registers::frame(port, memory, caller, octets, tag);
+    let reply = registers::frame(port, memory, octets, tag);
     *first = reply.first;
     *second = reply.second;
     reply.refusal

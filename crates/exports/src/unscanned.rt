@@ -14,13 +14,12 @@ pub extern "C" fn bunnysolder_open_unscanned(
     memory: &[u8],
     link: u32,
     delay: u32,
-    firmware: u32,
     first: &mut u32,
     second: &mut u32,
 ) -> u8
-    ensures { outcome (handed result first.new second.new) port.new memory.now ≡ quick_port_call (opening (terms link delay firmware)) port.old memory.now }
+    ensures { outcome (handed result first.new second.new) port.new memory.now ≡ quick_port_call (opening (terms link delay)) port.old memory.now }
 {
-    let reply = registers::quick::open_port(port, memory, link, delay, firmware);
+    let reply = registers::quick::open_port(port, memory, link, delay);
     *first = reply.first;
     *second = reply.second;
     reply.refusal
@@ -117,15 +116,14 @@ pub extern "C" fn bunnysolder_transmit_unscanned(
 pub extern "C" fn bunnysolder_best_effort_unscanned(
     port: &mut [u8],
     memory: &mut [u8],
-    caller: u8,
     charge: u32,
     tag: u32,
     first: &mut u32,
     second: &mut u32,
 ) -> u8
-    ensures { outcome (handed result first.new second.new) port.new memory.new ≡ quick_port_call (joining_best_effort caller charge tag) port.old memory.old }
+    ensures { outcome (handed result first.new second.new) port.new memory.new ≡ quick_port_call (joining_best_effort charge tag) port.old memory.old }
 {
-    let reply = registers::quick::best_effort(port, memory, caller, charge, tag);
+    let reply = registers::quick::best_effort(port, memory, charge, tag);
     *first = reply.first;
     *second = reply.second;
     reply.refusal
@@ -150,20 +148,19 @@ pub extern "C" fn bunnysolder_bind_unscanned(
     reply.refusal
 }
 
-// Frame(caller, octets, tag); nothing is scanned.
+// Frame(octets, tag); nothing is scanned.
 #[unsafe(no_mangle)]
 pub extern "C" fn bunnysolder_frame_unscanned(
     port: &mut [u8],
     memory: &mut [u8],
-    caller: u8,
     octets: &[u8],
     tag: u32,
     first: &mut u32,
     second: &mut u32,
 ) -> u8
-    ensures { outcome (handed result first.new second.new) port.new memory.new ≡ quick_port_call (framing caller octets.now tag) port.old memory.old }
+    ensures { outcome (handed result first.new second.new) port.new memory.new ≡ quick_port_call (framing octets.now tag) port.old memory.old }
 {
-    let reply = registers::quick::frame(port, memory, caller, octets, tag);
+    let reply = registers::quick::frame(port, memory, octets, tag);
     *first = reply.first;
     *second = reply.second;
     reply.refusal

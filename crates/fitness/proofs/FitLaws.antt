@@ -6,19 +6,19 @@ use mathlib.Core.List.{List}
 use native.Mathlib.Omega.{arith}
 use lib.ListN.{length}
 use lib.Dec.{leb, ltb}
-use borrow.Author.Tests.{leb-true, ltb-true, ltb-false, le-leb, lt-ltb, le-ltb}
+use borrow.Author.Tests.{leb-true, ltb-true, ltb-false, eqb-true, le-leb, lt-ltb, le-ltb, eq-eqb}
 use Rattle.lists.specs.Turns.{all_to, all_of}
 use Rattle.lists.proofs.TurnLaws.{both, all_to_at, all_to_all}
-use Rattle.queue.specs.Waiting.{waiting, waits_of}
+use Rattle.queue.specs.Waiting.{waiting, charges_of}
 use Rattle.record.specs.Layout.{stream_count, record_length, memory_length}
 use Rattle.record.specs.Queues.{queues_at, last_place_at, best_effort_at, HasMemory}
 use Rattle.record.specs.Head.{open_at, prior_at, delay_at, link_at, waits_at, queue_at}
 use Rattle.record.specs.Entry.{stream_at, drain_at}
-use Rattle.ranges.specs.Ranges.{share_of, link_fits}
+use Rattle.ranges.specs.Ranges.{share_of, link_fits, delay_fits}
 use Rattle.record.specs.Reservations.{permitted_sum}
-use Rattle.fitness.specs.Clauses.{prior_fits, queue_fits, queues_fit, stream_fits, streams_fit, binding_fits, unlike_earlier, bindings_fit, frame_fits, frames_fit, waits_fit, delays_fit, reservation_fits, plan_fits, open_fits}
+use Rattle.fitness.specs.Clauses.{prior_fits, queue_fits, queues_fit, stream_fits, streams_fit, binding_fits, unlike_earlier, bindings_fit, frame_fits, frames_fit, waits_fit, reservation_fits, plan_fits, open_fits}
 use Rattle.fitness.specs.Fit.{record_fits, lent_refusal}
-use Rattle.fitness.proofs.TestLaws.{if_asked, same_waits_lem, waits_same}
+use Rattle.fitness.proofs.TestLaws.{if_asked}
 
 -- the clauses, in their order
 pub record Fit (p m : List ℕ) : Type 0 where
@@ -28,7 +28,7 @@ pub record Fit (p m : List ℕ) : Type 0 where
   pub streams : (s : ℕ) → s < stream_count → stream_fits (last_place_at p) (stream_at p s) (drain_at p s) ≡ true
   pub bindings : (s : ℕ) → s < stream_count → binding_fits p s (unlike_earlier p s) ≡ true
   pub frames : (q : ℕ) → q < queues_at p + 1 → all_of (frame_fits (best_effort_at p) q) (waiting m q (queue_at p q)) ≡ true
-  pub waits : waits_at p ≡ waits_of (waiting m (best_effort_at p) (queue_at p (best_effort_at p)))
+  pub waits : waits_at p ≡ charges_of (waiting m (best_effort_at p) (queue_at p (best_effort_at p)))
   pub plan : open_fits p ≡ true
 
 -- a record that passes the test is fit
@@ -49,7 +49,7 @@ fit_record p m h =
       streams = λ s b. all_to_at (λ i. stream_fits (last_place_at p) (stream_at p i) (drain_at p i)) stream_count s b to-queues.1;
       bindings = λ s b. all_to_at (λ i. binding_fits p i (unlike_earlier p i)) stream_count s b to-streams.1;
       frames = λ q b. all_to_at (λ i. all_of (frame_fits (best_effort_at p) i) (waiting m i (queue_at p i))) (queues_at p + 1) q b to-bindings.1;
-      waits = same_waits_lem (waits_at p) (waits_of (waiting m (best_effort_at p) (queue_at p (best_effort_at p)))) to-frames.1;
+      waits = eqb-true (waits_at p) (charges_of (waiting m (best_effort_at p) (queue_at p (best_effort_at p)))) to-frames.1;
       plan = to-waits.1;
     }
 
@@ -66,23 +66,23 @@ record_fit p m f =
     (all_to_all _ stream_count f.streams))
     (all_to_all _ stream_count f.bindings))
     (all_to_all _ (queues_at p + 1) f.frames))
-    (waits_same (waits_at p) (waits_of (waiting m (best_effort_at p) (queue_at p (best_effort_at p)))) f.waits))
+    (eq-eqb (waits_at p) (charges_of (waiting m (best_effort_at p) (queue_at p (best_effort_at p)))) f.waits))
     f.plan
 
 -- the last clause on an open port, as facts
 pub record Plan (p : List ℕ) : Type 0 where
   pub link : link_fits (link_at p) ≡ true
-  pub delay : delays_fit (delay_at p) ≡ true
+  pub delay : delay_fits (delay_at p) ≡ true
   pub reservations : (s : ℕ) → s < stream_count → reservation_fits (stream_at p s) ≡ true
   pub sum : permitted_sum p ≤ share_of (link_at p)
 
 pub fit_plan : (p : List ℕ) → open_at p ≡ true → open_fits p ≡ true → Plan p
 fit_plan p opened h =
-    let ranges : Bool = link_fits (link_at p) && delays_fit (delay_at p) in
+    let ranges : Bool = link_fits (link_at p) && delay_fits (delay_at p) in
     let each : Bool = all_to (λ s. reservation_fits (stream_at p s)) stream_count in
     let to-each = both (ranges && each) (leb (permitted_sum p) (share_of (link_at p))) (rw opened at h) in
     let to-ranges = both ranges each to-each.0 in
-    let to-link = both (link_fits (link_at p)) (delays_fit (delay_at p)) to-ranges.0 in
+    let to-link = both (link_fits (link_at p)) (delay_fits (delay_at p)) to-ranges.0 in
     record {
       link = to-link.0;
       delay = to-link.1;

@@ -1,19 +1,18 @@
--- The tests of one queue, of one stream and of what waits as facts, and back. Assumes nothing.
+-- The tests of one queue and of one stream as bounds, and back. Assumes nothing.
 use Prim.Native.Nat.{ℕ, ◌+◌, ◌≤◌, ◌<◌}
-use mathlib.Core.Path.{◌≡◌, refl, ap, ap₂}
+use mathlib.Core.Path.{◌≡◌, refl, ap₂}
 use mathlib.Core.Bool.{Bool, true, false, ◌&&◌, cond}
 use native.Mathlib.Omega.{arith}
-use lib.Dec.{leb, ltb, eqb}
-use borrow.Author.Tests.{leb-true, ltb-true, eqb-true, le-leb, lt-ltb, eq-eqb}
+use lib.Dec.{leb, ltb}
+use borrow.Author.Tests.{leb-true, ltb-true, le-leb, lt-ltb}
 use Rattle.lists.proofs.TurnLaws.{both}
 use Rattle.stream.specs.declared.Stream.{Stream}
 use Rattle.stream.specs.State.{current_place, StreamFit}
 use Rattle.queue.specs.declared.Queue.{Queue}
-use Rattle.queue.specs.declared.Waits.{Waits}
 use Rattle.queue.specs.Ring.{place_count}
 use Rattle.ranges.specs.Ranges.{within}
 use Rattle.ranges.proofs.RangeLaws.{within_bounds}
-use Rattle.fitness.specs.Clauses.{queue_fits, stream_fits, same_waits}
+use Rattle.fitness.specs.Clauses.{queue_fits, stream_fits}
 
 -- what holds anyway holds where it is asked
 pub if_asked : (asked answer : Bool) → answer ≡ true → cond asked answer true ≡ true
@@ -50,15 +49,6 @@ fit_stream last s drain f d =
     (ap₂ ◌&&◌ (le-leb current_place s.place f.first_place) (le-leb s.place last f.last_place))
     (le-leb s.left s.permitted f.left_within))
     (le-leb drain (last + 1) d))
-
--- what waits in best effort is the same
-pub same_waits_lem : (w v : Waits) → same_waits w v ≡ true → w ≡ v
-same_waits_lem w v h =
-    let e = both (eqb w.octets v.octets) (eqb w.firmware v.firmware) h in
-    ap₂ (λ (octets firmware : ℕ). record { octets = octets; firmware = firmware }) (eqb-true w.octets v.octets e.0) (eqb-true w.firmware v.firmware e.1)
-
-pub waits_same : (w v : Waits) → w ≡ v → same_waits w v ≡ true
-waits_same w v h = ap₂ ◌&&◌ (eq-eqb w.octets v.octets (ap (λ (x : Waits). x.octets) h)) (eq-eqb w.firmware v.firmware (ap (λ (x : Waits). x.firmware) h))
 
 -- nothing is asked of a free one
 pub free_fits : (last : ℕ) (s : Stream) (drain : ℕ) → s.reserved ≡ false → stream_fits last s drain ≡ true

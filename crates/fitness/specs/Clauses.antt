@@ -1,21 +1,19 @@
 -- The clauses of refusal 19, in document 01's order, each as what a fit record has.
-use Rattle.std.specs.Prelude.{ℕ, ◌+◌, Bool, true, not, ◌&&◌, ◌||◌, cond, List, leb, ltb, eqb}
+use Rattle.std.specs.Prelude.{ℕ, ◌+◌, Bool, true, not, ◌&&◌, cond, List, leb, ltb, eqb}
 use Rattle.lists.specs.Turns.{all_to, all_of}
 use Rattle.stream.specs.declared.Stream.{Stream}
 use Rattle.stream.specs.State.{current_place}
 use Rattle.queue.specs.declared.Frame.{Frame}
 use Rattle.queue.specs.declared.Queue.{Queue}
-use Rattle.queue.specs.declared.Waits.{Waits}
-use Rattle.queue.specs.Place.{best_effort_stream, firmware_stream}
+use Rattle.queue.specs.Place.{best_effort_stream}
 use Rattle.queue.specs.Ring.{place_count}
-use Rattle.queue.specs.Waiting.{waiting, waits_of}
-use Rattle.record.specs.declared.Delay.{Delay}
+use Rattle.queue.specs.Waiting.{waiting, charges_of}
 use Rattle.record.specs.Layout.{stream_count}
 use Rattle.record.specs.Queues.{queues_at, last_place_at, best_effort_at}
 use Rattle.record.specs.Head.{open_at, prior_at, delay_at, link_at, waits_at, queue_at}
 use Rattle.record.specs.Entry.{stream_at, drain_at, bound_at, vid_at, address_at, same_pair}
 use Rattle.record.specs.Reservations.{permitted_sum}
-use Rattle.ranges.specs.Ranges.{within, charge_fits, share_of, link_fits, delay_fits, firmware_fits, permitted_fits, vid_fits}
+use Rattle.ranges.specs.Ranges.{within, charge_fits, share_of, link_fits, delay_fits, permitted_fits, vid_fits}
 
 -- "prior above 3": none of the queues for reserved traffic
 abbrev pub prior_fits : List ℕ → Bool
@@ -47,10 +45,9 @@ unlike_earlier p s = all_to (λ t. cond (bound_at p t) (not (same_pair (vid_at p
 abbrev pub bindings_fit : List ℕ → Bool
 bindings_fit p = all_to (λ s. binding_fits p s (unlike_earlier p s)) stream_count
 
--- "a waiting frame's stream above 63 (best effort: not 255", nor "253 for firmware") "or charge outside 84 to" 2,020, where `best` is the number of best
--- effort
+-- "a waiting frame's stream above 63 (best effort: not 255) or charge outside 84 to" 2,020, where `best` is the number of best effort
 abbrev pub frame_stream_fits : ℕ → ℕ → ℕ → Bool
-frame_stream_fits best number stream = cond (eqb number best) (eqb stream best_effort_stream || eqb stream firmware_stream) (ltb stream stream_count)
+frame_stream_fits best number stream = cond (eqb number best) (eqb stream best_effort_stream) (ltb stream stream_count)
 
 abbrev pub frame_fits : ℕ → ℕ → Frame → Bool
 frame_fits best number f = frame_stream_fits best number f.stream && charge_fits f.charge
@@ -58,24 +55,18 @@ frame_fits best number f = frame_stream_fits best number f.stream && charge_fits
 abbrev pub frames_fit : List ℕ → List ℕ → Bool
 frames_fit p m = all_to (λ q. all_of (frame_fits (best_effort_at p) q) (waiting m q (queue_at p q))) (queues_at p + 1)
 
--- "W not the sum of the charges waiting in best effort", and 19 "also tests [..] the sum of firmware octets"
-abbrev pub same_waits : Waits → Waits → Bool
-same_waits w v = eqb w.octets v.octets && eqb w.firmware v.firmware
-
+-- "W not the sum of the charges waiting in best effort"
 abbrev pub waits_fit : List ℕ → List ℕ → Bool
-waits_fit p m = same_waits (waits_at p) (waits_of (waiting m (best_effort_at p) (queue_at p (best_effort_at p))))
+waits_fit p m = eqb (waits_at p) (charges_of (waiting m (best_effort_at p) (queue_at p (best_effort_at p))))
 
--- "on an open port only, L, K or a P outside its range or a P sum above the share", and it "also tests F (where it tests K)"
-abbrev pub delays_fit : Delay → Bool
-delays_fit d = delay_fits d.epochs && firmware_fits d.epochs d.firmware
-
+-- "on an open port only, L, K or a P outside its range or a P sum above the share"
 abbrev pub reservation_fits : Stream → Bool
 reservation_fits s = cond s.reserved (permitted_fits s.permitted) true
 
 abbrev pub plan_fits : List ℕ → Bool
 plan_fits p =
     link_fits (link_at p)
-    && delays_fit (delay_at p)
+    && delay_fits (delay_at p)
     && all_to (λ s. reservation_fits (stream_at p s)) stream_count
     && leb (permitted_sum p) (share_of (link_at p))
 

@@ -1,5 +1,5 @@
 // The clause of 19 on the waiting frames.
-ghost use Rattle.std.specs.Prelude.{◌≡◌, ◌||◌};
+ghost use Rattle.std.specs.Prelude.{◌≡◌};
 ghost use Rattle.lists.specs.Turns.{all_of};
 ghost use Rattle.queue.specs.Ring.{HasPart};
 ghost use Rattle.queue.specs.Waiting.{waiting};
@@ -9,25 +9,15 @@ ghost use Rattle.fitness.specs.Clauses.{frame_stream_fits, frame_fits, frames_fi
 
 use queue::{Frame, Queue};
 
-// Whether either holds.
-fn either(one: bool, other: bool) -> bool
-    ensures { result ≡ (one || other) }
-{
-    if one {
-        return true;
-    }
-    other
-}
+// The stream of a best-effort frame.
+pub const BEST_EFFORT_STREAM: u16 = 255;
 
 // Whether a frame of this stream may wait in the queue of this number, where `best` is that of best effort.
 fn frame_stream_fits(best: u8, number: u8, stream: u16) -> bool
     ensures { result ≡ frame_stream_fits best number stream }
 {
     if number == best {
-        return either(
-            stream == queue::BEST_EFFORT_STREAM,
-            stream == queue::FIRMWARE_STREAM,
-        );
+        return stream == BEST_EFFORT_STREAM;
     }
     stream < record::STREAMS as u16
 }

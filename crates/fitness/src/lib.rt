@@ -1,18 +1,15 @@
 // Whether the host's record and memory will do: refusals 18 and 19, for a record and a memory of any length and content. The definitions
 // are in specs/, clause by clause in document 01's order.
 mod bindings;
-mod frames;
+pub mod frames;
 mod queues;
 pub mod streams;
 
 ghost use Rattle.std.specs.Prelude.{◌≡◌, ◌&&◌};
 ghost use Rattle.record.specs.Layout.{Whole};
 ghost use Rattle.record.specs.Queues.{HasMemory};
-ghost use Rattle.fitness.specs.Clauses.{prior_fits, same_waits, waits_fit, delays_fit, plan_fits, open_fits};
+ghost use Rattle.fitness.specs.Clauses.{prior_fits, waits_fit, plan_fits, open_fits};
 ghost use Rattle.fitness.specs.Fit.{record_fits, lent_refusal};
-
-use queue::Waits;
-use record::Delay;
 
 // The refusals of a memory that is too short and of a record that is unfit.
 pub const SHORT_MEMORY: u8 = 18;
@@ -37,38 +34,17 @@ fn prior_fits(port: &[u8]) -> bool
     record::head::prior(port) < record::head::queues(port)
 }
 
-// Whether what waits in best effort is the same, of all frames and of firmware's.
-fn same_waits(one: Waits, other: Waits) -> bool
-    ensures { result ≡ same_waits one other }
-{
-    both(one.octets == other.octets, one.firmware == other.firmware)
-}
-
-// Whether W is the sum of the charges waiting in best effort, and firmware's part that of firmware's frames.
+// Whether W is the sum of the charges waiting in best effort.
 fn waits_fit(port: &[u8], memory: &[u8]) -> bool
     requires { Whole port.now × HasMemory port.now memory.now }
     ensures { result ≡ waits_fit port.now memory.now }
 {
     let best = record::head::queues(port);
     let queue = record::head::queue_at(port, best);
-    same_waits(
-        record::head::waits(port),
-        queue::octets_waiting(memory, best, queue),
-    )
+    record::head::waits(port) == queue::charges(memory, best, queue)
 }
 
-// Whether K and F are in their ranges.
-fn delays_fit(delay: Delay) -> bool
-    ensures { result ≡ delays_fit delay }
-{
-    let epochs = delay.epochs as u32;
-    both(
-        ranges::delay_fits(epochs),
-        ranges::firmware_fits(epochs, delay.firmware as u32),
-    )
-}
-
-// Whether L, K, F, every P and their sum are in their ranges.
+// Whether L, K, every P and their sum are in their ranges.
 fn plan_fits(port: &[u8]) -> bool
     requires { Whole port.now }
     ensures { result ≡ plan_fits port.now }
@@ -76,7 +52,7 @@ fn plan_fits(port: &[u8]) -> bool
     if !ranges::link_fits(record::head::link(port) as u32) {
         return false;
     }
-    if !delays_fit(record::head::delay(port)) {
+    if !ranges::delay_fits(record::head::delay(port) as u32) {
         return false;
     }
     if !streams::reservations_fit(port) {

@@ -87,17 +87,17 @@ module _ (r : ℕ) (p : List ℕ) (zero : r ≡ 0) where
     frame_header = header_whole f frame_length
 
 -- code that looks the frame up and makes the call that it becomes makes the frame's step
-module _ (p m octets : List ℕ) (caller tag charge : ℕ) (found : Lookup) (left : Outcome) where
+module _ (p m octets : List ℕ) (tag charge : ℕ) (found : Lookup) (left : Outcome) where
   abbrev Looked : Type 0
   Looked = (found ≡ frame_lookup p octets) × (charge ≡ charge_of octets)
 
-  became : Looked → left ≡ becomes p m caller charge tag found → left ≡ frame_step p m caller octets tag
-  became e does = does ∙ ap₂ (λ (a : ℕ) (l : Lookup). becomes p m caller a tag l) e.1 e.0
+  became : Looked → left ≡ becomes p m charge tag found → left ≡ frame_step p m octets tag
+  became e does = does ∙ ap₂ (λ (a : ℕ) (l : Lookup). becomes p m a tag l) e.1 e.0
 
   pub became_arrival : (s : ℕ) → left ≡ gated (arrive_refusal p s charge) p m (arrive_step p m s charge tag) → found ≡ Bound s
-      → found ≡ frame_lookup p octets → charge ≡ charge_of octets → left ≡ frame_step p m caller octets tag
-  became_arrival s does is found-so charge-so = became (found-so, charge-so) (does ∙ ap (becomes p m caller charge tag) (sym is))
+      → found ≡ frame_lookup p octets → charge ≡ charge_of octets → left ≡ frame_step p m octets tag
+  became_arrival s does is found-so charge-so = became (found-so, charge-so) (does ∙ ap (becomes p m charge tag) (sym is))
 
-  pub became_best_effort : left ≡ gated (best_effort_refusal p caller charge) p m (best_effort_step p m caller charge tag) → found ≡ Unbound
-      → found ≡ frame_lookup p octets → charge ≡ charge_of octets → left ≡ frame_step p m caller octets tag
-  became_best_effort does is found-so charge-so = became (found-so, charge-so) (does ∙ ap (becomes p m caller charge tag) (sym is))
+  pub became_best_effort : left ≡ gated (best_effort_refusal p charge) p m (best_effort_step p m charge tag) → found ≡ Unbound
+      → found ≡ frame_lookup p octets → charge ≡ charge_of octets → left ≡ frame_step p m octets tag
+  became_best_effort does is found-so charge-so = became (found-so, charge-so) (does ∙ ap (becomes p m charge tag) (sym is))

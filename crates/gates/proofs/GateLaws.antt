@@ -1,22 +1,21 @@
 -- What a gate that refuses nothing tells. Assumes nothing.
 use Prim.Native.Nat.{ℕ, ◌+◌, ◌≤◌, ◌<◌}
-use mathlib.Core.Path.{◌≡◌, refl, sym, ap, ◌∙◌}
-use mathlib.Core.Bool.{Bool, true, false, not, ◌&&◌, cond}
+use mathlib.Core.Path.{◌≡◌, refl, sym, ◌∙◌}
+use mathlib.Core.Bool.{Bool, true, false, not, cond}
 use mathlib.Core.List.{List}
 use native.Mathlib.Omega.{arith}
 use lib.Dec.{leb, ltb}
-use borrow.Author.Tests.{leb-true, leb-false, ltb-false, not-false}
+use borrow.Author.Tests.{leb-false, ltb-false, not-false}
 use Rattle.queue.specs.Ring.{place_count}
 use Rattle.record.specs.Layout.{stream_count}
 use Rattle.record.specs.Queues.{best_effort_at}
 use Rattle.record.specs.Head.{open_at, link_at, waits_at, queue_at}
 use Rattle.record.specs.Entry.{stream_at, drains_at}
-use Rattle.ranges.specs.Ranges.{least_charge, greatest_charge, greatest_share, greatest_delay, charge_fits, share_of, link_of, link_fits, delay_fits, firmware_fits, permitted_fits}
+use Rattle.ranges.specs.Ranges.{least_charge, greatest_charge, greatest_share, greatest_delay, charge_fits, share_of, link_of, link_fits, delay_fits, permitted_fits}
 use Rattle.ranges.proofs.RangeLaws.{within_bounds}
 use Rattle.record.specs.Reservations.{permitted_sum}
 use Rattle.steps.specs.Call.{Terms, terms}
-use Rattle.best_effort.specs.Caller.{is_firmware}
-use Rattle.gates.specs.Refusals.{open_refusal, reserve_refusal, withdraw_refusal, arrive_refusal, best_effort_limit, firmware_limit, limit_refusal, best_effort_refusal}
+use Rattle.gates.specs.Refusals.{open_refusal, reserve_refusal, withdraw_refusal, arrive_refusal, best_effort_limit, best_effort_refusal}
 
 -- a test that a gate is past does not hold, and the rest refuses nothing either
 pub past : (b : Bool) (n rest : ℕ) → 0 < n → cond b n rest ≡ 0 → (b ≡ false) × (rest ≡ 0)
@@ -28,23 +27,14 @@ pub record OpenAllowed (p : List ℕ) (t : Terms) : Type 0 where
   pub closed : open_at p ≡ false
   pub link_fits_lem : link_fits t.link ≡ true
   pub delay_fits_lem : delay_fits t.delay ≡ true
-  pub firmware_fits_lem : t.firmware ≤ t.delay
 
 pub open_allowed : (p : List ℕ) (t : Terms) → open_refusal p t ≡ 0 → OpenAllowed p t
 unfolding open_refusal
 open_allowed p t e =
-    let above : ℕ = cond (not (firmware_fits t.delay t.firmware)) 27 0 in
-    let outside : ℕ = cond (not (delay_fits t.delay)) 4 above in
-    let a = past (open_at p) 2 (cond (not (link_fits t.link)) 3 outside) (omega arith) e in
-    let b = past (not (link_fits t.link)) 3 outside (omega arith) a.1 in
-    let c = past (not (delay_fits t.delay)) 4 above (omega arith) b.1 in
-    let d = past (not (firmware_fits t.delay t.firmware)) 27 0 (omega arith) c.1 in
-    record {
-      closed = a.0;
-      link_fits_lem = not-false (link_fits t.link) b.0;
-      delay_fits_lem = not-false (delay_fits t.delay) c.0;
-      firmware_fits_lem = leb-true t.firmware t.delay (not-false (firmware_fits t.delay t.firmware) d.0);
-    }
+    let a = past (open_at p) 2 (cond (not (link_fits t.link)) 3 (cond (not (delay_fits t.delay)) 4 0)) (omega arith) e in
+    let b = past (not (link_fits t.link)) 3 (cond (not (delay_fits t.delay)) 4 0) (omega arith) a.1 in
+    let c = past (not (delay_fits t.delay)) 4 0 (omega arith) b.1 in
+    record { closed = a.0; link_fits_lem = not-false (link_fits t.link) b.0; delay_fits_lem = not-false (delay_fits t.delay) c.0 }
 
 pub record ReserveAllowed (p : List ℕ) (s permitted : ℕ) : Type 0 where
   pub opened : open_at p ≡ true
@@ -124,45 +114,37 @@ arrive_allowed p s charge e =
       charge_fits_lem = not-false (charge_fits charge) f.0;
     }
 
-pub record BestEffortAllowed (p : List ℕ) (caller charge : ℕ) : Type 0 where
+pub record BestEffortAllowed (p : List ℕ) (charge : ℕ) : Type 0 where
   pub opened : open_at p ≡ true
   pub charge_fits_lem : charge_fits charge ≡ true
   pub free : (queue_at p (best_effort_at p)).count < place_count
-  pub limit : (waits_at p).octets + charge ≤ best_effort_limit p
-  pub own_limit : is_firmware caller ≡ true → (waits_at p).firmware + charge ≤ firmware_limit p
+  pub limit : waits_at p + charge ≤ best_effort_limit p
 
-pub best_effort_allowed : (p : List ℕ) (caller charge : ℕ) → best_effort_refusal p caller charge ≡ 0 → BestEffortAllowed p caller charge
+pub best_effort_allowed : (p : List ℕ) (charge : ℕ) → best_effort_refusal p charge ≡ 0 → BestEffortAllowed p charge
 unfolding best_effort_refusal
-best_effort_allowed p caller charge e =
-    let exceeds : Bool = ltb (firmware_limit p) ((waits_at p).firmware + charge) in
-    let own : ℕ = cond (is_firmware caller && exceeds) 28 0 in
-    let above : ℕ = limit_refusal p caller charge in
+best_effort_allowed p charge e =
+    let above : ℕ = cond (ltb (best_effort_limit p) (waits_at p + charge)) 16 0 in
     let full : ℕ = cond (leb place_count (queue_at p (best_effort_at p)).count) 15 above in
     let a = past (not (open_at p)) 1 (cond (not (charge_fits charge)) 13 full) (omega arith) e in
     let b = past (not (charge_fits charge)) 13 full (omega arith) a.1 in
     let c = past (leb place_count (queue_at p (best_effort_at p)).count) 15 above (omega arith) b.1 in
-    let d = past (ltb (best_effort_limit p) ((waits_at p).octets + charge)) 16 own (omega arith) c.1 in
-    let f = past (is_firmware caller && exceeds) 28 0 (omega arith) d.1 in
+    let d = past (ltb (best_effort_limit p) (waits_at p + charge)) 16 0 (omega arith) c.1 in
     record {
       opened = not-false (open_at p) a.0;
       charge_fits_lem = not-false (charge_fits charge) b.0;
       free = leb-false place_count (queue_at p (best_effort_at p)).count c.0;
-      limit = ltb-false (best_effort_limit p) ((waits_at p).octets + charge) d.0;
-      own_limit = λ firmware. ltb-false (firmware_limit p) ((waits_at p).firmware + charge) (sym (ap (λ (b : Bool). b && exceeds) firmware) ∙ f.0);
+      limit = ltb-false (best_effort_limit p) (waits_at p + charge) d.0;
     }
 
 -- what code that asks a gate needs where its answer r is 0: numbers that fit their types, and a stream of the record
 module _ (r : ℕ) (p : List ℕ) (zero : r ≡ 0) where
-  module _ (link delay firmware : ℕ) (e : r ≡ open_refusal p (terms link delay firmware)) where
+  module _ (link delay : ℕ) (e : r ≡ open_refusal p (terms link delay)) where
     pub open_link : link < 65536
     open_link =
-        omega (arith, (within_bounds (link_of least_charge) (link_of greatest_share) link (open_allowed p (terms link delay firmware) (sym e ∙ zero)).link_fits).1)
+        omega (arith, (within_bounds (link_of least_charge) (link_of greatest_share) link (open_allowed p (terms link delay) (sym e ∙ zero)).link_fits).1)
 
     pub open_delay : delay < 256
-    open_delay = omega (arith, (within_bounds 1 greatest_delay delay (open_allowed p (terms link delay firmware) (sym e ∙ zero)).delay_fits_lem).1)
-
-    pub open_firmware : firmware < 256
-    open_firmware = omega (arith, (open_allowed p (terms link delay firmware) (sym e ∙ zero)).firmware_fits_lem, open_delay)
+    open_delay = omega (arith, (within_bounds 1 greatest_delay delay (open_allowed p (terms link delay) (sym e ∙ zero)).delay_fits_lem).1)
 
   pub reserve_stream : (s permitted : ℕ) → r ≡ reserve_refusal p s permitted → s < stream_count
   reserve_stream s permitted e = (reserve_allowed p s permitted (sym e ∙ zero)).stream
@@ -177,9 +159,9 @@ module _ (r : ℕ) (p : List ℕ) (zero : r ≡ 0) where
     pub arrive_charge : charge < 65536
     arrive_charge = omega (arith, (within_bounds least_charge greatest_charge charge (arrive_allowed p s charge (sym e ∙ zero)).charge_fits_lem).1)
 
-  module _ (caller charge : ℕ) (e : r ≡ best_effort_refusal p caller charge) where
+  module _ (charge : ℕ) (e : r ≡ best_effort_refusal p charge) where
     pub best_effort_charge : charge < 65536
-    best_effort_charge = omega (arith, (within_bounds least_charge greatest_charge charge (best_effort_allowed p caller charge (sym e ∙ zero)).charge_fits_lem).1)
+    best_effort_charge = omega (arith, (within_bounds least_charge greatest_charge charge (best_effort_allowed p charge (sym e ∙ zero)).charge_fits_lem).1)
 
     pub best_effort_free : (queue_at p (best_effort_at p)).count < place_count
-    best_effort_free = (best_effort_allowed p caller charge (sym e ∙ zero)).free
+    best_effort_free = (best_effort_allowed p charge (sym e ∙ zero)).free

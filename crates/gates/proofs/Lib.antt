@@ -1,10 +1,8 @@
 -- The laws of the gates, cited by the crates above.
 pub mod GateLaws
-pub mod LimitLaws
 pub mod FrameGateLaws
 pub mod TestLaws
 pub mod NumberLaws
 pub mod GateNeeds
 pub mod TableLaws
 pub mod TableCases
-pub mod LimitCases

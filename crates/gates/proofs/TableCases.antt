@@ -47,11 +47,11 @@ abbrev second : Call → ℕ
 second c = (step_of c port []).reply.second
 
 -- Open is refused as open already, and its step replies the share
-open_refuses : refuses (opening (terms (link_of 600) 1 1)) ≡ 2
+open_refuses : refuses (opening (terms (link_of 600) 1)) ≡ 2
 unfolding all_to sum_to list_to iterate two_of four_of attempt arrive_of tick_of frame_at with_frame joined_memory front_of waiting open_at with_open prior_at with_prior delay_at with_delay link_at with_link waits_at with_waits queue_at queues_at with_queue stream_at with_stream with_place drain_at with_drain drains_at bound_at vid_at address_at with_binding dropped role_at opened_record arrive_step drained_at ticked_record tick_step transmit_step best_effort_step open_refusal reserve_refusal withdraw_refusal arrive_refusal closed_refusal best_effort_refusal bind_refusal frame_refusal compared_back compared_at lookup_from lookup frame_lookup octets_equal charge_of length_fits tagged_frame vid_of
 open_refuses = refl
 
-open_replies : first (opening (terms (link_of 600) 1 1)) ≡ 600
+open_replies : first (opening (terms (link_of 600) 1)) ≡ 600
 unfolding all_to sum_to list_to iterate two_of four_of attempt arrive_of tick_of frame_at with_frame joined_memory front_of waiting open_at with_open prior_at with_prior delay_at with_delay link_at with_link waits_at with_waits queue_at queues_at with_queue stream_at with_stream with_place drain_at with_drain drains_at bound_at vid_at address_at with_binding dropped role_at opened_record arrive_step drained_at ticked_record tick_step transmit_step best_effort_step open_refusal reserve_refusal withdraw_refusal arrive_refusal closed_refusal best_effort_refusal bind_refusal frame_refusal compared_back compared_at lookup_from lookup frame_lookup octets_equal charge_of length_fits tagged_frame vid_of
 open_replies = refl
 
@@ -101,11 +101,11 @@ unfolding all_to sum_to list_to iterate two_of four_of attempt arrive_of tick_of
 transmit_replies = refl
 
 -- Best effort of too small a charge, and W after one that joins
-best_effort_refuses : refuses (joining_best_effort 255 83 7) ≡ 13
+best_effort_refuses : refuses (joining_best_effort 83 7) ≡ 13
 unfolding all_to sum_to list_to iterate two_of four_of attempt arrive_of tick_of frame_at with_frame joined_memory front_of waiting open_at with_open prior_at with_prior delay_at with_delay link_at with_link waits_at with_waits queue_at queues_at with_queue stream_at with_stream with_place drain_at with_drain drains_at bound_at vid_at address_at with_binding dropped role_at opened_record arrive_step drained_at ticked_record tick_step transmit_step best_effort_step open_refusal reserve_refusal withdraw_refusal arrive_refusal closed_refusal best_effort_refusal bind_refusal frame_refusal compared_back compared_at lookup_from lookup frame_lookup octets_equal charge_of length_fits tagged_frame vid_of
 best_effort_refuses = refl
 
-best_effort_replies : first (joining_best_effort 255 300 7) ≡ 300
+best_effort_replies : first (joining_best_effort 300 7) ≡ 300
 unfolding all_to sum_to list_to iterate two_of four_of attempt arrive_of tick_of frame_at with_frame joined_memory front_of waiting open_at with_open prior_at with_prior delay_at with_delay link_at with_link waits_at with_waits queue_at queues_at with_queue stream_at with_stream with_place drain_at with_drain drains_at bound_at vid_at address_at with_binding dropped role_at opened_record arrive_step drained_at ticked_record tick_step transmit_step best_effort_step open_refusal reserve_refusal withdraw_refusal arrive_refusal closed_refusal best_effort_refusal bind_refusal frame_refusal compared_back compared_at lookup_from lookup frame_lookup octets_equal charge_of length_fits tagged_frame vid_of
 best_effort_replies = refl
 
@@ -119,11 +119,11 @@ unfolding all_to sum_to list_to iterate two_of four_of attempt arrive_of tick_of
 bind_replies = refl
 
 -- Frame of 59 octets, and one of 60, which goes to best effort
-frame_refuses : refuses (framing 255 (replicate {A = ℕ} 59 0) 7) ≡ 17
+frame_refuses : refuses (framing (replicate {A = ℕ} 59 0) 7) ≡ 17
 unfolding all_to sum_to list_to iterate two_of four_of attempt arrive_of tick_of frame_at with_frame joined_memory front_of waiting open_at with_open prior_at with_prior delay_at with_delay link_at with_link waits_at with_waits queue_at queues_at with_queue stream_at with_stream with_place drain_at with_drain drains_at bound_at vid_at address_at with_binding dropped role_at opened_record arrive_step drained_at ticked_record tick_step transmit_step best_effort_step open_refusal reserve_refusal withdraw_refusal arrive_refusal closed_refusal best_effort_refusal bind_refusal frame_refusal compared_back compared_at lookup_from lookup frame_lookup octets_equal charge_of length_fits tagged_frame vid_of
 frame_refuses = refl
 
-frame_replies : first (framing 255 (replicate {A = ℕ} 60 0) 7) ≡ 84
+frame_replies : first (framing (replicate {A = ℕ} 60 0) 7) ≡ 84
 unfolding all_to sum_to list_to iterate two_of four_of attempt arrive_of tick_of frame_at with_frame joined_memory front_of waiting open_at with_open prior_at with_prior delay_at with_delay link_at with_link waits_at with_waits queue_at queues_at with_queue stream_at with_stream with_place drain_at with_drain drains_at bound_at vid_at address_at with_binding dropped role_at opened_record arrive_step drained_at ticked_record tick_step transmit_step best_effort_step open_refusal reserve_refusal withdraw_refusal arrive_refusal closed_refusal best_effort_refusal bind_refusal frame_refusal compared_back compared_at lookup_from lookup frame_lookup octets_equal charge_of length_fits tagged_frame vid_of
 frame_replies = refl
 

@@ -39,13 +39,11 @@ module _ (p m : List ℕ) where
   pub transmit_row : row transmitting ≡ performed closed_refusal transmit_step p m
   transmit_row = refl
 
-  pub best_effort_row : (caller charge tag : ℕ)
-      → row (joining_best_effort caller charge tag) ≡ performed (λ p. best_effort_refusal p caller charge) (λ p m. best_effort_step p m caller charge tag) p m
-  best_effort_row caller charge tag = refl
+  pub best_effort_row : (charge tag : ℕ) → row (joining_best_effort charge tag) ≡ performed (λ p. best_effort_refusal p charge) (λ p m. best_effort_step p m charge tag) p m
+  best_effort_row charge tag = refl
 
   pub bind_row : (s : ℕ) (address : List ℕ) (vid : ℕ) → row (binding s address vid) ≡ performed (λ p. bind_refusal p s address vid) (λ p m. bind_step p m s address vid) p m
   bind_row s address vid = refl
 
-  pub frame_row : (caller : ℕ) (octets : List ℕ) (tag : ℕ)
-      → row (framing caller octets tag) ≡ performed (λ p. frame_refusal p octets) (λ p m. frame_step p m caller octets tag) p m
-  frame_row caller octets tag = refl
+  pub frame_row : (octets : List ℕ) (tag : ℕ) → row (framing octets tag) ≡ performed (λ p. frame_refusal p octets) (λ p m. frame_step p m octets tag) p m
+  frame_row octets tag = refl

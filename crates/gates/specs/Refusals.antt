@@ -1,23 +1,21 @@
 -- What each call refuses of a record and memory that are long enough, in document 01's order: "Checks run 18, 19, 1 (for Open: 2), 17, then upward by
 -- number, except that 12 follows 5"; and 25 is "checked right after 5". A gate is the number of the first refusal that applies, or 0.
-use Rattle.std.specs.Prelude.{ℕ, ◌+◌, ◌-◌, ◌*◌, not, ◌&&◌, cond, List, leb, ltb}
+use Rattle.std.specs.Prelude.{ℕ, ◌+◌, ◌-◌, ◌*◌, not, cond, List, leb, ltb}
 use Rattle.queue.specs.Ring.{place_count}
 use Rattle.record.specs.Layout.{stream_count}
 use Rattle.record.specs.Queues.{best_effort_at}
 use Rattle.record.specs.Head.{open_at, delay_at, link_at, waits_at, queue_at}
 use Rattle.record.specs.Entry.{stream_at, drains_at}
-use Rattle.ranges.specs.Ranges.{charge_fits, share_of, link_fits, delay_fits, firmware_fits, permitted_fits}
+use Rattle.ranges.specs.Ranges.{charge_fits, share_of, link_fits, delay_fits, permitted_fits}
 use Rattle.record.specs.Reservations.{permitted_sum}
 use Rattle.steps.specs.Call.{Terms}
-use Rattle.best_effort.specs.Caller.{is_firmware}
 
--- Open: "2 open already; 3 L outside its range; 4 K outside its range", and "27 an F above K, after 4"
+-- Open: "2 open already; 3 L outside its range; 4 K outside its range"
 unfoldable pub open_refusal : List ℕ → Terms → ℕ
 open_refusal p t =
     cond (open_at p) 2
     (cond (not (link_fits t.link)) 3
-    (cond (not (delay_fits t.delay)) 4
-    (cond (not (firmware_fits t.delay t.firmware)) 27 0)))
+    (cond (not (delay_fits t.delay)) 4 0))
 
 -- Reserve: "1 port closed; [..] 5 stream above 63; 6 reserved already; 7 P below 84; 8 sum of P above the share", and 25, "a draining stream"
 unfoldable pub reserve_refusal : List ℕ → ℕ → ℕ → ℕ
@@ -50,27 +48,14 @@ arrive_refusal p s charge =
 unfoldable pub closed_refusal : List ℕ → ℕ
 closed_refusal p = cond (not (open_at p)) 1 0
 
--- "L − R", what of an epoch's octets is not reserved
-abbrev pub unreserved_octets : List ℕ → ℕ
-unreserved_octets p = link_at p - permitted_sum p
-
--- the most octets that may wait in best effort, "K × (L − R)", and the most of firmware's among them, "F × (L − R)"
+-- the most octets that may wait in best effort: "K × (L − R)"
 abbrev pub best_effort_limit : List ℕ → ℕ
-best_effort_limit p = (delay_at p).epochs * unreserved_octets p
+best_effort_limit p = delay_at p * (link_at p - permitted_sum p)
 
-abbrev pub firmware_limit : List ℕ → ℕ
-firmware_limit p = (delay_at p).firmware * unreserved_octets p
-
--- "16 W + a above K × (L − R)", and "28 a firmware frame over its own limit, after 16": it "must fit both the old limit on W and its own: firmware octets
--- waiting plus a at most F × (L − R)"
-abbrev pub limit_refusal : List ℕ → ℕ → ℕ → ℕ
-limit_refusal p caller charge =
-    cond (ltb (best_effort_limit p) ((waits_at p).octets + charge)) 16
-    (cond (is_firmware caller && ltb (firmware_limit p) ((waits_at p).firmware + charge)) 28 0)
-
--- Best effort: "13 charge outside 84 to" 2,020; "15 256 best-effort frames waiting"; and the limits
-unfoldable pub best_effort_refusal : List ℕ → ℕ → ℕ → ℕ
-best_effort_refusal p caller charge =
+-- Best effort: "13 charge outside 84 to" 2,020; "15 256 best-effort frames waiting; 16 W + a above K × (L − R)"
+unfoldable pub best_effort_refusal : List ℕ → ℕ → ℕ
+best_effort_refusal p charge =
     cond (not (open_at p)) 1
     (cond (not (charge_fits charge)) 13
-    (cond (leb place_count (queue_at p (best_effort_at p)).count) 15 (limit_refusal p caller charge)))
+    (cond (leb place_count (queue_at p (best_effort_at p)).count) 15
+    (cond (ltb (best_effort_limit p) (waits_at p + charge)) 16 0)))

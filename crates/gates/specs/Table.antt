@@ -21,9 +21,9 @@ refusal_of (withdrawing s) p = withdraw_refusal p s
 refusal_of (arriving s charge tag) p = arrive_refusal p s charge
 refusal_of ticking p = closed_refusal p
 refusal_of transmitting p = closed_refusal p
-refusal_of (joining_best_effort caller charge tag) p = best_effort_refusal p caller charge
+refusal_of (joining_best_effort charge tag) p = best_effort_refusal p charge
 refusal_of (binding s address vid) p = bind_refusal p s address vid
-refusal_of (framing caller octets tag) p = frame_refusal p octets
+refusal_of (framing octets tag) p = frame_refusal p octets
 
 -- what is done where it is 0
 abbrev pub step_of : Call → List ℕ → List ℕ → Outcome
@@ -33,6 +33,6 @@ step_of (withdrawing s) p m = withdraw_step p m s
 step_of (arriving s charge tag) p m = arrive_step p m s charge tag
 step_of ticking p m = tick_step p m
 step_of transmitting p m = transmit_step p m
-step_of (joining_best_effort caller charge tag) p m = best_effort_step p m caller charge tag
+step_of (joining_best_effort charge tag) p m = best_effort_step p m charge tag
 step_of (binding s address vid) p m = bind_step p m s address vid
-step_of (framing caller octets tag) p m = frame_step p m caller octets tag
+step_of (framing octets tag) p m = frame_step p m octets tag

@@ -21,15 +21,15 @@ use binding::Lookup;
 use stream::Reply;
 
 // Open.
-pub fn open_port(port: &mut [u8], memory: &[u8], link: u32, delay: u32, firmware: u32) -> Reply
+pub fn open_port(port: &mut [u8], memory: &[u8], link: u32, delay: u32) -> Reply
     requires { Whole port.old }
-    ensures { outcome result port.new memory.now ≡ performed (λ p. open_refusal p (terms link delay firmware)) (λ p m. open_step p m (terms link delay firmware)) port.old memory.now }
+    ensures { outcome result port.new memory.now ≡ performed (λ p. open_refusal p (terms link delay)) (λ p m. open_step p m (terms link delay)) port.old memory.now }
 {
-    let refusal = refusals::open_port(port, link, delay, firmware);
+    let refusal = refusals::open_port(port, link, delay);
     if refusal != 0 {
         return steps::refused(refusal);
     }
-    opening::open_port(port, link as u16, delay as u8, firmware as u8)
+    opening::open_port(port, link as u16, delay as u8)
 }
 
 // Reserve.
@@ -93,15 +93,15 @@ pub fn transmit(port: &mut [u8], memory: &[u8]) -> Reply
 }
 
 // Best effort.
-pub fn best_effort(port: &mut [u8], memory: &mut [u8], caller: u8, charge: u32, tag: u32) -> Reply
+pub fn best_effort(port: &mut [u8], memory: &mut [u8], charge: u32, tag: u32) -> Reply
     requires { Whole port.old × HasMemory port.old memory.old }
-    ensures { outcome result port.new memory.new ≡ performed (λ p. best_effort_refusal p caller charge) (λ p m. best_effort_step p m caller charge tag) port.old memory.old }
+    ensures { outcome result port.new memory.new ≡ performed (λ p. best_effort_refusal p charge) (λ p m. best_effort_step p m charge tag) port.old memory.old }
 {
-    let refusal = refusals::best_effort(port, caller, charge);
+    let refusal = refusals::best_effort(port, charge);
     if refusal != 0 {
         return steps::refused(refusal);
     }
-    best_effort::join(port, memory, caller, charge as u16, tag)
+    best_effort::join(port, memory, charge as u16, tag)
 }
 
 // Bind; the address is the first six of the octets.
@@ -117,9 +117,9 @@ pub fn bind(port: &mut [u8], memory: &[u8], stream: u8, address: &[u8], vid: u32
 }
 
 // Frame.
-pub fn frame(port: &mut [u8], memory: &mut [u8], caller: u8, octets: &[u8], tag: u32) -> Reply
+pub fn frame(port: &mut [u8], memory: &mut [u8], octets: &[u8], tag: u32) -> Reply
     requires { Whole port.old × HasMemory port.old memory.old }
-    ensures { outcome result port.new memory.new ≡ performed (λ p. frame_refusal p octets.now) (λ p m. frame_step p m caller octets.now tag) port.old memory.old }
+    ensures { outcome result port.new memory.new ≡ performed (λ p. frame_refusal p octets.now) (λ p m. frame_step p m octets.now tag) port.old memory.old }
 {
     let refusal = refusals::frame(port, octets);
     if refusal != 0 {
@@ -129,6 +129,6 @@ pub fn frame(port: &mut [u8], memory: &mut [u8], caller: u8, octets: &[u8], tag:
     let found = binding::finding::of_frame(port, octets);
     match found {
         Lookup::Bound(stream) => arrive(port, memory, stream, charge, tag),
-        Lookup::Unbound => best_effort(port, memory, caller, charge, tag),
+        Lookup::Unbound => best_effort(port, memory, charge, tag),
     }
 }

@@ -1,5 +1,5 @@
 // What each call refuses of a record and memory that are long enough: the number of the first refusal that applies, or 0.
-ghost use Rattle.std.specs.Prelude.{◌≡◌, false, ◌+◌, ◌*◌, ◌≤◌, ◌<◌, length, leb, ltb};
+ghost use Rattle.std.specs.Prelude.{◌≡◌, false, ◌+◌, ◌≤◌, ◌<◌, length, leb, ltb};
 ghost use Rattle.queue.specs.Ring.{place_count};
 ghost use Rattle.record.specs.Layout.{Whole, address_length};
 ghost use Rattle.record.specs.Queues.{best_effort_at};
@@ -7,12 +7,11 @@ ghost use Rattle.record.specs.Head.{link_at, waits_at, queue_at};
 ghost use Rattle.ranges.specs.Ranges.{share_of};
 ghost use Rattle.record.specs.Reservations.{permitted_sum};
 ghost use Rattle.steps.specs.Call.{terms};
-ghost use Rattle.queue.specs.Waiting.{WaitsKept};
-ghost use Rattle.best_effort.specs.BestEffort.{best_effort_frame};
-ghost use Rattle.gates.specs.Refusals.{open_refusal, reserve_refusal, withdraw_refusal, arrive_refusal, closed_refusal, unreserved_octets, limit_refusal, best_effort_refusal};
+ghost use Rattle.best_effort.specs.BestEffort.{WaitsKept};
+ghost use Rattle.gates.specs.Refusals.{open_refusal, reserve_refusal, withdraw_refusal, arrive_refusal, closed_refusal, best_effort_limit, best_effort_refusal};
 ghost use Rattle.gates.specs.FrameRefusals.{bind_refusal, frame_refusal};
 
-// The numbers of document 01, and those of document 02 from 25 on.
+// The numbers of document 01, and 25 of document 02.
 const CLOSED: u8 = 1;
 
 const OPEN_ALREADY: u8 = 2;
@@ -47,14 +46,10 @@ const FRAME_LENGTH: u8 = 17;
 
 const DRAINING: u8 = 25;
 
-const FIRMWARE_RANGE: u8 = 27;
-
-const FIRMWARE_LIMIT_EXCEEDED: u8 = 28;
-
 // The refusal of Open.
-pub(crate) fn open_port(port: &[u8], link: u32, delay: u32, firmware: u32) -> u8
+pub(crate) fn open_port(port: &[u8], link: u32, delay: u32) -> u8
     requires { Whole port.now }
-    ensures { result ≡ open_refusal port.now (terms link delay firmware) }
+    ensures { result ≡ open_refusal port.now (terms link delay) }
 {
     if record::head::is_open(port) {
         return OPEN_ALREADY;
@@ -64,9 +59,6 @@ pub(crate) fn open_port(port: &[u8], link: u32, delay: u32, firmware: u32) -> u8
     }
     if !ranges::delay_fits(delay) {
         return DELAY_RANGE;
-    }
-    if !ranges::firmware_fits(delay, firmware) {
-        return FIRMWARE_RANGE;
     }
     0
 }
@@ -160,17 +152,17 @@ pub(crate) fn closed(port: &[u8]) -> u8
     0
 }
 
-// What of an epoch's octets is not reserved, L less R.
-fn unreserved_octets(port: &[u8]) -> u16
+// The most octets that may wait in best effort: K times what of L is not reserved.
+fn best_effort_limit(port: &[u8]) -> u32
     requires { Whole port.now }
-    ensures { result ≡ unreserved_octets port.now }
+    ensures { result ≡ best_effort_limit port.now }
 {
-    let link = record::head::link(port);
+    let link = record::head::link(port) as u32;
     let taken = fitness::streams::permitted_sum(port);
-    if (link as u32) < taken {
+    if link < taken {
         return 0;
     }
-    link - taken as u16
+    record::head::delay(port) as u32 * (link - taken)
 }
 
 // Whether as many frames wait in best effort as it has places.
@@ -181,39 +173,19 @@ fn is_full(port: &[u8]) -> bool
     queue::PLACES <= record::head::best_effort(port).count
 }
 
-// Whether the octets that wait, with this charge, are above a limit: so many epochs of what is not reserved. Where they are not, they are a number of 32
-// bits, since the limit is.
-fn exceeds(waiting: u32, charge: u32, epochs: u8, unreserved: u16) -> bool
-    ensures { (result ≡ ltb (epochs * unreserved) (waiting + charge)) × (result ≡ false → waiting + charge < 4294967296) }
+// Whether W with this charge is above the limit. Where it is not, it is a number of 32 bits, since the limit is.
+fn exceeds_limit(port: &[u8], charge: u32) -> bool
+    requires { Whole port.now }
+    ensures { (result ≡ ltb (best_effort_limit port.now) (waits_at port.now + charge)) × (result ≡ false → WaitsKept port.now charge) }
 {
-    let limit = epochs as u32 * unreserved as u32;
-    (limit as u64) < waiting as u64 + charge as u64
+    let sum = record::head::waits(port) as u64 + charge as u64;
+    (best_effort_limit(port) as u64) < sum
 }
 
-// The refusal of Best effort by its limits. Where they refuse nothing, what waits with the frame is kept in numbers of 32 bits, since the limits are.
-fn limits(port: &[u8], caller: u8, charge: u32) -> u8
+// The refusal of Best effort. Where it refuses nothing, W with the charge is a number of 32 bits, since the limit is.
+pub(crate) fn best_effort(port: &[u8], charge: u32) -> u8
     requires { Whole port.now }
-    ensures { (result ≡ limit_refusal port.now caller charge) × (result ≡ 0 → WaitsKept (waits_at port.now) (best_effort_frame caller charge 0)) }
-{
-    let free = unreserved_octets(port);
-    let delay = record::head::delay(port);
-    let waits = record::head::waits(port);
-    if exceeds(waits.octets, charge, delay.epochs, free) {
-        return LIMIT_EXCEEDED;
-    }
-    if !best_effort::is_firmware(caller) {
-        return 0;
-    }
-    if exceeds(waits.firmware, charge, delay.firmware, free) {
-        return FIRMWARE_LIMIT_EXCEEDED;
-    }
-    0
-}
-
-// The refusal of Best effort. Where it refuses nothing, what waits with the frame is kept in numbers of 32 bits.
-pub(crate) fn best_effort(port: &[u8], caller: u8, charge: u32) -> u8
-    requires { Whole port.now }
-    ensures { (result ≡ best_effort_refusal port.now caller charge) × (result ≡ 0 → WaitsKept (waits_at port.now) (best_effort_frame caller charge 0)) }
+    ensures { (result ≡ best_effort_refusal port.now charge) × (result ≡ 0 → WaitsKept port.now charge) }
 {
     if !record::head::is_open(port) {
         return CLOSED;
@@ -224,7 +196,10 @@ pub(crate) fn best_effort(port: &[u8], caller: u8, charge: u32) -> u8
     if is_full(port) {
         return BEST_EFFORT_FULL;
     }
-    limits(port, caller, charge)
+    if exceeds_limit(port, charge) {
+        return LIMIT_EXCEEDED;
+    }
+    0
 }
 
 // The refusal of Bind; the address is the first six of the octets.

@@ -49,8 +49,8 @@ module _ {A : Type 0} (arrived : Reply → List A) (withdrew : ℕ → List A) w
   heard_alone last s x (to_reserve r permitted ∷ cs) (g ∷ gs) = heard_alone last s (cond g (keeping (reserve_of permitted)) x) cs gs
   heard_alone last s x (to_withdraw r ∷ cs) gs = withdrew (withdrawal_refusal s x) ++ heard_alone last s (own_withdrawn last s x) cs gs
   heard_alone last s x (to_arrive r charge tag ∷ cs) gs = arrived (own_reply last s x charge) ++ heard_alone last s (own_next last s x charge) cs gs
-  heard_alone last s x (to_best_effort caller charge tag ∷ cs) gs = heard_alone last s x cs gs
-  heard_alone last s x (to_frame caller octets tag ∷ cs) gs = heard_alone last s x cs gs
+  heard_alone last s x (to_best_effort charge tag ∷ cs) gs = heard_alone last s x cs gs
+  heard_alone last s x (to_frame octets tag ∷ cs) gs = heard_alone last s x cs gs
   heard_alone last s x (neither ∷ cs) gs = heard_alone last s x cs gs
 
 -- whether an action remains, and the actions of the calls that do
@@ -72,8 +72,8 @@ left_actions s (e ∷ es) = told (remains s (action e)) (left_actions s es)
 
 -- a quiet action is struck out
 quiet_foreign : (s : ℕ) (c : Action) → Quiet c → (is_tick c ≡ false) × ((is_reserve_of s c ≡ false) × ((is_withdraw_of s c ≡ false) × (is_arrive_of s c ≡ false)))
-quiet_foreign s (to_best_effort caller charge tag) q = (refl, (refl, (refl, refl)))
-quiet_foreign s (to_frame caller octets tag) q = (refl, (refl, (refl, refl)))
+quiet_foreign s (to_best_effort charge tag) q = (refl, (refl, (refl, refl)))
+quiet_foreign s (to_frame octets tag) q = (refl, (refl, (refl, refl)))
 quiet_foreign s neither q = (refl, (refl, (refl, refl)))
 
 -- by whether there is a refusal
@@ -234,8 +234,8 @@ heard_withdrawals s (e ∷ es) = told (action e) (heard_withdrawals s es)
     told (to_reserve i permitted) same = same
     told (to_withdraw i) same = by_number (eqb i s) same
     told (to_arrive i charge tag) same = by_arrival (eqb i s) same
-    told (to_best_effort caller charge tag) same = same
-    told (to_frame caller octets tag) same = same
+    told (to_best_effort charge tag) same = same
+    told (to_frame octets tag) same = same
     told neither same = same
 
 pub withdrawals_alike : (last share share' s : ℕ) (es fs : List Event) (v v' : View) → v.stream s ≡ v'.stream s → Run last share 0 v es → Run last share' 0 v' fs

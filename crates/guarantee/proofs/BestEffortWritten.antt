@@ -14,29 +14,28 @@ use Rattle.record.proofs.KeepLaws.{Keeps, keeps_both, keeps_queue, keeps_waits}
 use Rattle.steps.specs.Roles.{role_at}
 use Rattle.steps.proofs.RoleLaws.{role_below}
 use Rattle.guarantee.proofs.Held.{reservation_at, same_reservation, in_role, role_kept}
-use Rattle.queue.specs.declared.Waits.{Waits}
 
-module _ (p : List ℕ) (x : Queue) (w : Waits) where
+module _ (p : List ℕ) (x : Queue) (octets : ℕ) where
   abbrev pub written : List ℕ
-  written = with_waits (with_queue p (best_effort_at p) x) w
+  written = with_waits (with_queue p (best_effort_at p) x) octets
 
   pub written_keeps : Keeps p written
-  written_keeps = keeps_both p (with_queue p (best_effort_at p) x) written (keeps_queue p (best_effort_at p) x (omega (arith, queues_most p))) (keeps_waits (with_queue p (best_effort_at p) x) w)
+  written_keeps = keeps_both p (with_queue p (best_effort_at p) x) written (keeps_queue p (best_effort_at p) x (omega (arith, queues_most p))) (keeps_waits (with_queue p (best_effort_at p) x) octets)
 
   written_prior : prior_at written ≡ prior_at p
-  written_prior = prior_waits (with_queue p (best_effort_at p) x) w ∙ prior_queue p (best_effort_at p) x
+  written_prior = prior_waits (with_queue p (best_effort_at p) x) octets ∙ prior_queue p (best_effort_at p) x
 
   pub written_here : Whole p → queue_at written (best_effort_at p) ≡ x
-  written_here whole = queue_waits (with_queue p (best_effort_at p) x) w (best_effort_at p) ∙ queue_queue p (best_effort_at p) x whole (omega (arith, queues_most p))
+  written_here whole = queue_waits (with_queue p (best_effort_at p) x) octets (best_effort_at p) ∙ queue_queue p (best_effort_at p) x whole (omega (arith, queues_most p))
 
   written_other : (q : ℕ) → (q ≡ best_effort_at p → ⊥) → queue_at written q ≡ queue_at p q
-  written_other q o = queue_waits (with_queue p (best_effort_at p) x) w q ∙ other_queue p (best_effort_at p) x q o
+  written_other q o = queue_waits (with_queue p (best_effort_at p) x) octets q ∙ other_queue p (best_effort_at p) x q o
 
   pub written_stream : (s : ℕ) → reservation_at written s ≡ reservation_at p s
   written_stream s =
       same_reservation p written s
-      (stream_waits (with_queue p (best_effort_at p) x) w s ∙ stream_queue p (best_effort_at p) x s (omega (arith, queues_most p)))
-      (drain_waits (with_queue p (best_effort_at p) x) s w ∙ drain_queue p s (best_effort_at p) x (omega (arith, queues_most p)))
+      (stream_waits (with_queue p (best_effort_at p) x) octets s ∙ stream_queue p (best_effort_at p) x s (omega (arith, queues_most p)))
+      (drain_waits (with_queue p (best_effort_at p) x) s octets ∙ drain_queue p s (best_effort_at p) x (omega (arith, queues_most p)))
 
   -- best effort is no role's queue
   pub role_not_best_effort : (role : ℕ) → role_at p role ≡ best_effort_at p → ⊥

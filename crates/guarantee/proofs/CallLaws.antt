@@ -14,23 +14,23 @@ use Rattle.guarantee.proofs.Run.{Quiet}
 
 -- a quiet action is no tick, no transmit and no stream's own
 pub quiet_no_tick : (c : Action) → Quiet c → is_tick c ≡ false
-quiet_no_tick (to_best_effort caller charge tag) q = refl
-quiet_no_tick (to_frame caller octets tag) q = refl
+quiet_no_tick (to_best_effort charge tag) q = refl
+quiet_no_tick (to_frame octets tag) q = refl
 quiet_no_tick neither q = refl
 
 pub quiet_no_transmit : (c : Action) → Quiet c → is_transmit c ≡ false
-quiet_no_transmit (to_best_effort caller charge tag) q = refl
-quiet_no_transmit (to_frame caller octets tag) q = refl
+quiet_no_transmit (to_best_effort charge tag) q = refl
+quiet_no_transmit (to_frame octets tag) q = refl
 quiet_no_transmit neither q = refl
 
 pub quiet_no_reserve : (s : ℕ) (c : Action) → Quiet c → is_reserve_of s c ≡ false
-quiet_no_reserve s (to_best_effort caller charge tag) q = refl
-quiet_no_reserve s (to_frame caller octets tag) q = refl
+quiet_no_reserve s (to_best_effort charge tag) q = refl
+quiet_no_reserve s (to_frame octets tag) q = refl
 quiet_no_reserve s neither q = refl
 
 pub quiet_neither : (s : ℕ) (c : Action) → Quiet c → (is_withdraw_of s c || is_arrive_of s c) ≡ false
-quiet_neither s (to_best_effort caller charge tag) q = refl
-quiet_neither s (to_frame caller octets tag) q = refl
+quiet_neither s (to_best_effort charge tag) q = refl
+quiet_neither s (to_frame octets tag) q = refl
 quiet_neither s neither q = refl
 
 -- a call that is no transmit sends nothing

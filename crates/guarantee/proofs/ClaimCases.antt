@@ -44,18 +44,18 @@ second_of to_transmit = 0
 second_of (to_reserve s permitted) = permitted
 second_of (to_withdraw s) = 0
 second_of (to_arrive s charge tag) = charge
-second_of (to_best_effort caller charge tag) = charge
-second_of (to_frame caller octets tag) = 0
+second_of (to_best_effort charge tag) = charge
+second_of (to_frame octets tag) = 0
 second_of neither = 0
 
 -- `marked`: a frame's call has the call's number for a tag, a reservation keeps its P, and a withdrawal its stream
 marked_arrive : tag_of (action_of (marked 3 (arriving 5 120 7))) ≡ 3
 marked_arrive = refl
 
-marked_best_effort : tag_of (action_of (marked 3 (joining_best_effort 255 300 7))) ≡ 3
+marked_best_effort : tag_of (action_of (marked 3 (joining_best_effort 300 7))) ≡ 3
 marked_best_effort = refl
 
-marked_frame_lem : tag_of (action_of (marked 3 (framing 255 [] 7))) ≡ 3
+marked_frame_lem : tag_of (action_of (marked 3 (framing [] 7))) ≡ 3
 marked_frame_lem = refl
 
 marked_charge : second_of (action_of (marked 3 (arriving 5 120 7))) ≡ 120
@@ -69,7 +69,7 @@ marked_withdraw = refl
 
 -- `made`: of three calls, what the last replies in each run, on the record and on the memory that the calls before it left in that run
 abbrev three : List Call
-three = arriving 5 120 7 ∷ joining_best_effort 255 300 8 ∷ transmitting ∷ []
+three = arriving 5 120 7 ∷ joining_best_effort 300 8 ∷ transmitting ∷ []
 
 abbrev last_shown : Reply
 last_shown = get_or (map (λ (x : Made). x.shown.reply) (both_runs stacking three (4 ∷ []) (4 ∷ []))) 2 (record { refusal = 99; first = 99; second = 99 })
@@ -104,7 +104,7 @@ begins_memory : first_shown.second ≡ 3
 begins_memory = refl
 
 -- a Frame of 60 octets is told of as the Best effort that it becomes on the record
-frame_counted : map (λ (x : Made). second_of (action_of x.call)) (both_runs stacking (framing 255 (replicate {A = ℕ} 60 0) 7 ∷ []) [] []) ≡ 84 ∷ []
+frame_counted : map (λ (x : Made). second_of (action_of x.call)) (both_runs stacking (framing (replicate {A = ℕ} 60 0) 7 ∷ []) [] []) ≡ 84 ∷ []
 unfolding all_to octets_equal charge_of length_fits tagged_frame frame_lookup
 frame_counted = refl
 
@@ -115,16 +115,13 @@ brought_reserved = refl
 brought_number : number_sent (brought_by 3 (to_arrive 5 120 7)) ≡ 3
 brought_number = refl
 
-brought_best_effort : stream_sent (brought_by 3 (to_best_effort 255 300 7)) ≡ 255
+brought_best_effort : stream_sent (brought_by 3 (to_best_effort 300 7)) ≡ 255
 brought_best_effort = refl
 
-brought_firmware : stream_sent (brought_by 3 (to_best_effort 253 300 7)) ≡ 253
-brought_firmware = refl
-
-brought_unreserved : reserved_charge (brought_by 3 (to_best_effort 255 300 7)) ≡ 0
+brought_unreserved : reserved_charge (brought_by 3 (to_best_effort 300 7)) ≡ 0
 brought_unreserved = refl
 
-brought_frame : number_sent (brought_by 3 (to_frame 255 [] 7)) ≡ 0
+brought_frame : number_sent (brought_by 3 (to_frame [] 7)) ≡ 0
 brought_frame = refl
 
 brought_withdraw : number_sent (brought_by 3 (to_withdraw 5)) ≡ 0
@@ -212,7 +209,7 @@ offer_of_another = refl
 offer_too_small : offer 5 (to_arrive 5 83 7) ≡ 0
 offer_too_small = refl
 
-offer_best_effort : offer 5 (to_best_effort 255 300 7) ≡ 0
+offer_best_effort : offer 5 (to_best_effort 300 7) ≡ 0
 offer_best_effort = refl
 
 offer_reserve : offer 5 (to_reserve 5 200) ≡ 0
@@ -378,5 +375,5 @@ none_granted last s permitted (b ∷ c ∷ before) while rest g split call is st
 discard_allowed : NotByHost discarded_arrival
 discard_allowed = (λ e. omega arith, (λ e. omega arith, λ e. omega arith))
 
-short_frame_allowed : NotByHost (replied (framing 255 [] 9) (refused_by 17))
+short_frame_allowed : NotByHost (replied (framing [] 9) (refused_by 17))
 short_frame_allowed = (λ e. omega arith, (λ e. omega arith, λ e. omega arith))

@@ -83,8 +83,8 @@ offer_unfit : (s r a tag : ℕ) → charge_fits a ≡ false → offer s (to_arri
 offer_unfit s r a tag unfit = rw (unfit, and-false (eqb r s))
 
 quiet_offers : (s : ℕ) (c : Action) → Quiet c → offer s c ≡ 0
-quiet_offers s (to_best_effort caller charge tag) q = refl
-quiet_offers s (to_frame caller octets tag) q = refl
+quiet_offers s (to_best_effort charge tag) q = refl
+quiet_offers s (to_frame octets tag) q = refl
 quiet_offers s neither q = refl
 
 -- no arrival of a fit charge on a reserved stream that does not drain is refused before its rule

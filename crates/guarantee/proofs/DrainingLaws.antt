@@ -46,9 +46,9 @@ is_ticking (withdrawing s) e = absurd (true≢false (sym e))
 is_ticking (arriving s charge tag) e = absurd (true≢false (sym e))
 is_ticking ticking e = refl
 is_ticking transmitting e = absurd (true≢false (sym e))
-is_ticking (joining_best_effort caller charge tag) e = absurd (true≢false (sym e))
+is_ticking (joining_best_effort charge tag) e = absurd (true≢false (sym e))
 is_ticking (binding s address vid) e = absurd (true≢false (sym e))
-is_ticking (framing caller octets tag) e = absurd (true≢false (sym e))
+is_ticking (framing octets tag) e = absurd (true≢false (sym e))
 
 -- a call that is not refused with 18 or 19 and not by its own gate makes its step
 steps_through : (c : Call) (p m : List ℕ) → lent_refusal p m ≡ 0 → refusal_of c p ≡ 0 → called c p m ≡ step_of c p m

@@ -17,9 +17,9 @@ use Rattle.guarantee.proofs.Held.{Holds}
 use Rattle.guarantee.proofs.Next.{Next, by_quiet_gate}
 
 pub next_refused_frame : (all : List Call) (n link : ℕ) (p m k : List ℕ) (v : View) (best : List Marked) → Holds all link p m k v best
-    → (caller : ℕ) (octets : List ℕ) (tag : ℕ) → length_fits octets ≡ false
-    → Next all all n link p m k v (framing caller octets tag) (called (framing caller octets tag) p m) (called (marked n (framing caller octets tag)) p k)
-next_refused_frame all n link p m k v best h caller octets tag short =
+    → (octets : List ℕ) (tag : ℕ) → length_fits octets ≡ false
+    → Next all all n link p m k v (framing octets tag) (called (framing octets tag) p m) (called (marked n (framing octets tag)) p k)
+next_refused_frame all n link p m k v best h octets tag short =
     let seventeen = frame_refused p octets h.opened short in
-    by_quiet_gate all n link p m k v best h (frame_refusal p octets) (framing caller octets tag) (frame_step p m caller octets tag) (frame_step p k caller octets n)
-    (refusal_own (framing caller octets tag) p) tt (λ z. absurd (omega (arith, seventeen)))
+    by_quiet_gate all n link p m k v best h (frame_refusal p octets) (framing octets tag) (frame_step p m octets tag) (frame_step p k octets n)
+    (refusal_own (framing octets tag) p) tt (λ z. absurd (omega (arith, seventeen)))

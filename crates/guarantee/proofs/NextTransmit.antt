@@ -13,7 +13,7 @@ use Rattle.stream.specs.Replies.{granted}
 use Rattle.queue.specs.declared.Frame.{Frame}
 use Rattle.queue.specs.declared.Queue.{Queue}
 use Rattle.queue.specs.Ring.{front_of, sent_queue}
-use Rattle.queue.specs.Waiting.{waiting, sent_waits}
+use Rattle.queue.specs.Waiting.{waiting}
 use Rattle.queue.proofs.WaitingLaws.{sends, length_waiting}
 use Rattle.record.specs.Layout.{Whole, queue_room}
 use Rattle.record.specs.Queues.{queues_at, best_effort_at}
@@ -153,27 +153,27 @@ module _ (all : List Call) (n link : ℕ) (p m k : List ℕ) (v : View) (best : 
         (waiting k (best_effort_at p) (sent_queue waiting_there)) best
     oldest_there = first_of best_effort_sent (best_effort_at p) waiting_there best h.waits some
 
-    -- what waits falls by as much in both memories
-    same_waits_lem : sent_waits (waits_at p) (front_of k (best_effort_at p) waiting_there) ≡ sent_waits (waits_at p) (front_of m (best_effort_at p) waiting_there)
-    same_waits_lem = ap (sent_waits (waits_at p)) oldest_there.shown ∙ sym (ap (sent_waits (waits_at p)) oldest_there.real)
+    -- the charge is the same in both memories
+    same_charge : (front_of k (best_effort_at p) waiting_there).charge ≡ (front_of m (best_effort_at p) waiting_there).charge
+    same_charge = ap (λ (g : Frame). g.charge) oldest_there.shown ∙ sym (ap (λ (g : Frame). g.charge) oldest_there.real)
 
     best_effort_next : Next all all n link p m k v transmitting (sent_best_effort p m (best_effort_at p) waiting_there) (sent_best_effort p k (best_effort_at p) waiting_there)
     best_effort_next =
         let f = oldest_there.first in
-        let w = sent_waits (waits_at p) (front_of m (best_effort_at p) waiting_there) in
+        let octets = waits_at p - (front_of m (best_effort_at p) waiting_there).charge in
         let sends-it = names best_effort_sent (best_effort_at p) waiting_there best oldest_there in
         record {
           view = v;
           best = oldest_there.others;
           effect = idles prior-empty (λ g e. not_reserved f g (sym sends-it ∙ e)) (λ j. refl) (λ s. refl);
-          same = ap (written p (sent_queue waiting_there)) same_waits_lem;
+          same = ap (λ (charge : ℕ). written p (sent_queue waiting_there) (waits_at p - charge)) same_charge;
           moved =
               record {
-                keeps = link_kept _ _ (written_keeps p (sent_queue waiting_there) w);
-                streams = same_seen p (written p (sent_queue waiting_there) w) v h.streams (λ i c. written_stream p (sent_queue waiting_there) w i);
-                queues = λ role b. rw (written_role p (sent_queue waiting_there) w m role, written_role p (sent_queue waiting_there) w k role) (h.queues role b);
+                keeps = link_kept _ _ (written_keeps p (sent_queue waiting_there) octets);
+                streams = same_seen p (written p (sent_queue waiting_there) octets) v h.streams (λ i c. written_stream p (sent_queue waiting_there) octets i);
+                queues = λ role b. rw (written_role p (sent_queue waiting_there) octets m role, written_role p (sent_queue waiting_there) octets k role) (h.queues role b);
                 above = h.above;
-                waits = rw (written_here p (sent_queue waiting_there) w whole) oldest_there.rest;
+                waits = rw (written_here p (sent_queue waiting_there) octets whole) oldest_there.rest;
               };
           says = λ z. (
             ap (λ (g : Frame). granted g.stream g.tag) oldest_there.real ∙ sym (ap (reply_of_sent (λ g. g.tag)) sends-it),

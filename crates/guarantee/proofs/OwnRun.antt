@@ -59,8 +59,8 @@ module _ (last : ℕ) (r : Reply) (x y : Reservation) where
 
 -- a quiet action is neither an offer nor a tick
 quiet_step : (last s : ℕ) (r : Reply) (x y : Reservation) (c : Action) → Quiet c → y ≡ x → OwnStep last r x y (offer s c) (is_offer_of s c) (is_tick c)
-quiet_step last s r x y (to_best_effort caller charge tag) q same = same
-quiet_step last s r x y (to_frame caller octets tag) q same = same
+quiet_step last s r x y (to_best_effort charge tag) q same = same
+quiet_step last s r x y (to_frame octets tag) q same = same
 quiet_step last s r x y neither q same = same
 
 module _ (last share n : ℕ) (v w : View) (r : Reply) (t : Sent) (s : ℕ) (below : s < stream_count) (keeps : (v.stream s).drain ≡ 0)

@@ -129,30 +129,30 @@ module _ (earlier : List Call) (link : ℕ) (p m k : List ℕ) (v : View) where
         no_sender c _ _ _ refl
         (next_arrive (with_call earlier c) (length earlier) link p m k v best (held c) sound s charge tag (counted earlier c) (get_or_last earlier c ticking))
 
-    next_joining : (caller charge tag : ℕ) → After (joining_best_effort caller charge tag)
-    next_joining caller charge tag =
-        let c = joining_best_effort caller charge tag in
+    next_joining : (charge tag : ℕ) → After (joining_best_effort charge tag)
+    next_joining charge tag =
+        let c = joining_best_effort charge tag in
         no_sender c _ _ _ refl
-        (next_best_effort (with_call earlier c) (length earlier) link p m k v best (held c) caller charge tag (counted earlier c) (get_or_last earlier c ticking))
+        (next_best_effort (with_call earlier c) (length earlier) link p m k v best (held c) charge tag (counted earlier c) (get_or_last earlier c ticking))
 
     -- a Frame, as what it becomes
-    next_becoming : (caller : ℕ) (octets : List ℕ) (tag : ℕ) (found : Lookup)
-        → AfterAs (becoming caller octets tag found) (called (becoming caller octets tag found) p m) (called (becoming caller octets (length earlier) found) p k)
-    next_becoming caller octets tag (Bound s) = next_arriving s (charge_of octets) tag
-    next_becoming caller octets tag Unbound = next_joining caller (charge_of octets) tag
+    next_becoming : (octets : List ℕ) (tag : ℕ) (found : Lookup)
+        → AfterAs (becoming octets tag found) (called (becoming octets tag found) p m) (called (becoming octets (length earlier) found) p k)
+    next_becoming octets tag (Bound s) = next_arriving s (charge_of octets) tag
+    next_becoming octets tag Unbound = next_joining (charge_of octets) tag
 
-    next_framing : (caller : ℕ) (octets : List ℕ) (tag : ℕ) → After (framing caller octets tag)
-    next_framing caller octets tag = told (length_fits octets) refl
+    next_framing : (octets : List ℕ) (tag : ℕ) → After (framing octets tag)
+    next_framing octets tag = told (length_fits octets) refl
       where
         told : (b : Bool) → length_fits octets ≡ b
-            → AfterAs (cond b (becoming caller octets tag (frame_lookup p octets)) (framing caller octets tag)) (called (framing caller octets tag) p m) (called (framing caller octets (length earlier)) p k)
+            → AfterAs (cond b (becoming octets tag (frame_lookup p octets)) (framing octets tag)) (called (framing octets tag) p m) (called (framing octets (length earlier)) p k)
         told true fits =
-            let d = becoming caller octets tag (frame_lookup p octets) in
-            subst (λ (o : Outcome). AfterAs d o (called (framing caller octets (length earlier)) p k)) (sym (frame_becomes p m octets caller tag fits))
-            (subst (AfterAs d (called d p m)) (sym (frame_becomes p k octets caller (length earlier) fits)) (next_becoming caller octets tag (frame_lookup p octets)))
+            let d = becoming octets tag (frame_lookup p octets) in
+            subst (λ (o : Outcome). AfterAs d o (called (framing octets (length earlier)) p k)) (sym (frame_becomes p m octets tag fits))
+            (subst (AfterAs d (called d p m)) (sym (frame_becomes p k octets (length earlier) fits)) (next_becoming octets tag (frame_lookup p octets)))
         told false short =
-            let c = framing caller octets tag in
-            no_sender c _ _ _ refl (next_refused_frame (with_call earlier c) (length earlier) link p m k v best (held c) caller octets tag short)
+            let c = framing octets tag in
+            no_sender c _ _ _ refl (next_refused_frame (with_call earlier c) (length earlier) link p m k v best (held c) octets tag short)
 
     next_call : (c : Call) → After c
     next_call (opening t) =
@@ -166,11 +166,11 @@ module _ (earlier : List Call) (link : ℕ) (p m k : List ℕ) (v : View) where
     next_call (arriving s charge tag) = next_arriving s charge tag
     next_call ticking = no_sender ticking _ _ _ refl (next_tick (with_call earlier ticking) (length earlier) link p m k v best (held ticking))
     next_call transmitting = sender transmitting _ _ (next_transmit earlier (length earlier) link p m k v best h first)
-    next_call (joining_best_effort caller charge tag) = next_joining caller charge tag
+    next_call (joining_best_effort charge tag) = next_joining charge tag
     next_call (binding s address vid) =
         let c = binding s address vid in
         no_sender c _ _ _ refl (next_bind (with_call earlier c) (length earlier) link p m k v best (held c) s address vid)
-    next_call (framing caller octets tag) = next_framing caller octets tag
+    next_call (framing octets tag) = next_framing octets tag
 
   -- the port holds the view after a call
   holds_next : (best : List Marked) (c : Call) → Holds earlier link p m k v best → (next : After c)

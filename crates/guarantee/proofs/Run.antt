@@ -58,8 +58,8 @@ Quiet to_transmit = ⊥
 Quiet (to_reserve s permitted) = ⊥
 Quiet (to_withdraw s) = ⊥
 Quiet (to_arrive s charge tag) = ⊥
-Quiet (to_best_effort caller charge tag) = Unit {0}
-Quiet (to_frame caller octets tag) = Unit {0}
+Quiet (to_best_effort charge tag) = Unit {0}
+Quiet (to_frame octets tag) = Unit {0}
 Quiet neither = Unit {0}
 
 -- a Reserve that is granted

@@ -66,14 +66,14 @@ module _ (p m : List ℕ) (t : Terms) (is : (called (opening t) p m).reply.refus
   abbrev opens : Outcome
   opens = gated (open_refusal p t) p m (open_step p m t)
 
-  pub not_lent : lent_refusal p m ≡ 0
+  not_lent : lent_refusal p m ≡ 0
   not_lent = let_through (lent_refusal p m) p m opens is
 
   fit : record_fits p m ≡ true
   fit = (lent_fit p m not_lent).1
 
   -- the granted Open is its step
-  pub open_so : called (opening t) p m ≡ open_step p m t
+  open_so : called (opening t) p m ≡ open_step p m t
   open_so =
       let passed = grants (lent_refusal p m) p m opens not_lent in
       passed

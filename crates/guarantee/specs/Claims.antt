@@ -18,8 +18,8 @@ is_tick to_transmit = false
 is_tick (to_reserve r permitted) = false
 is_tick (to_withdraw r) = false
 is_tick (to_arrive r charge tag) = false
-is_tick (to_best_effort caller charge tag) = false
-is_tick (to_frame caller octets tag) = false
+is_tick (to_best_effort charge tag) = false
+is_tick (to_frame octets tag) = false
 is_tick neither = false
 
 abbrev pub Tick : Event → Type 0
@@ -104,8 +104,8 @@ is_offer_of s to_transmit = false
 is_offer_of s (to_reserve r permitted) = false
 is_offer_of s (to_withdraw r) = false
 is_offer_of s (to_arrive r charge tag) = eqb r s && charge_fits charge
-is_offer_of s (to_best_effort caller charge tag) = false
-is_offer_of s (to_frame caller octets tag) = false
+is_offer_of s (to_best_effort charge tag) = false
+is_offer_of s (to_frame octets tag) = false
 is_offer_of s neither = false
 
 -- the octets that it offers
@@ -115,8 +115,8 @@ offer s to_transmit = 0
 offer s (to_reserve r permitted) = 0
 offer s (to_withdraw r) = 0
 offer s (to_arrive r charge tag) = cond (is_offer_of s (to_arrive r charge tag)) charge 0
-offer s (to_best_effort caller charge tag) = 0
-offer s (to_frame caller octets tag) = 0
+offer s (to_best_effort charge tag) = 0
+offer s (to_frame octets tag) = 0
 offer s neither = 0
 
 abbrev pub offers : ℕ → List Event → ℕ
@@ -143,8 +143,8 @@ is_withdraw_of s to_transmit = false
 is_withdraw_of s (to_reserve r permitted) = false
 is_withdraw_of s (to_withdraw r) = eqb r s
 is_withdraw_of s (to_arrive r charge tag) = false
-is_withdraw_of s (to_best_effort caller charge tag) = false
-is_withdraw_of s (to_frame caller octets tag) = false
+is_withdraw_of s (to_best_effort charge tag) = false
+is_withdraw_of s (to_frame octets tag) = false
 is_withdraw_of s neither = false
 
 abbrev pub Stays : ℕ → Event → Type 0
@@ -169,8 +169,8 @@ is_reserve_of s to_transmit = false
 is_reserve_of s (to_reserve r permitted) = eqb r s
 is_reserve_of s (to_withdraw r) = false
 is_reserve_of s (to_arrive r charge tag) = false
-is_reserve_of s (to_best_effort caller charge tag) = false
-is_reserve_of s (to_frame caller octets tag) = false
+is_reserve_of s (to_best_effort charge tag) = false
+is_reserve_of s (to_frame octets tag) = false
 is_reserve_of s neither = false
 
 abbrev pub is_arrive_of : ℕ → Action → Bool
@@ -179,8 +179,8 @@ is_arrive_of s to_transmit = false
 is_arrive_of s (to_reserve r permitted) = false
 is_arrive_of s (to_withdraw r) = false
 is_arrive_of s (to_arrive r charge tag) = eqb r s
-is_arrive_of s (to_best_effort caller charge tag) = false
-is_arrive_of s (to_frame caller octets tag) = false
+is_arrive_of s (to_best_effort charge tag) = false
+is_arrive_of s (to_frame octets tag) = false
 is_arrive_of s neither = false
 
 abbrev pub is_own_of : ℕ → Action → Bool

@@ -1,7 +1,7 @@
 -- What happened in a list of calls: each call, as that which it counts as, with its reply and with the frame that it sent.
 use Rattle.std.specs.Prelude.{ℕ, Bool, true, false, cond, List, [], ◌∷◌, ◌++◌, length, get_or}
 use Rattle.stream.specs.declared.Reply.{Reply}
-use Rattle.best_effort.specs.Caller.{caller_stream}
+use Rattle.queue.specs.Place.{best_effort_stream}
 use Rattle.steps.specs.Call.{Call, arriving, ticking, joining_best_effort, framing}
 use Rattle.steps.specs.Outcome.{Outcome}
 use Rattle.port_laws.specs.Counting.{Action, to_tick, to_transmit, to_reserve, to_withdraw, to_arrive, to_best_effort, to_frame, neither, action_of, counts_as}
@@ -26,8 +26,8 @@ marked_by n c to_transmit = c
 marked_by n c (to_reserve s permitted) = c
 marked_by n c (to_withdraw s) = c
 marked_by n c (to_arrive s charge tag) = arriving s charge n
-marked_by n c (to_best_effort caller charge tag) = joining_best_effort caller charge n
-marked_by n c (to_frame caller octets tag) = framing caller octets n
+marked_by n c (to_best_effort charge tag) = joining_best_effort charge n
+marked_by n c (to_frame octets tag) = framing octets n
 marked_by n c neither = c
 
 abbrev pub marked : ℕ → Call → Call
@@ -56,8 +56,8 @@ brought_by n to_transmit = none
 brought_by n (to_reserve s permitted) = none
 brought_by n (to_withdraw s) = none
 brought_by n (to_arrive s charge tag) = reserved_sent (record { stream = s; charge = charge; tag = tag; number = n })
-brought_by n (to_best_effort caller charge tag) = best_effort_sent (record { stream = caller_stream caller; charge = charge; tag = tag; number = n })
-brought_by n (to_frame caller octets tag) = none
+brought_by n (to_best_effort charge tag) = best_effort_sent (record { stream = best_effort_stream; charge = charge; tag = tag; number = n })
+brought_by n (to_frame octets tag) = none
 brought_by n neither = none
 
 -- whether a call is a Transmit
@@ -67,8 +67,8 @@ is_transmit to_transmit = true
 is_transmit (to_reserve s permitted) = false
 is_transmit (to_withdraw s) = false
 is_transmit (to_arrive s charge tag) = false
-is_transmit (to_best_effort caller charge tag) = false
-is_transmit (to_frame caller octets tag) = false
+is_transmit (to_best_effort charge tag) = false
+is_transmit (to_frame octets tag) = false
 is_transmit neither = false
 
 -- the frame that a call sends, by the calls before it: where every tag is its call's number, a Transmit's second reply number is the number of the

@@ -143,7 +143,7 @@ abbrev pub joins_other : Event
 joins_other = replied (arriving 6 300 1) (granted 1 0)
 
 abbrev pub joins_best_effort : Event
-joins_best_effort = replied (joining_best_effort 255 300 2) (granted 300 0)
+joins_best_effort = replied (joining_best_effort 300 2) (granted 300 0)
 
 -- transmits of a frame of best effort,
 -- and of nothing
@@ -166,8 +166,8 @@ tag_of to_transmit = 0
 tag_of (to_reserve s permitted) = 0
 tag_of (to_withdraw s) = 0
 tag_of (to_arrive s charge tag) = tag
-tag_of (to_best_effort caller charge tag) = tag
-tag_of (to_frame caller octets tag) = tag
+tag_of (to_best_effort charge tag) = tag
+tag_of (to_frame octets tag) = tag
 tag_of neither = 0
 
 -- the octets of a stream's own event, 0 of a tick

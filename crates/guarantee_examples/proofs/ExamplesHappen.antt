@@ -37,27 +37,27 @@ after_first [] = []
 after_first (e ∷ es) = calls_of es
 
 -- the lists, by the quick calls
-busy_made : events quickly_called (opening (terms (link_of 84) 1 0) ∷ after_first busy) fresh_record fresh_memory ≡ busy
+busy_made : events quickly_called (opening (terms (link_of 84) 1) ∷ after_first busy) fresh_record fresh_memory ≡ busy
 unfolding all_to sum_to list_to iterate two_of four_of attempt arrive_of tick_of frame_at with_frame joined_memory front_of waiting open_at with_open prior_at with_prior delay_at with_delay link_at with_link waits_at with_waits queue_at queues_at with_queue stream_at with_stream with_place drain_at drains_at bound_at vid_at address_at with_binding dropped role_at opened_record arrive_step drained_at ticked_record tick_step transmit_step best_effort_step open_refusal reserve_refusal arrive_refusal closed_refusal best_effort_refusal bind_refusal frame_refusal compared_back compared_at lookup_from lookup frame_lookup octets_equal charge_of length_fits tagged_frame vid_of length_refusal
 busy_made = refl
 
-light_made : events quickly_called (opening (terms (link_of 600) 1 0) ∷ after_first light) fresh_record fresh_memory ≡ light
+light_made : events quickly_called (opening (terms (link_of 600) 1) ∷ after_first light) fresh_record fresh_memory ≡ light
 unfolding all_to sum_to list_to iterate two_of four_of attempt arrive_of tick_of frame_at with_frame joined_memory front_of waiting open_at with_open prior_at with_prior delay_at with_delay link_at with_link waits_at with_waits queue_at queues_at with_queue stream_at with_stream with_place drain_at drains_at bound_at vid_at address_at with_binding dropped role_at opened_record arrive_step drained_at ticked_record tick_step transmit_step best_effort_step open_refusal reserve_refusal arrive_refusal closed_refusal best_effort_refusal bind_refusal frame_refusal compared_back compared_at lookup_from lookup frame_lookup octets_equal charge_of length_fits tagged_frame vid_of length_refusal
 light_made = refl
 
-withheld_made : events quickly_called (opening (terms (link_of 600) 1 0) ∷ after_first withheld) fresh_record fresh_memory ≡ withheld
+withheld_made : events quickly_called (opening (terms (link_of 600) 1) ∷ after_first withheld) fresh_record fresh_memory ≡ withheld
 unfolding all_to sum_to list_to iterate two_of four_of attempt arrive_of tick_of frame_at with_frame joined_memory front_of waiting open_at with_open prior_at with_prior delay_at with_delay link_at with_link waits_at with_waits queue_at queues_at with_queue stream_at with_stream with_place drain_at drains_at bound_at vid_at address_at with_binding dropped role_at opened_record arrive_step drained_at ticked_record tick_step transmit_step best_effort_step open_refusal reserve_refusal arrive_refusal closed_refusal best_effort_refusal bind_refusal frame_refusal compared_back compared_at lookup_from lookup frame_lookup octets_equal charge_of length_fits tagged_frame vid_of length_refusal
 withheld_made = refl
 
-permitted_200_made : events quickly_called (opening (terms (link_of 600) 1 0) ∷ after_first permitted200) fresh_record fresh_memory ≡ permitted200
+permitted_200_made : events quickly_called (opening (terms (link_of 600) 1) ∷ after_first permitted200) fresh_record fresh_memory ≡ permitted200
 unfolding all_to sum_to list_to iterate two_of four_of attempt arrive_of tick_of frame_at with_frame joined_memory front_of waiting open_at with_open prior_at with_prior delay_at with_delay link_at with_link waits_at with_waits queue_at queues_at with_queue stream_at with_stream with_place drain_at drains_at bound_at vid_at address_at with_binding dropped role_at opened_record arrive_step drained_at ticked_record tick_step transmit_step best_effort_step open_refusal reserve_refusal arrive_refusal closed_refusal best_effort_refusal bind_refusal frame_refusal compared_back compared_at lookup_from lookup frame_lookup octets_equal charge_of length_fits tagged_frame vid_of length_refusal
 permitted_200_made = refl
 
-permitted_100_made : events quickly_called (opening (terms (link_of 600) 1 0) ∷ after_first permitted100) fresh_record fresh_memory ≡ permitted100
+permitted_100_made : events quickly_called (opening (terms (link_of 600) 1) ∷ after_first permitted100) fresh_record fresh_memory ≡ permitted100
 unfolding all_to sum_to list_to iterate two_of four_of attempt arrive_of tick_of frame_at with_frame joined_memory front_of waiting open_at with_open prior_at with_prior delay_at with_delay link_at with_link waits_at with_waits queue_at queues_at with_queue stream_at with_stream with_place drain_at drains_at bound_at vid_at address_at with_binding dropped role_at opened_record arrive_step drained_at ticked_record tick_step transmit_step best_effort_step open_refusal reserve_refusal arrive_refusal closed_refusal best_effort_refusal bind_refusal frame_refusal compared_back compared_at lookup_from lookup frame_lookup octets_equal charge_of length_fits tagged_frame vid_of length_refusal
 permitted_100_made = refl
 
-framed_made : events quickly_called (opening (terms (link_of 600) 1 0) ∷ framed_calls) fresh_record fresh_memory ≡ framed
+framed_made : events quickly_called (opening (terms (link_of 600) 1) ∷ framed_calls) fresh_record fresh_memory ≡ framed
 unfolding all_to sum_to list_to iterate two_of four_of attempt arrive_of tick_of frame_at with_frame joined_memory front_of waiting open_at with_open prior_at with_prior delay_at with_delay link_at with_link waits_at with_waits queue_at queues_at with_queue stream_at with_stream with_place drain_at drains_at bound_at vid_at address_at with_binding dropped role_at opened_record arrive_step drained_at ticked_record tick_step transmit_step best_effort_step open_refusal reserve_refusal arrive_refusal closed_refusal best_effort_refusal bind_refusal frame_refusal compared_back compared_at lookup_from lookup frame_lookup octets_equal charge_of length_fits tagged_frame vid_of length_refusal
 framed_made = refl
 
@@ -69,11 +69,11 @@ silent_made = refl
 pub all_happen : AllHappen
 all_happen =
     record {
-      busy_happens = happens_quickly (terms (link_of 84) 1 0) opened_84 (after_first busy) busy busy_made;
-      light_happens = happens_quickly (terms (link_of 600) 1 0) opened_600 (after_first light) light light_made;
-      withheld_happens = happens_quickly (terms (link_of 600) 1 0) opened_600 (after_first withheld) withheld withheld_made;
-      permitted_200_happens = happens_quickly (terms (link_of 600) 1 0) opened_600 (after_first permitted200) permitted200 permitted_200_made;
-      permitted_100_happens = happens_quickly (terms (link_of 600) 1 0) opened_600 (after_first permitted100) permitted100 permitted_100_made;
-      framed_happens = happens_quickly (terms (link_of 600) 1 0) opened_600 framed_calls framed framed_made;
+      busy_happens = happens_quickly (link_of 84) 1 opened_84 (after_first busy) busy busy_made;
+      light_happens = happens_quickly (link_of 600) 1 opened_600 (after_first light) light light_made;
+      withheld_happens = happens_quickly (link_of 600) 1 opened_600 (after_first withheld) withheld withheld_made;
+      permitted_200_happens = happens_quickly (link_of 600) 1 opened_600 (after_first permitted200) permitted200 permitted_200_made;
+      permitted_100_happens = happens_quickly (link_of 600) 1 opened_600 (after_first permitted100) permitted100 permitted_100_made;
+      framed_happens = happens_quickly (link_of 600) 1 opened_600 framed_calls framed framed_made;
       silent_happens = silent_made;
     }

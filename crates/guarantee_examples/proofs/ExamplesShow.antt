@@ -50,7 +50,7 @@ not_by_third : AllSentBefore (least_queues - 1) busy → ⊥
 not_by_third all =
     third_unsent
     (all
-    (replied (opening (terms (link_of 84) 1 0)) (granted 84 0) ∷ replied (reserving 5 84) (granted 0 0) ∷ replied (arriving 5 84 7) (granted 1 84) ∷ replied (arriving 5 84 7) (granted 2 84) ∷ [])
+    (replied (opening (terms (link_of 84) 1)) (granted 84 0) ∷ replied (reserving 5 84) (granted 0 0) ∷ replied (arriving 5 84 7) (granted 1 84) ∷ replied (arriving 5 84 7) (granted 2 84) ∷ [])
     (to_third_tick ++ (replied ticking (granted 0 0) ∷ sending (reserved_sent third) (granted 5 7) ∷ replied ticking (granted 0 0) ∷ []))
     (replied (arriving 5 84 7) (granted 3 0))
     5 84 7 refl refl refl to_third_tick (sending (reserved_sent third) (granted 5 7) ∷ replied ticking (granted 0 0) ∷ []) (replied ticking (granted 0 0)) refl refl refl)
@@ -72,7 +72,7 @@ fails : LinkCondition 600 withheld → ⊥
 fails link =
     epoch_fails
     (link
-    (replied (opening (terms (link_of 600) 1 0)) (granted 600 0) ∷ replied (reserving 5 600) (granted 0 0) ∷ replied (arriving 5 516 7) (granted 1 84) ∷ replied (arriving 5 84 8) (granted 1 600) ∷ [])
+    (replied (opening (terms (link_of 600) 1)) (granted 600 0) ∷ replied (reserving 5 600) (granted 0 0) ∷ replied (arriving 5 516 7) (granted 1 84) ∷ replied (arriving 5 84 8) (granted 1 600) ∷ [])
     epoch [] (replied ticking (granted 0 0)) (replied ticking (granted 1 84)) refl refl refl (refl, tt))
 
 -- the tick after the silent transmit

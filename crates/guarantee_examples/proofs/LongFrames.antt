@@ -45,11 +45,11 @@ use Rattle.guarantee_examples.proofs.Applied.{promised_of, only}
 use Rattle.guarantee_examples.proofs.Quickly.{happens_quickly}
 
 -- the list happens
-long_opened : (quickly_called (opening (terms (link_of longest_charge) 1 0)) fresh_record fresh_memory).reply.refusal ≡ 0
+long_opened : (quickly_called (opening (terms (link_of longest_charge) 1)) fresh_record fresh_memory).reply.refusal ≡ 0
 unfolding open_at queues_at open_refusal length_refusal
 long_opened = refl
 
-long_made : events quickly_called (opening (terms (link_of longest_charge) 1 0) ∷ long_calls) fresh_record fresh_memory ≡ long
+long_made : events quickly_called (opening (terms (link_of longest_charge) 1) ∷ long_calls) fresh_record fresh_memory ≡ long
 unfolding all_to sum_to list_to iterate two_of four_of attempt arrive_of tick_of frame_at with_frame joined_memory front_of waiting open_at with_open prior_at with_prior delay_at with_delay link_at with_link waits_at with_waits queue_at queues_at with_queue stream_at with_stream with_place drain_at with_drain drains_at bound_at vid_at address_at with_binding dropped role_at opened_record arrive_step drained_at ticked_record tick_step transmit_step best_effort_step open_refusal reserve_refusal withdraw_refusal arrive_refusal closed_refusal best_effort_refusal bind_refusal frame_refusal compared_back compared_at lookup_from lookup frame_lookup octets_equal charge_of length_fits tagged_frame vid_of length_refusal
 long_made = refl
 
@@ -87,20 +87,20 @@ unfolding length_fits
 longer_unfit = refl
 
 -- from `frame_becomes`: without a VLAN tag no pair is looked up
-longest_so : (p m : List ℕ) → called (framing 255 (untagged longest_frame) 9) p m ≡ called (joining_best_effort 255 longest_charge 9) p m
+longest_so : (p m : List ℕ) → called (framing (untagged longest_frame) 9) p m ≡ called (joining_best_effort longest_charge 9) p m
 unfolding charge_of tagged_frame frame_lookup octets_equal all_to
-longest_so p m = frame_becomes p m (untagged longest_frame) 255 9 longest_fits
+longest_so p m = frame_becomes p m (untagged longest_frame) 9 longest_fits
 
 pub long_frames_say : LongFramesSay
 long_frames_say =
     record {
-      long_happens = happens_quickly (terms (link_of longest_charge) 1 0) long_opened long_calls long long_made;
+      long_happens = happens_quickly (link_of longest_charge) 1 long_opened long_calls long long_made;
       long_links = link_holds longest_charge long refl;
       long_joins = λ reply sent said shown happens link. let p = long_prompt reply sent said shown happens link in (p.0, p.1.0);
       long_sends = λ reply sent said shown happens link.
           only long_frame long_between [] (transmitted sent said shown) refl refl
           ((long_prompt reply sent said shown happens link).1.1 (long_between ++ (transmitted sent said shown ∷ [])) [] quiet_tick refl refl refl);
       longest_joins = longest_so;
-      longest_not_17 = λ p m. frame_not_17 p m (untagged longest_frame) 255 9 longest_fits;
+      longest_not_17 = λ p m. frame_not_17 p m (untagged longest_frame) 9 longest_fits;
       longer_17 = λ p opened. frame_refused p (untagged (longest_frame + 1)) opened longer_unfit;
     }

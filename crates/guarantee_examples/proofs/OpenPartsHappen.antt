@@ -27,7 +27,7 @@ use Rattle.gates.specs.Refusals.{open_refusal, reserve_refusal, arrive_refusal, 
 use Rattle.gates.specs.FrameRefusals.{bind_refusal, frame_refusal}
 use Rattle.port.specs.Quick.{length_refusal, quickly_called}
 use Rattle.stream.specs.Replies.{granted, refused_by}
-use Rattle.steps.specs.Call.{Terms, terms, Call, opening}
+use Rattle.steps.specs.Call.{terms, Call, opening}
 use Rattle.port.specs.Calls.{called}
 use Rattle.port_laws.specs.Lists.{fresh_record, fresh_memory}
 use Rattle.guarantee.specs.Events.{Event, events}
@@ -39,26 +39,26 @@ use Rattle.guarantee_examples.specs.Derived.{TagsKept}
 use Rattle.guarantee_examples.specs.LeftOpen.{later_calls, crowded, busy_with, busy_second, busy_third, purges_none, nearly, alone_calls, alone, arrived_with, discards, unfit_record}
 
 -- a list of calls that is made on a port never opened, and its events, by the quick calls
-pub record OnFresh (t : Terms) (later : List Call) (es : List Event) : Type 0 where
-  pub opened : (quickly_called (opening t) fresh_record fresh_memory).reply.refusal ≡ 0
-  pub so : events quickly_called (opening t ∷ later) fresh_record fresh_memory ≡ es
+pub record OnFresh (link delay : ℕ) (later : List Call) (es : List Event) : Type 0 where
+  pub opened : (quickly_called (opening (terms link delay)) fresh_record fresh_memory).reply.refusal ≡ 0
+  pub so : events quickly_called (opening (terms link delay) ∷ later) fresh_record fresh_memory ≡ es
 
 -- as a list of calls, and its events by the calls
-abbrev pub list_of : {t : Terms} {later : List Call} {es : List Event} → OnFresh t later es → CallList
-list_of {t} {later} made = quick_list t made.opened later
+abbrev pub list_of : {link delay : ℕ} {later : List Call} {es : List Event} → OnFresh link delay later es → CallList
+list_of {link} {delay} {later} made = quick_list link delay made.opened later
 
-pub happened : {t : Terms} {later : List Call} {es : List Event} (made : OnFresh t later es) → events called (opening t ∷ later) fresh_record fresh_memory ≡ es
+pub happened : {link delay : ℕ} {later : List Call} {es : List Event} (made : OnFresh link delay later es) → events called (opening (terms link delay) ∷ later) fresh_record fresh_memory ≡ es
 happened made = sym (quick_events_lem (list_of made)) ∙ made.so
 
-pub crowded_made : OnFresh (terms (link_of 600) 1 0) (later_calls crowded) crowded
+pub crowded_made : OnFresh (link_of 600) 1 (later_calls crowded) crowded
 unfolding all_to sum_to list_to iterate two_of four_of attempt arrive_of tick_of frame_at with_frame joined_memory front_of waiting open_at with_open prior_at with_prior delay_at with_delay link_at with_link waits_at with_waits queue_at queues_at with_queue stream_at with_stream with_place drain_at drains_at bound_at vid_at address_at with_binding dropped role_at opened_record arrive_step drained_at ticked_record tick_step transmit_step best_effort_step open_refusal reserve_refusal arrive_refusal closed_refusal best_effort_refusal bind_refusal frame_refusal compared_back compared_at lookup_from lookup frame_lookup octets_equal charge_of length_fits tagged_frame vid_of length_refusal
 crowded_made = record { opened = refl; so = refl }
 
-pub nearly_made : OnFresh (terms (link_of 600) 1 0) (later_calls nearly) nearly
+pub nearly_made : OnFresh (link_of 600) 1 (later_calls nearly) nearly
 unfolding all_to sum_to list_to iterate two_of four_of attempt arrive_of tick_of frame_at with_frame joined_memory front_of waiting open_at with_open prior_at with_prior delay_at with_delay link_at with_link waits_at with_waits queue_at queues_at with_queue stream_at with_stream with_place drain_at drains_at bound_at vid_at address_at with_binding dropped role_at opened_record arrive_step drained_at ticked_record tick_step transmit_step best_effort_step open_refusal reserve_refusal arrive_refusal closed_refusal best_effort_refusal bind_refusal frame_refusal compared_back compared_at lookup_from lookup frame_lookup octets_equal charge_of length_fits tagged_frame vid_of length_refusal
 nearly_made = record { opened = refl; so = refl }
 
-pub alone_made : OnFresh (terms (link_of 200) 3 0) alone_calls alone
+pub alone_made : OnFresh (link_of 200) 3 alone_calls alone
 unfolding all_to sum_to list_to iterate two_of four_of attempt arrive_of tick_of frame_at with_frame joined_memory front_of waiting open_at with_open prior_at with_prior delay_at with_delay link_at with_link waits_at with_waits queue_at queues_at with_queue stream_at with_stream with_place drain_at drains_at bound_at vid_at address_at with_binding dropped role_at opened_record arrive_step drained_at ticked_record tick_step transmit_step best_effort_step open_refusal reserve_refusal arrive_refusal closed_refusal best_effort_refusal bind_refusal frame_refusal compared_back compared_at lookup_from lookup frame_lookup octets_equal charge_of length_fits tagged_frame vid_of length_refusal
 alone_made = record { opened = refl; so = refl }
 
@@ -74,11 +74,11 @@ pub unfit_before : record_fits unfit_record fresh_memory ≡ false
 unfolding all_to sum_to list_to two_of four_of octets_equal waiting open_at prior_at delay_at link_at waits_at queue_at queues_at stream_at drain_at bound_at vid_at address_at record_fits
 unfit_before = refl
 
-pub unfit_refused : (called (opening (terms (link_of 600) 1 0)) unfit_record fresh_memory).reply ≡ refused_by 19
+pub unfit_refused : (called (opening (terms (link_of 600) 1)) unfit_record fresh_memory).reply ≡ refused_by 19
 unfolding all_to sum_to list_to two_of four_of octets_equal waiting open_at prior_at delay_at link_at waits_at queue_at queues_at stream_at drain_at bound_at vid_at address_at record_fits lent_refusal
 unfit_refused = refl
 
-pub unfit_opened : (quickly_called (opening (terms (link_of 600) 1 0)) unfit_record fresh_memory).reply ≡ granted 600 0
+pub unfit_opened : (quickly_called (opening (terms (link_of 600) 1)) unfit_record fresh_memory).reply ≡ granted 600 0
 unfolding open_at queues_at open_refusal length_refusal
 unfit_opened = refl
 

@@ -112,15 +112,15 @@ replies_of [] earlier p m q k = refl
 replies_of (c ∷ cs) earlier p m q k = ap (λ (rs : List Reply). (called c p m).reply ∷ rs) (replies_of cs _ _ _ _ _)
 
 -- from `quick_replies`
-alone_quick : replies quickly_called (opening (terms (link_of 200) 3 0) ∷ alone_calls) fresh_record fresh_memory ≡ map (λ (e : Event). e.reply) alone
+alone_quick : replies quickly_called (opening (terms (link_of 200) 3) ∷ alone_calls) fresh_record fresh_memory ≡ map (λ (e : Event). e.reply) alone
 alone_quick =
-    quick_replies (opening (terms (link_of 200) 3 0) ∷ alone_calls) fresh_record fresh_memory fresh_fits
-    ∙ (sym (replies_of (opening (terms (link_of 200) 3 0) ∷ alone_calls) [] fresh_record fresh_memory fresh_record fresh_memory) ∙ ap (map (λ (e : Event). e.reply)) (happened alone_made))
+    quick_replies (opening (terms (link_of 200) 3) ∷ alone_calls) fresh_record fresh_memory fresh_fits
+    ∙ (sym (replies_of (opening (terms (link_of 200) 3) ∷ alone_calls) [] fresh_record fresh_memory fresh_record fresh_memory) ∙ ap (map (λ (e : Event). e.reply)) (happened alone_made))
 
 -- from `frame_becomes`: without a VLAN tag no pair is looked up
-untagged_so : (p m : List ℕ) → called (framing 255 (untagged shortest_frame) 9) p m ≡ called (joining_best_effort 255 84 9) p m
+untagged_so : (p m : List ℕ) → called (framing (untagged shortest_frame) 9) p m ≡ called (joining_best_effort 84 9) p m
 unfolding charge_of tagged_frame frame_lookup octets_equal all_to
-untagged_so p m = frame_becomes p m (untagged shortest_frame) 255 9 shortest_fits
+untagged_so p m = frame_becomes p m (untagged shortest_frame) 9 shortest_fits
 
 short_unfit : length_fits (untagged (shortest_frame - 1)) ≡ false
 unfolding length_fits
@@ -141,9 +141,9 @@ theorems_say =
       unfit_before = unfit_before;
       unfit_refused = unfit_refused;
       unfit_opened = unfit_opened;
-      fit_after = granted_open_fits unfit_record fresh_memory (terms (link_of 600) 1 0) (ap (λ (r : Reply). r.refusal) unfit_opened);
+      fit_after = granted_open_fits unfit_record fresh_memory (terms (link_of 600) 1) (ap (λ (r : Reply). r.refusal) unfit_opened);
       untagged_joins = untagged_so;
-      untagged_not_17 = λ p m. frame_not_17 p m (untagged shortest_frame) 255 9 shortest_fits;
+      untagged_not_17 = λ p m. frame_not_17 p m (untagged shortest_frame) 9 shortest_fits;
       untagged_short = λ p opened. frame_refused p (untagged (shortest_frame - 1)) opened short_unfit;
     }
 

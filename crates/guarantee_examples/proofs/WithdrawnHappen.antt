@@ -53,7 +53,7 @@ left_alone_made : events quickly_called (calls_of left_alone) fresh_record fresh
 unfolding all_to sum_to list_to iterate two_of four_of attempt arrive_of tick_of frame_at with_frame joined_memory front_of waiting open_at with_open prior_at with_prior delay_at with_delay link_at with_link waits_at with_waits queue_at queues_at with_queue stream_at with_stream with_place drain_at with_drain drains_at bound_at vid_at address_at with_binding dropped role_at opened_record arrive_step drained_at ticked_record tick_step transmit_step best_effort_step open_refusal reserve_refusal withdraw_refusal arrive_refusal closed_refusal best_effort_refusal bind_refusal frame_refusal compared_back compared_at lookup_from lookup frame_lookup octets_equal charge_of length_fits tagged_frame vid_of length_refusal
 left_alone_made = refl
 
-tried_made : events quickly_called (opening (terms (link_of 600) 1 0) ∷ tried_calls) fresh_record fresh_memory ≡ tried
+tried_made : events quickly_called (opening (terms (link_of 600) 1) ∷ tried_calls) fresh_record fresh_memory ≡ tried
 unfolding all_to sum_to list_to iterate two_of four_of attempt arrive_of tick_of frame_at with_frame joined_memory front_of waiting open_at with_open prior_at with_prior delay_at with_delay link_at with_link waits_at with_waits queue_at queues_at with_queue stream_at with_stream with_place drain_at with_drain drains_at bound_at vid_at address_at with_binding dropped role_at opened_record arrive_step drained_at ticked_record tick_step transmit_step best_effort_step open_refusal reserve_refusal withdraw_refusal arrive_refusal closed_refusal best_effort_refusal bind_refusal frame_refusal compared_back compared_at lookup_from lookup frame_lookup octets_equal charge_of length_fits tagged_frame vid_of length_refusal
 tried_made = refl
 
@@ -64,11 +64,11 @@ hurry_made = refl
 pub withdrawn_happen : WithdrawnHappen
 withdrawn_happen =
     record {
-      handed_to_6 = happens_quickly (terms (link_of 84) 1 0) opened_84 (later_calls (handed 6)) (handed 6) handed_6_made;
-      handed_to_5 = happens_quickly (terms (link_of 84) 1 0) opened_84 (later_calls (handed 5)) (handed 5) handed_5_made;
-      withdrawn_happens = happens_quickly (terms (link_of 600) 1 0) opened_600 (later_calls withdrawn) withdrawn withdrawn_made;
-      leaving_happens = happens_quickly (terms (link_of 600) 1 0) opened_600 (later_calls leaving) leaving leaving_made;
-      left_alone_happens = happens_quickly (terms (link_of 200) 3 0) opened_200 (later_calls left_alone) left_alone left_alone_made;
-      tried_happens = happens_quickly (terms (link_of 600) 1 0) opened_600 tried_calls tried tried_made;
+      handed_to_6 = happens_quickly (link_of 84) 1 opened_84 (later_calls (handed 6)) (handed 6) handed_6_made;
+      handed_to_5 = happens_quickly (link_of 84) 1 opened_84 (later_calls (handed 5)) (handed 5) handed_5_made;
+      withdrawn_happens = happens_quickly (link_of 600) 1 opened_600 (later_calls withdrawn) withdrawn withdrawn_made;
+      leaving_happens = happens_quickly (link_of 600) 1 opened_600 (later_calls leaving) leaving leaving_made;
+      left_alone_happens = happens_quickly (link_of 200) 3 opened_200 (later_calls left_alone) left_alone left_alone_made;
+      tried_happens = happens_quickly (link_of 600) 1 opened_600 tried_calls tried tried_made;
       hurry_happens = hurry_made;
     }

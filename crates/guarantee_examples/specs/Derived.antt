@@ -27,11 +27,11 @@ tag_octet = part_length + place_length - 1
 
 -- the lists happen, on a port never opened, with the open parts as they are written; so nothing below is said of no list
 pub record OpenPartsHappen : Type 0 where
-  pub crowded_happens : events called (opening (terms (link_of 600) 1 0) ∷ later_calls crowded) fresh_record fresh_memory ≡ crowded
+  pub crowded_happens : events called (opening (terms (link_of 600) 1) ∷ later_calls crowded) fresh_record fresh_memory ≡ crowded
   pub crowded_links : LinkCondition 600 crowded
   pub busy_happens : busy_with busy_second busy_third purges_none ≡ busy
-  pub nearly_happens : events called (opening (terms (link_of 600) 1 0) ∷ later_calls nearly) fresh_record fresh_memory ≡ nearly
-  pub alone_happens : events called (opening (terms (link_of 200) 3 0) ∷ alone_calls) fresh_record fresh_memory ≡ alone
+  pub nearly_happens : events called (opening (terms (link_of 600) 1) ∷ later_calls nearly) fresh_record fresh_memory ≡ nearly
+  pub alone_happens : events called (opening (terms (link_of 200) 3) ∷ alone_calls) fresh_record fresh_memory ≡ alone
   pub arrived_happens : arrived_with (refused_by discards) (refused_by discards) ≡ permitted100
 
 -- the last octet of the frame's tag in the memory of each run of `permitted200`: the caller's tag, and the call's number
@@ -89,17 +89,17 @@ pub record TheoremsSay : Type 0 where
   pub nearly_fails : LinkCondition 600 nearly → ⊥
   pub nearly_purges_none : (reply : Reply) → Happens (nearly_with reply) → reply ≡ purges_none
   -- `quick_events_lem`, `quick_replies`: by the quick calls the same happens, and they reply the same
-  pub quick_crowded : events quickly_called (opening (terms (link_of 600) 1 0) ∷ later_calls crowded) fresh_record fresh_memory ≡ crowded
-  pub quick_alone : replies quickly_called (opening (terms (link_of 200) 3 0) ∷ alone_calls) fresh_record fresh_memory ≡ map (λ (e : Event). e.reply) alone
+  pub quick_crowded : events quickly_called (opening (terms (link_of 600) 1) ∷ later_calls crowded) fresh_record fresh_memory ≡ crowded
+  pub quick_alone : replies quickly_called (opening (terms (link_of 200) 3) ∷ alone_calls) fresh_record fresh_memory ≡ map (λ (e : Event). e.reply) alone
   -- `stays_fit`, `quick_call`: after any call on a port never opened the quick form of any other equals it
   pub quick_second : (c d : Call) → let o = called c fresh_record fresh_memory in quickly_called d o.port o.memory ≡ called d o.port o.memory
   -- `granted_open_fits`: the quick Open of an unfit record, which Open refuses, leaves one that is fit
   pub unfit_before : record_fits unfit_record fresh_memory ≡ false
-  pub unfit_refused : (called (opening (terms (link_of 600) 1 0)) unfit_record fresh_memory).reply ≡ refused_by 19
-  pub unfit_opened : (quickly_called (opening (terms (link_of 600) 1 0)) unfit_record fresh_memory).reply ≡ granted 600 0
-  pub fit_after : let o = quickly_called (opening (terms (link_of 600) 1 0)) unfit_record fresh_memory in record_fits o.port o.memory ≡ true
+  pub unfit_refused : (called (opening (terms (link_of 600) 1)) unfit_record fresh_memory).reply ≡ refused_by 19
+  pub unfit_opened : (quickly_called (opening (terms (link_of 600) 1)) unfit_record fresh_memory).reply ≡ granted 600 0
+  pub fit_after : let o = quickly_called (opening (terms (link_of 600) 1)) unfit_record fresh_memory in record_fits o.port o.memory ≡ true
   -- `frame_becomes`: a frame without a VLAN tag, of the fewest octets that it may have, is a Best effort on every record and memory ..
-  pub untagged_joins : (p m : List ℕ) → called (framing 255 (untagged shortest_frame) 9) p m ≡ called (joining_best_effort 255 84 9) p m
+  pub untagged_joins : (p m : List ℕ) → called (framing (untagged shortest_frame) 9) p m ≡ called (joining_best_effort 84 9) p m
   -- .. `frame_not_17`: it is nowhere refused with 17; `Frame-refused`: with an octet less it is, on every open port
-  pub untagged_not_17 : (p m : List ℕ) → (called (framing 255 (untagged shortest_frame) 9) p m).reply.refusal ≡ 17 → ⊥
+  pub untagged_not_17 : (p m : List ℕ) → (called (framing (untagged shortest_frame) 9) p m).reply.refusal ≡ 17 → ⊥
   pub untagged_short : (p : List ℕ) → open_at p ≡ true → frame_refusal p (untagged (shortest_frame - 1)) ≡ 17

@@ -30,7 +30,7 @@ pub record Happens (es : List Event) : Type 0 where
 -- tick. The frames are the same but for their calls
 abbrev pub busy : List Event
 busy =
-    replied (opening (terms (link_of 84) 1 0)) (granted 84 0)
+    replied (opening (terms (link_of 84) 1)) (granted 84 0)
     ∷ replied (reserving 5 84) (granted 0 0)
     ∷ replied (arriving 5 84 7) (granted 1 84)
     ∷ replied (arriving 5 84 7) (granted 2 84)
@@ -55,16 +55,16 @@ after_arrival =
 
 abbrev pub light : List Event
 light =
-    replied (opening (terms (link_of 600) 1 0)) (granted 600 0)
+    replied (opening (terms (link_of 600) 1)) (granted 600 0)
     ∷ replied (reserving 5 200) (granted 400 0)
-    ∷ replied (joining_best_effort 255 300 1) (granted 300 0)
+    ∷ replied (joining_best_effort 300 1) (granted 300 0)
     ∷ replied (arriving 5 120 7) (granted 1 80)
     ∷ after_arrival
 
 -- share 600, and an epoch that sends the least charge less than that: the tick after it purges
 abbrev pub withheld : List Event
 withheld =
-    replied (opening (terms (link_of 600) 1 0)) (granted 600 0)
+    replied (opening (terms (link_of 600) 1)) (granted 600 0)
     ∷ replied (reserving 5 600) (granted 0 0)
     ∷ replied (arriving 5 516 7) (granted 1 84)
     ∷ replied (arriving 5 84 8) (granted 1 600)
@@ -75,10 +75,10 @@ withheld =
 
 -- the same arrival on a stream with another P
 abbrev pub permitted200 : List Event
-permitted200 = replied (opening (terms (link_of 600) 1 0)) (granted 600 0) ∷ replied (reserving 5 200) (granted 400 0) ∷ replied (arriving 5 120 7) (granted 1 80) ∷ []
+permitted200 = replied (opening (terms (link_of 600) 1)) (granted 600 0) ∷ replied (reserving 5 200) (granted 400 0) ∷ replied (arriving 5 120 7) (granted 1 80) ∷ []
 
 abbrev pub permitted100 : List Event
-permitted100 = replied (opening (terms (link_of 600) 1 0)) (granted 600 0) ∷ replied (reserving 5 100) (granted 500 0) ∷ replied (arriving 5 120 7) (refused_by 14) ∷ []
+permitted100 = replied (opening (terms (link_of 600) 1)) (granted 600 0) ∷ replied (reserving 5 100) (granted 500 0) ∷ replied (arriving 5 120 7) (refused_by 14) ∷ []
 
 -- a frame of as many octets to an address, with a VLAN tag whose priority bits are set, and one without
 abbrev pub address : List ℕ
@@ -95,10 +95,10 @@ abbrev pub framed_calls : List Call
 framed_calls =
     reserving 5 200
     ∷ binding 5 address 100
-    ∷ framing 255 (tagged_to 100 60) 7
-    ∷ framing 255 (tagged_to 101 96) 8
-    ∷ framing 255 (untagged 60) 9
-    ∷ framing 255 (tagged_to 100 59) 10
+    ∷ framing (tagged_to 100 60) 7
+    ∷ framing (tagged_to 101 96) 8
+    ∷ framing (untagged 60) 9
+    ∷ framing (tagged_to 100 59) 10
     ∷ ticking
     ∷ transmitting
     ∷ transmitting
@@ -107,13 +107,13 @@ framed_calls =
 -- each counts as what it becomes, and the one that is too short as itself
 abbrev pub framed : List Event
 framed =
-    replied (opening (terms (link_of 600) 1 0)) (granted 600 0)
+    replied (opening (terms (link_of 600) 1)) (granted 600 0)
     ∷ replied (reserving 5 200) (granted 400 0)
     ∷ replied (binding 5 address 100) (granted 0 0)
     ∷ replied (arriving 5 84 7) (granted 1 116)
-    ∷ replied (joining_best_effort 255 120 8) (granted 120 0)
-    ∷ replied (joining_best_effort 255 84 9) (granted 204 0)
-    ∷ replied (framing 255 (tagged_to 100 59) 10) (refused_by 17)
+    ∷ replied (joining_best_effort 120 8) (granted 120 0)
+    ∷ replied (joining_best_effort 84 9) (granted 204 0)
+    ∷ replied (framing (tagged_to 100 59) 10) (refused_by 17)
     ∷ replied ticking (granted 0 0)
     ∷ sending (reserved_sent (marked_frame 5 84 7 3)) (granted 5 7)
     ∷ sending (best_effort_sent (marked_frame best_effort_stream 120 8 4)) (granted 255 8)
@@ -126,7 +126,7 @@ silently c p m = cond (is_transmit (action_of c)) (outcome (granted nothing 0) p
 -- and what happens by it: the link condition is met by its transmit, and a tick purges
 abbrev pub silent : List Event
 silent =
-    replied (opening (terms (link_of 600) 1 0)) (granted 600 0)
+    replied (opening (terms (link_of 600) 1)) (granted 600 0)
     ∷ replied (reserving 5 200) (granted 400 0)
     ∷ replied (arriving 5 120 7) (granted 1 80)
     ∷ replied ticking (granted 0 0)

@@ -29,7 +29,7 @@ later_calls (e ∷ es) = calls_of es
 -- share 600, in equal parts for streams 5, 6 and 7: 6 and 7 fill their places at once, 6 until a frame is discarded, and after them 5 offers 120 of its
 -- 200 octets, and as much again after the tick, with the same tag. Open are the reply to the first of these and the third transmit
 abbrev pub crowded_opening : List Event
-crowded_opening = replied (opening (terms (link_of 600) 1 0)) (granted 600 0) ∷ []
+crowded_opening = replied (opening (terms (link_of 600) 1)) (granted 600 0) ∷ []
 
 abbrev pub crowded_grant : Event
 crowded_grant = replied (reserving 5 200) (granted 400 0)
@@ -90,7 +90,7 @@ crowded_own = arrival 120 ∷ tick ∷ arrival 120 ∷ tick ∷ []
 
 -- the list `busy`, of which are open the transmits after the second and after the third tick and what the fourth tick replies
 abbrev pub busy_before : List Event
-busy_before = replied (opening (terms (link_of 84) 1 0)) (granted 84 0) ∷ replied (reserving 5 84) (granted 0 0) ∷ replied (arriving 5 84 7) (granted 1 84) ∷ []
+busy_before = replied (opening (terms (link_of 84) 1)) (granted 84 0) ∷ replied (reserving 5 84) (granted 0 0) ∷ replied (arriving 5 84 7) (granted 1 84) ∷ []
 
 abbrev pub busy_next_arrival : Event
 busy_next_arrival = replied (arriving 5 84 7) (granted 2 84)
@@ -139,7 +139,7 @@ nearly_charge = 517
 
 abbrev pub nearly_before : List Event
 nearly_before =
-    replied (opening (terms (link_of 600) 1 0)) (granted 600 0)
+    replied (opening (terms (link_of 600) 1)) (granted 600 0)
     ∷ replied (reserving 5 600) (granted 0 0)
     ∷ replied (arriving 5 nearly_charge 7) (granted 1 83)
     ∷ replied (arriving 5 84 8) (granted 2 516)
@@ -160,9 +160,9 @@ abbrev pub alone_calls : List Call
 alone_calls =
     reserving 6 200
     ∷ binding 6 address 100
-    ∷ framing 255 (tagged_to 100 176) 1
+    ∷ framing (tagged_to 100 176) 1
     ∷ arriving 6 200 2
-    ∷ joining_best_effort 255 300 9
+    ∷ joining_best_effort 300 9
     ∷ arriving 6 200 3
     ∷ arriving 6 84 4
     ∷ ticking
@@ -170,7 +170,7 @@ alone_calls =
     ∷ []
 
 abbrev pub alone_opening : List Event
-alone_opening = replied (opening (terms (link_of 200) 3 0)) (granted 200 0) ∷ []
+alone_opening = replied (opening (terms (link_of 200) 3)) (granted 200 0) ∷ []
 
 abbrev pub alone_grant : Event
 alone_grant = replied (reserving 6 200) (granted 0 0)
@@ -180,7 +180,7 @@ alone_later first second third fourth =
     replied (binding 6 address 100) (granted 0 0)
     ∷ replied (arriving 6 200 1) first
     ∷ replied (arriving 6 200 2) second
-    ∷ replied (joining_best_effort 255 300 9) (granted 300 0)
+    ∷ replied (joining_best_effort 300 9) (granted 300 0)
     ∷ replied (arriving 6 200 3) third
     ∷ replied (arriving 6 84 4) fourth
     ∷ replied ticking (granted 0 0)
@@ -207,7 +207,7 @@ alone = alone_with (granted 1 200) (granted 2 200) (granted 3 0) six_last
 -- the list `permitted100`, of which the arrival's replies are open
 abbrev pub arrived_with : Reply → Reply → List Event
 arrived_with reply shown =
-    replied (opening (terms (link_of 600) 1 0)) (granted 600 0) ∷ replied (reserving 5 100) (granted 500 0) ∷ replied_as (arriving 5 120 7) reply shown ∷ []
+    replied (opening (terms (link_of 600) 1)) (granted 600 0) ∷ replied (reserving 5 100) (granted 500 0) ∷ replied_as (arriving 5 120 7) reply shown ∷ []
 
 -- the refusal that it happens with, and those with which it never does
 abbrev pub discards : ℕ

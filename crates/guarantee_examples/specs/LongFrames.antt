@@ -28,7 +28,7 @@ abbrev pub long_calls : List Call
 long_calls =
     reserving 5 longest_charge
     ∷ binding 5 address 100
-    ∷ framing 255 (tagged_to 100 longest_frame) 7
+    ∷ framing (tagged_to 100 longest_frame) 7
     ∷ ticking
     ∷ arriving 5 longest_charge 8
     ∷ transmitting
@@ -37,7 +37,7 @@ long_calls =
 
 -- and its events, of which are open the reply to the first frame and what the transmit sends
 abbrev pub long_opening : List Event
-long_opening = replied (opening (terms (link_of longest_charge) 1 0)) (granted longest_charge 0) ∷ []
+long_opening = replied (opening (terms (link_of longest_charge) 1)) (granted longest_charge 0) ∷ []
 
 abbrev pub long_grant : Event
 long_grant = replied (reserving 5 longest_charge) (granted 0 0)
@@ -70,7 +70,7 @@ pub record LongFramesSay : Type 0 where
   pub long_sends : (reply : Reply) (sent : Sent) (said shown : Reply) → let es = long_with reply (transmitted sent said shown) in
       Happens es → LinkCondition longest_charge es → sent ≡ reserved_sent long_frame
   -- `frame_becomes`, `frame_not_17`: a longest frame without a VLAN tag is a Best effort on every record and memory, nowhere refused with 17 ..
-  pub longest_joins : (p m : List ℕ) → called (framing 255 (untagged longest_frame) 9) p m ≡ called (joining_best_effort 255 longest_charge 9) p m
-  pub longest_not_17 : (p m : List ℕ) → (called (framing 255 (untagged longest_frame) 9) p m).reply.refusal ≡ 17 → ⊥
+  pub longest_joins : (p m : List ℕ) → called (framing (untagged longest_frame) 9) p m ≡ called (joining_best_effort longest_charge 9) p m
+  pub longest_not_17 : (p m : List ℕ) → (called (framing (untagged longest_frame) 9) p m).reply.refusal ≡ 17 → ⊥
   -- .. `Frame-refused`: with an octet more it is, on every open port
   pub longer_17 : (p : List ℕ) → open_at p ≡ true → frame_refusal p (untagged (longest_frame + 1)) ≡ 17

@@ -103,7 +103,7 @@ abbrev pub withdrawn_after : List Event
 withdrawn_after = withdrawal_of_5 ∷ withdrawn_arrival ∷ []
 
 abbrev pub withdrawn_opening : List Event
-withdrawn_opening = replied (opening (terms (link_of 600) 1 0)) (granted 600 0) ∷ []
+withdrawn_opening = replied (opening (terms (link_of 600) 1)) (granted 600 0) ∷ []
 
 abbrev pub withdrawn : List Event
 withdrawn = withdrawn_opening ++ (withdrawn_grant ∷ withdrawn_after)
@@ -145,11 +145,11 @@ leaving_frame = marked_frame 5 120 7 2
 -- Open are the replies to its arrivals
 abbrev pub left_alone_with : Reply → Reply → List Event
 left_alone_with first second =
-    replied (opening (terms (link_of 200) 3 0)) (granted 200 0)
+    replied (opening (terms (link_of 200) 3)) (granted 200 0)
     ∷ replied (reserving 5 200) (granted 0 0)
     ∷ replied (arriving 5 120 7) first
     ∷ withdrawal_of_5
-    ∷ replied (joining_best_effort 255 300 9) (granted 300 0)
+    ∷ replied (joining_best_effort 300 9) (granted 300 0)
     ∷ replied (arriving 5 84 8) second
     ∷ quiet_tick
     ∷ replied ticking (granted 1 120)
@@ -175,13 +175,13 @@ tried_calls =
     ∷ reserving 6 83
     ∷ withdrawing 5
     ∷ ticking
-    ∷ framing 255 (tagged_to 100 59) 8
-    ∷ framing 255 (tagged_to 100 60) 9
+    ∷ framing (tagged_to 100 59) 8
+    ∷ framing (tagged_to 100 60) 9
     ∷ ticking
     ∷ binding 5 address 101
     ∷ reserving 5 200
     ∷ ticking
-    ∷ framing 255 (tagged_to 100 60) 10
+    ∷ framing (tagged_to 100 60) 10
     ∷ arriving 5 84 11
     ∷ withdrawing 5
     ∷ reserving 5 83
@@ -191,7 +191,7 @@ tried_calls =
 
 abbrev pub tried_before : List Event
 tried_before =
-    replied (opening (terms (link_of 600) 1 0)) (granted 600 0)
+    replied (opening (terms (link_of 600) 1)) (granted 600 0)
     ∷ replied (reserving 5 200) (granted 400 0)
     ∷ replied (binding 5 address 100) (granted 0 0)
     ∷ replied (arriving 5 120 7) (granted 1 80)
@@ -205,7 +205,7 @@ tried_to_third_tick first second third =
     ∷ replied (reserving 6 83) (refused_by 7)
     ∷ replied (withdrawing 5) second
     ∷ replied ticking (granted 1 120)
-    ∷ replied (framing 255 (tagged_to 100 59) 8) (refused_by 17)
+    ∷ replied (framing (tagged_to 100 59) 8) (refused_by 17)
     ∷ replied (arriving 5 84 9) third
     ∷ []
 
@@ -218,7 +218,7 @@ tried_while first second third fourth = tried_to_third_tick first second third +
 -- and after it: the pair is bound no longer, so that a Frame to it is best effort; then the number is reserved again, and its frame accepted
 abbrev pub tried_free : Reply → Reply → List Event
 tried_free fifth sixth =
-    replied (joining_best_effort 255 84 10) (granted 84 0)
+    replied (joining_best_effort 84 10) (granted 84 0)
     ∷ replied (arriving 5 84 11) fifth
     ∷ replied (withdrawing 5) sixth
     ∷ []
@@ -241,7 +241,7 @@ tried = tried_with (refused_by 25) (refused_by 25) (refused_by 25) (refused_by 2
 
 -- calls between a withdrawal and the last tick of the draining, two of them refused
 abbrev pub between_calls : List Call
-between_calls = reserving 6 83 ∷ ticking ∷ framing 255 (tagged_to 100 59) 8 ∷ ticking ∷ ticking ∷ []
+between_calls = reserving 6 83 ∷ ticking ∷ framing (tagged_to 100 59) 8 ∷ ticking ∷ ticking ∷ []
 
 -- a machine whose withdrawn streams drain for so many ticks fewer
 abbrev pub fewer_ticks : ℕ
@@ -254,8 +254,8 @@ hurried (to_reserve s permitted) o = o
 hurried (to_withdraw s) o =
     cond (eqb o.reply.refusal 0) (outcome o.reply (with_drain o.port s (queues_at o.port - fewer_ticks)) o.memory) o
 hurried (to_arrive s charge tag) o = o
-hurried (to_best_effort caller charge tag) o = o
-hurried (to_frame caller octets tag) o = o
+hurried (to_best_effort charge tag) o = o
+hurried (to_frame octets tag) o = o
 hurried neither o = o
 
 abbrev pub hurriedly : Call → List ℕ → List ℕ → Outcome

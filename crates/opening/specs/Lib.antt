@@ -1,3 +1,3 @@
--- The steps of Open(L, K, F), Reserve(s, P) and Withdraw(s): document 01, "Steps", and document 02, CR 1 and CR 6.
+-- The steps of Open(L, K), Reserve(s, P) and Withdraw(s): document 01, "Steps", and document 02, CR 1.
 pub mod Opening
 pub mod Withdrawing

@@ -1,11 +1,9 @@
--- Open(L, K, F) and Reserve(s, P).
-use Rattle.std.specs.Prelude.{ℕ, ◌+◌, ◌-◌, List, []}
+-- Open(L, K) and Reserve(s, P).
+use Rattle.std.specs.Prelude.{ℕ, ◌+◌, ◌-◌, List}
 use Rattle.lists.specs.Turns.{iterate}
 use Rattle.stream.specs.State.{reserve_of}
 use Rattle.stream.specs.Replies.{granted}
 use Rattle.queue.specs.Ring.{empty_queue}
-use Rattle.queue.specs.Waiting.{waits_of}
-use Rattle.record.specs.declared.Delay.{Delay}
 use Rattle.record.specs.Layout.{stream_count}
 use Rattle.record.specs.Queues.{queues_at}
 use Rattle.record.specs.Head.{link_at, with_open, with_prior, with_delay, with_link, with_waits, with_queue}
@@ -15,13 +13,9 @@ use Rattle.record.specs.Reservations.{permitted_sum}
 use Rattle.steps.specs.Call.{Terms}
 use Rattle.steps.specs.Outcome.{Outcome, outcome}
 
--- the delay bounds that an Open asks for: K and F
-abbrev pub delay_of : Terms → Delay
-delay_of t = record { epochs = t.delay; firmware = t.firmware }
-
--- the head of an open port: L, K and F, prior is queue 0, W is 0, and no firmware octet waits
+-- the head of an open port: L and K, prior is queue 0, W is 0
 abbrev pub opened_head : List ℕ → Terms → List ℕ
-opened_head p t = with_waits (with_link (with_delay (with_prior (with_open p) 0) (delay_of t)) t.link) (waits_of [])
+opened_head p t = with_waits (with_link (with_delay (with_prior (with_open p) 0) t.delay) t.link) 0
 
 -- "empties all queues", those for reserved traffic and best effort
 abbrev pub all_emptied : List ℕ → List ℕ
@@ -31,7 +25,7 @@ all_emptied p = iterate (λ q l. with_queue l q empty_queue) (queues_at p + 1) p
 abbrev pub all_dropped : List ℕ → List ℕ
 all_dropped = iterate (λ s l. dropped l s) stream_count
 
--- the record after Open(L, K, F), whose reply is the share
+-- the record after Open(L, K), whose reply is the share
 unfoldable pub opened_record : List ℕ → Terms → List ℕ
 opened_record p t = all_dropped (all_emptied (opened_head p t))
 

@@ -7,26 +7,19 @@ ghost use Rattle.steps.specs.Call.{terms};
 ghost use Rattle.opening.specs.Opening.{opened_head, all_emptied, all_dropped, opened_record, free_share, reserved_record};
 ghost use Rattle.opening.specs.Withdrawing.{withdrawn_record};
 
-use queue::{Queue, Waits};
-use record::Delay;
+use queue::Queue;
 use stream::{Reply, Stream};
 
 // Writes the head of an open port.
-fn open_head(port: &mut [u8], link: u16, delay: u8, firmware: u8)
+fn open_head(port: &mut [u8], link: u16, delay: u8)
     requires { Whole port.old }
-    ensures { port.new ≡ opened_head port.old (terms link delay firmware) }
+    ensures { port.new ≡ opened_head port.old (terms link delay) }
 {
     record::head::put_open(port);
     record::head::put_prior(port, 0);
-    record::head::put_delay(
-        port,
-        Delay {
-            epochs: delay,
-            firmware,
-        },
-    );
+    record::head::put_delay(port, delay);
     record::head::put_link(port, link);
-    record::head::put_waits(port, Waits::none());
+    record::head::put_waits(port, 0);
 }
 
 // Empties all queues.
@@ -54,12 +47,12 @@ fn drop_streams(port: &mut [u8])
     }
 }
 
-// Open(L, K, F).
-pub fn open_port(port: &mut [u8], link: u16, delay: u8, firmware: u8) -> Reply
+// Open(L, K).
+pub fn open_port(port: &mut [u8], link: u16, delay: u8) -> Reply
     requires { Whole port.old }
-    ensures { (result ≡ granted (share_of link) 0) × (port.new ≡ opened_record port.old (terms link delay firmware)) }
+    ensures { (result ≡ granted (share_of link) 0) × (port.new ≡ opened_record port.old (terms link delay)) }
 {
-    open_head(port, link, delay, firmware);
+    open_head(port, link, delay);
     empty_queues(port);
     drop_streams(port);
     steps::granted(ranges::share(link), 0)

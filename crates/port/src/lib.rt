@@ -19,15 +19,15 @@ ghost use Rattle.port.specs.Calls.{checked};
 
 use stream::Reply;
 
-// Open(L, K, F).
-pub fn open_port(port: &mut [u8], memory: &[u8], link: u32, delay: u32, firmware: u32) -> Reply
-    ensures { outcome result port.new memory.now ≡ checked (λ p. open_refusal p (terms link delay firmware)) (λ p m. open_step p m (terms link delay firmware)) port.old memory.now }
+// Open(L, K).
+pub fn open_port(port: &mut [u8], memory: &[u8], link: u32, delay: u32) -> Reply
+    ensures { outcome result port.new memory.now ≡ checked (λ p. open_refusal p (terms link delay)) (λ p m. open_step p m (terms link delay)) port.old memory.now }
 {
     let refusal = fitness::refusal(port, memory);
     if refusal != 0 {
         return steps::refused(refusal);
     }
-    gates::open_port(port, memory, link, delay, firmware)
+    gates::open_port(port, memory, link, delay)
 }
 
 // Reserve(s, P).
@@ -85,15 +85,15 @@ pub fn transmit(port: &mut [u8], memory: &[u8]) -> Reply
     gates::transmit(port, memory)
 }
 
-// Best effort(caller, a, tag).
-pub fn best_effort(port: &mut [u8], memory: &mut [u8], caller: u8, charge: u32, tag: u32) -> Reply
-    ensures { outcome result port.new memory.new ≡ checked (λ p. best_effort_refusal p caller charge) (λ p m. best_effort_step p m caller charge tag) port.old memory.old }
+// Best effort(a, tag).
+pub fn best_effort(port: &mut [u8], memory: &mut [u8], charge: u32, tag: u32) -> Reply
+    ensures { outcome result port.new memory.new ≡ checked (λ p. best_effort_refusal p charge) (λ p m. best_effort_step p m charge tag) port.old memory.old }
 {
     let refusal = fitness::refusal(port, memory);
     if refusal != 0 {
         return steps::refused(refusal);
     }
-    gates::best_effort(port, memory, caller, charge, tag)
+    gates::best_effort(port, memory, charge, tag)
 }
 
 // Bind(s, address, VID).
@@ -113,13 +113,13 @@ pub fn bind(
     gates::bind(port, memory, stream, address, vid)
 }
 
-// Frame(caller, octets, tag).
-pub fn frame(port: &mut [u8], memory: &mut [u8], caller: u8, octets: &[u8], tag: u32) -> Reply
-    ensures { outcome result port.new memory.new ≡ checked (λ p. frame_refusal p octets.now) (λ p m. frame_step p m caller octets.now tag) port.old memory.old }
+// Frame(octets, tag).
+pub fn frame(port: &mut [u8], memory: &mut [u8], octets: &[u8], tag: u32) -> Reply
+    ensures { outcome result port.new memory.new ≡ checked (λ p. frame_refusal p octets.now) (λ p m. frame_step p m octets.now tag) port.old memory.old }
 {
     let refusal = fitness::refusal(port, memory);
     if refusal != 0 {
         return steps::refused(refusal);
     }
-    gates::frame(port, memory, caller, octets, tag)
+    gates::frame(port, memory, octets, tag)
 }

@@ -14,7 +14,6 @@ use Rattle.stream.specs.State.{reserve_of}
 use Rattle.stream.specs.Steps.{arrive_of}
 use Rattle.stream.specs.Replies.{reply_of}
 use Rattle.queue.specs.declared.Frame.{Frame}
-use Rattle.queue.specs.Waiting.{joined_waits}
 use Rattle.queue.specs.Ring.{place_count, joined_queue, sent_queue}
 use Rattle.record.specs.Queues.{queues_at, last_place_at, best_effort_at}
 use Rattle.record.specs.Head.{open_at, waits_at, queue_at, with_queue}
@@ -30,7 +29,7 @@ use Rattle.steps.proofs.OutcomeLaws.{grants, refuses}
 use Rattle.steps.proofs.RoleLaws.{role_below}
 use Rattle.arriving.specs.Arriving.{arrived, arrive_step}
 use Rattle.sending.specs.Sending.{transmit_step}
-use Rattle.best_effort.specs.BestEffort.{best_effort_frame, best_effort_step}
+use Rattle.best_effort.specs.BestEffort.{best_effort_step}
 use Rattle.header.specs.Header.{charge_of}
 use Rattle.binding.specs.declared.Lookup.{Lookup}
 use Rattle.binding.specs.declared.Lookup.TheVariants.{Bound, Unbound}
@@ -76,12 +75,12 @@ module _ (p m : List ℕ) (s : ℕ) (opened : open_at p ≡ true) (drains : drai
       let r = arrive_of (last_place_at p) (stream_at p t) charge in
       arrived_leaves t (another t (arrive_allowed p t charge e).keeps) (record { stream = t; charge = charge; tag = tag }) (reply_of r) r
 
-  best_effort_leaves : (caller charge tag : ℕ) → Leaves (best_effort_step p m caller charge tag)
+  best_effort_leaves : (charge tag : ℕ) → Leaves (best_effort_step p m charge tag)
   unfolding best_effort_step
-  best_effort_leaves caller charge tag =
+  best_effort_leaves charge tag =
       let best = best_effort_at p in
       let k = with_queue p best (joined_queue (queue_at p best)) in
-      beside_both s p k _ (beside_queue s p best (joined_queue (queue_at p best)) (omega (arith, queues_most p))) (beside_waits s k (joined_waits (waits_at p) (best_effort_frame caller charge tag)))
+      beside_both s p k _ (beside_queue s p best (joined_queue (queue_at p best)) (omega (arith, queues_most p))) (beside_waits s k (waits_at p + charge))
 
   -- a queue whose first frame is sent
   sent_leaves : (q : ℕ) → q < queues_at p + 1 → Beside s p (with_queue p q (sent_queue (queue_at p q)))
@@ -100,9 +99,9 @@ module _ (p m : List ℕ) (s : ℕ) (opened : open_at p ≡ true) (drains : drai
       (sent_leaves y (omega (arith, role_below p current_role))))
       (sent_leaves x (omega (arith, role_below p prior_role)))
 
-  became_leaves : (caller charge tag : ℕ) (found : Lookup) → Leaves (becomes p m caller charge tag found)
-  became_leaves caller charge tag (Bound t) = gated_leaves (arrive_refusal p t charge) (arrive_step p m t charge tag) (arrive_leaves t charge tag)
-  became_leaves caller charge tag Unbound = gated_leaves (best_effort_refusal p caller charge) (best_effort_step p m caller charge tag) (λ e. best_effort_leaves caller charge tag)
+  became_leaves : (charge tag : ℕ) (found : Lookup) → Leaves (becomes p m charge tag found)
+  became_leaves charge tag (Bound t) = gated_leaves (arrive_refusal p t charge) (arrive_step p m t charge tag) (arrive_leaves t charge tag)
+  became_leaves charge tag Unbound = gated_leaves (best_effort_refusal p charge) (best_effort_step p m charge tag) (λ e. best_effort_leaves charge tag)
 
   -- every call but a tick
   step_leaves : (c : Call) → (c ≡ ticking → ⊥) → refusal_of c p ≡ 0 → Leaves (step_of c p m)
@@ -112,9 +111,9 @@ module _ (p m : List ℕ) (s : ℕ) (opened : open_at p ≡ true) (drains : drai
   step_leaves (arriving t charge tag) other e = arrive_leaves t charge tag e
   step_leaves ticking other e = absurd (other refl)
   step_leaves transmitting other e = transmit_leaves
-  step_leaves (joining_best_effort caller charge tag) other e = best_effort_leaves caller charge tag
+  step_leaves (joining_best_effort charge tag) other e = best_effort_leaves charge tag
   step_leaves (binding t address vid) other e = beside_binding s p t (another t (bind_allowed p t address vid e).keeps) address vid
-  step_leaves (framing caller octets tag) other e = became_leaves caller (charge_of octets) tag (frame_lookup p octets)
+  step_leaves (framing octets tag) other e = became_leaves (charge_of octets) tag (frame_lookup p octets)
 
   pub call_beside : (c : Call) → (c ≡ ticking → ⊥) → Beside s p (called c p m).port
   call_beside c other = gated_leaves (lent_refusal p m) (performed (refusal_of c) (step_of c) p m) (λ lent. gated_leaves (refusal_of c p) (step_of c p m) (step_leaves c other))

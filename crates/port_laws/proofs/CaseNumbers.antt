@@ -34,9 +34,9 @@ given_in (withdrawing s) = (0, 0)
 given_in (arriving s charge tag) = (charge, tag)
 given_in ticking = (0, 0)
 given_in transmitting = (0, 0)
-given_in (joining_best_effort caller charge tag) = (charge, tag)
+given_in (joining_best_effort charge tag) = (charge, tag)
 given_in (binding s address vid) = (0, 0)
-given_in (framing caller octets tag) = (0, tag)
+given_in (framing octets tag) = (0, tag)
 
 abbrev number_in : Call → ℕ
 number_in c = (given_in c).0

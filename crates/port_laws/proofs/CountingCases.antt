@@ -26,8 +26,8 @@ sort_of to_transmit = 2
 sort_of (to_reserve s permitted) = 3
 sort_of (to_withdraw s) = 7
 sort_of (to_arrive s charge tag) = 4
-sort_of (to_best_effort caller charge tag) = 5
-sort_of (to_frame caller octets tag) = 6
+sort_of (to_best_effort charge tag) = 5
+sort_of (to_frame octets tag) = 6
 sort_of neither = 0
 
 abbrev stream_of : Action → ℕ
@@ -36,8 +36,8 @@ stream_of to_transmit = 0
 stream_of (to_reserve s permitted) = s
 stream_of (to_withdraw s) = s
 stream_of (to_arrive s charge tag) = s
-stream_of (to_best_effort caller charge tag) = 0
-stream_of (to_frame caller octets tag) = 0
+stream_of (to_best_effort charge tag) = 0
+stream_of (to_frame octets tag) = 0
 stream_of neither = 0
 
 abbrev octets_of : Action → ℕ
@@ -46,8 +46,8 @@ octets_of to_transmit = 0
 octets_of (to_reserve s permitted) = permitted
 octets_of (to_withdraw s) = 0
 octets_of (to_arrive s charge tag) = charge
-octets_of (to_best_effort caller charge tag) = charge
-octets_of (to_frame caller octets tag) = length octets
+octets_of (to_best_effort charge tag) = charge
+octets_of (to_frame octets tag) = length octets
 octets_of neither = 0
 
 -- `action_of`
@@ -63,7 +63,7 @@ withdraw_action = refl
 withdraw_stream : stream_of (action_of (withdrawing 5)) ≡ 5
 withdraw_stream = refl
 
-open_action : sort_of (action_of (opening (terms case_link 1 0))) ≡ 0
+open_action : sort_of (action_of (opening (terms case_link 1))) ≡ 0
 open_action = refl
 
 bind_action : sort_of (action_of (binding 5 case_address 100)) ≡ 0
@@ -75,10 +75,10 @@ reserve_action = refl
 arrive_action : stream_of (action_of (arriving 5 120 7)) ≡ 5
 arrive_action = refl
 
-best_effort_action : octets_of (action_of (joining_best_effort 255 300 7)) ≡ 300
+best_effort_action : octets_of (action_of (joining_best_effort 300 7)) ≡ 300
 best_effort_action = refl
 
-frame_action : octets_of (action_of (framing 255 (case_tagged 60) 7)) ≡ 60
+frame_action : octets_of (action_of (framing (case_tagged 60) 7)) ≡ 60
 frame_action = refl
 
 -- `counts_as`, on the front of a record in which stream 1 is bound to the case's pair: a Frame of that pair is an Arrive on the stream, one without a
@@ -86,15 +86,15 @@ frame_action = refl
 abbrev bound1 : List ℕ
 bound1 = with_binding (replicate 96 0) 1 case_address 100
 
-frame_arrives : stream_of (action_of (counts_as bound1 (framing 255 (case_tagged 60) 7))) ≡ 1
+frame_arrives : stream_of (action_of (counts_as bound1 (framing (case_tagged 60) 7))) ≡ 1
 unfolding all_to octets_equal two_of bound_at vid_at address_at with_binding charge_of length_fits tagged_frame vid_of compared_back compared_at lookup_from lookup frame_lookup
 frame_arrives = refl
 
-frame_joins : sort_of (action_of (counts_as bound1 (framing 255 (replicate {A = ℕ} 60 0) 7))) ≡ 5
+frame_joins : sort_of (action_of (counts_as bound1 (framing (replicate {A = ℕ} 60 0) 7))) ≡ 5
 unfolding all_to octets_equal two_of bound_at vid_at address_at with_binding charge_of length_fits tagged_frame vid_of compared_back compared_at lookup_from lookup frame_lookup
 frame_joins = refl
 
-short_frame_itself : sort_of (action_of (counts_as bound1 (framing 255 (replicate {A = ℕ} 59 0) 7))) ≡ 6
+short_frame_itself : sort_of (action_of (counts_as bound1 (framing (replicate {A = ℕ} 59 0) 7))) ≡ 6
 unfolding all_to octets_equal two_of bound_at vid_at address_at with_binding charge_of length_fits tagged_frame vid_of compared_back compared_at lookup_from lookup frame_lookup
 short_frame_itself = refl
 
@@ -104,7 +104,7 @@ arrive_itself = refl
 withdraw_itself : sort_of (action_of (counts_as bound1 (withdrawing 5))) ≡ 7
 withdraw_itself = refl
 
-best_effort_itself : sort_of (action_of (counts_as bound1 (joining_best_effort 255 300 7))) ≡ 5
+best_effort_itself : sort_of (action_of (counts_as bound1 (joining_best_effort 300 7))) ≡ 5
 best_effort_itself = refl
 
 -- `replies`, by a machine that is no port: it replies the heads of record and memory, and puts 1 before the one and 2 before the other. Each call gets

@@ -1,24 +1,25 @@
 -- A record stays fit where a stream is dropped, whichever: its binding goes with it, and R falls. Assumes nothing.
-use Prim.Native.Nat.{ℕ, ◌<◌}
+use Prim.Native.Nat.{ℕ, ◌+◌, ◌≤◌, ◌<◌}
 use mathlib.Core.Path.{◌≡◌, refl, sym, ap, ap₂, ◌∙◌}
 use mathlib.Core.Bool.{Bool, true, false, not, ◌&&◌, cond, true≢false}
 use mathlib.Core.Logic.{⊎_elim}
 use mathlib.Core.List.{List}
 use native.Mathlib.Omega.{arith}
-use Rattle.lists.proofs.Order.{eq_or_not}
-use Rattle.lists.proofs.TurnLaws.{both, all_to_at, all_to_all}
+use Rattle.lists.proofs.Order.{eq_or_not, le_or_lt}
+use Rattle.lists.proofs.TurnLaws.{both, all_to_at, all_to_all, sum_to_same, sum_to_change}
+use Rattle.stream.specs.declared.Stream.{Stream}
 use Rattle.record.specs.Layout.{stream_count}
 use Rattle.record.specs.Queues.{last_place_at, best_effort_at}
 use Rattle.record.specs.Head.{open_at}
 use Rattle.record.specs.Entry.{stream_at, drain_at, bound_at, vid_at, address_at, same_pair, dropped}
+use Rattle.record.specs.Reservations.{permitted_of, permitted_sum}
 use Rattle.record.proofs.QueueLaws.{queues_most, queues_dropped}
 use Rattle.record.proofs.DropPairs.{length_dropped, open_dropped, prior_dropped, delay_dropped, link_dropped, waits_dropped, queue_dropped, stream_dropped, bound_dropped, other_stream_dropped, other_drain_dropped, other_bound_dropped, vid_dropped, address_dropped}
-use Rattle.ranges.specs.Ranges.{link_fits, vid_fits}
-use Rattle.fitness.specs.Clauses.{stream_fits, binding_fits, unlike_earlier, reservation_fits, open_fits, delays_fit}
+use Rattle.ranges.specs.Ranges.{link_fits, delay_fits, vid_fits}
+use Rattle.fitness.specs.Clauses.{stream_fits, binding_fits, unlike_earlier, reservation_fits, open_fits}
 use Rattle.fitness.proofs.FitLaws.{Fit, Plan, fit_plan, plan_fit}
 use Rattle.fitness.proofs.TestLaws.{free_fits}
 use Rattle.port_laws.proofs.BindFit.{if_bound}
-use Rattle.port_laws.proofs.SumLaws.{sum_dropped}
 
 -- what is asked of a bound stream is asked of fewer
 fewer : (was is answer : Bool) → (is ≡ true → was ≡ true) → cond was answer true ≡ true → cond is answer true ≡ true
@@ -66,15 +67,32 @@ module _ (p m : List ℕ) (fit : Fit p m) (s : ℕ) where
   bindings_fit_lem : (t : ℕ) → t < stream_count → binding_fits after t (unlike_earlier after t) ≡ true
   bindings_fit_lem = each (λ t. binding_fits after t (unlike_earlier after t) ≡ true) (λ b. rw (bound_dropped p s fit.long b)) other_bindings_fit
 
+  -- R falls by its P
+  sum_falls : permitted_sum after ≤ permitted_sum p
+  sum_falls =
+      ⊎_elim
+      (λ (beyond : stream_count ≤ s).
+      let same : permitted_sum after ≡ permitted_sum p =
+      sum_to_same (λ t. permitted_of (stream_at after t)) (λ t. permitted_of (stream_at p t)) stream_count
+      (λ t b. ap permitted_of (other_stream_dropped p s t (λ e. omega arith))) in
+      omega (arith, same))
+      (λ (b : s < stream_count).
+      let none : permitted_of (stream_at after s) ≡ 0 = ap (λ (r : Bool). cond r (stream_at after s).permitted 0) (stream_dropped p s fit.long b) in
+      let change : permitted_sum after + permitted_of (stream_at p s) ≡ permitted_sum p + permitted_of (stream_at after s) =
+      sum_to_change (λ t. permitted_of (stream_at after t)) (λ t. permitted_of (stream_at p t)) stream_count s b
+      (λ t o. ap permitted_of (other_stream_dropped p s t o)) in
+      omega (arith, none, change))
+      (le_or_lt stream_count s)
+
   plan_still : Plan p → Plan after
   plan_still plan =
       record {
         link = ap link_fits (link_dropped p s) ∙ plan.link;
-        delay = ap delays_fit (delay_dropped p s) ∙ plan.delay;
+        delay = ap delay_fits (delay_dropped p s) ∙ plan.delay;
         reservations =
             each (λ t. reservation_fits (stream_at after t) ≡ true) (λ b. rw (stream_dropped p s fit.long b))
             (λ t b o. rw (other_stream_dropped p s t o) (plan.reservations t b));
-        sum = omega (arith, sum_dropped p s fit.long, plan.sum, link_dropped p s);
+        sum = omega (arith, sum_falls, plan.sum, link_dropped p s);
       }
 
   open_still : open_fits after ≡ true

@@ -42,37 +42,37 @@ abbrev made : Call → List ℕ → List ℕ → Outcome
 made c = performed (refusal_of c) (step_of c)
 
 -- a closed port refuses with 1 what a frame becomes
-becomes_closed : (p m : List ℕ) (caller charge tag : ℕ) (found : Lookup) → open_at p ≡ false → becomes p m caller charge tag found ≡ refused 1 p m
+becomes_closed : (p m : List ℕ) (charge tag : ℕ) (found : Lookup) → open_at p ≡ false → becomes p m charge tag found ≡ refused 1 p m
 unfolding arrive_refusal best_effort_refusal
-becomes_closed p m caller charge tag (Bound s) closed = rw closed
-becomes_closed p m caller charge tag Unbound closed = rw closed
+becomes_closed p m charge tag (Bound s) closed = rw closed
+becomes_closed p m charge tag Unbound closed = rw closed
 
 -- so a frame whose length is in its range does what it becomes, on every record
-frames_becomes : (p m octets : List ℕ) (caller tag : ℕ) → length_fits octets ≡ true → gated (frame_refusal p octets) p m (frame_step p m caller octets tag) ≡ frame_step p m caller octets tag
+frames_becomes : (p m octets : List ℕ) (tag : ℕ) → length_fits octets ≡ true → gated (frame_refusal p octets) p m (frame_step p m octets tag) ≡ frame_step p m octets tag
 unfolding frame_refusal
-frames_becomes p m octets caller tag fits = told (open_at p) refl
+frames_becomes p m octets tag fits = told (open_at p) refl
   where
     told : (b : Bool) → open_at p ≡ b
-        → gated (cond (not b) 1 (cond (not (length_fits octets)) 17 0)) p m (frame_step p m caller octets tag) ≡ frame_step p m caller octets tag
+        → gated (cond (not b) 1 (cond (not (length_fits octets)) 17 0)) p m (frame_step p m octets tag) ≡ frame_step p m octets tag
     told true e = rw fits
-    told false e = rw (becomes_closed p m caller (charge_of octets) tag (frame_lookup p octets) e)
+    told false e = rw (becomes_closed p m (charge_of octets) tag (frame_lookup p octets) e)
 
 -- reply, record and memory are those of that call, for every record and memory, whatever of 18 and 19 is asked first
-becomes_behind : (g : ℕ) (p m octets : List ℕ) (caller tag : ℕ) → length_fits octets ≡ true
-    → gated g p m (made (framing caller octets tag) p m) ≡ gated g p m (made (becoming caller octets tag (frame_lookup p octets)) p m)
-becomes_behind g p m octets caller tag fits = ap (gated g p m) (frames_becomes p m octets caller tag fits) ∙ told (frame_lookup p octets)
+becomes_behind : (g : ℕ) (p m octets : List ℕ) (tag : ℕ) → length_fits octets ≡ true
+    → gated g p m (made (framing octets tag) p m) ≡ gated g p m (made (becoming octets tag (frame_lookup p octets)) p m)
+becomes_behind g p m octets tag fits = ap (gated g p m) (frames_becomes p m octets tag fits) ∙ told (frame_lookup p octets)
   where
-    told : (found : Lookup) → gated g p m (becomes p m caller (charge_of octets) tag found) ≡ gated g p m (made (becoming caller octets tag found) p m)
+    told : (found : Lookup) → gated g p m (becomes p m (charge_of octets) tag found) ≡ gated g p m (made (becoming octets tag found) p m)
     told (Bound s) = refl
     told Unbound = refl
 
 -- by a call and by a quick call
-pub frame_becomes : (p m octets : List ℕ) (caller tag : ℕ) → length_fits octets ≡ true
-    → called (framing caller octets tag) p m ≡ called (becoming caller octets tag (frame_lookup p octets)) p m
+pub frame_becomes : (p m octets : List ℕ) (tag : ℕ) → length_fits octets ≡ true
+    → called (framing octets tag) p m ≡ called (becoming octets tag (frame_lookup p octets)) p m
 frame_becomes p m = becomes_behind (lent_refusal p m) p m
 
-pub quick_frame_becomes : (p m octets : List ℕ) (caller tag : ℕ) → length_fits octets ≡ true
-    → quickly_called (framing caller octets tag) p m ≡ quickly_called (becoming caller octets tag (frame_lookup p octets)) p m
+pub quick_frame_becomes : (p m octets : List ℕ) (tag : ℕ) → length_fits octets ≡ true
+    → quickly_called (framing octets tag) p m ≡ quickly_called (becoming octets tag (frame_lookup p octets)) p m
 quick_frame_becomes p m = becomes_behind (length_refusal p m) p m
 
 -- and an open port refuses any other frame with 17
@@ -105,23 +105,23 @@ arrived_not_17 p m s f (Joined place next) = told (leb place_count (queue_at p (
     told false = inl (omega arith)
 arrived_not_17 p m s f (Discarded spent) = inl (omega arith)
 
-becomes_not_17 : (p m : List ℕ) (caller charge tag : ℕ) (found : Lookup) → Not17 (becomes p m caller charge tag found).reply.refusal
+becomes_not_17 : (p m : List ℕ) (charge tag : ℕ) (found : Lookup) → Not17 (becomes p m charge tag found).reply.refusal
 unfolding arrive_refusal best_effort_refusal arrive_step best_effort_step
-becomes_not_17 p m caller charge tag (Bound s) =
+becomes_not_17 p m charge tag (Bound s) =
     gated_not_17 (arrive_refusal p s charge) p m (arrive_step p m s charge tag)
     (search (low_test, high_test, outside_low, rules) depth 9)
     (arrived_not_17 p m s (record { stream = s; charge = charge; tag = tag }) (arrive_of (last_place_at p) (stream_at p s) charge))
-becomes_not_17 p m caller charge tag Unbound =
-    gated_not_17 (best_effort_refusal p caller charge) p m (best_effort_step p m caller charge tag)
+becomes_not_17 p m charge tag Unbound =
+    gated_not_17 (best_effort_refusal p charge) p m (best_effort_step p m charge tag)
     (search (low_test, high_test, outside_low, rules) depth 9)
     (inl (omega arith))
 
-pub frame_not_17 : (p m octets : List ℕ) (caller tag : ℕ) → length_fits octets ≡ true → (called (framing caller octets tag) p m).reply.refusal ≡ 17 → ⊥
+pub frame_not_17 : (p m octets : List ℕ) (tag : ℕ) → length_fits octets ≡ true → (called (framing octets tag) p m).reply.refusal ≡ 17 → ⊥
 unfolding lent_refusal
-frame_not_17 p m octets caller tag fits e =
+frame_not_17 p m octets tag fits e =
     ⊎_elim
-    (λ (low : (called (framing caller octets tag) p m).reply.refusal < 17). omega arith)
-    (λ (high : 17 < (called (framing caller octets tag) p m).reply.refusal). omega arith)
-    (gated_not_17 (lent_refusal p m) p m (gated (frame_refusal p octets) p m (frame_step p m caller octets tag))
+    (λ (low : (called (framing octets tag) p m).reply.refusal < 17). omega arith)
+    (λ (high : 17 < (called (framing octets tag) p m).reply.refusal). omega arith)
+    (gated_not_17 (lent_refusal p m) p m (gated (frame_refusal p octets) p m (frame_step p m octets tag))
     (search (low_test, high_test, outside_low, outside_high, rules) depth 9)
-    (subst (λ (o : Outcome). Not17 o.reply.refusal) (sym (frames_becomes p m octets caller tag fits)) (becomes_not_17 p m caller (charge_of octets) tag (frame_lookup p octets))))
+    (subst (λ (o : Outcome). Not17 o.reply.refusal) (sym (frames_becomes p m octets tag fits)) (becomes_not_17 p m (charge_of octets) tag (frame_lookup p octets))))

@@ -27,12 +27,12 @@ Own = Outside 18 20
 -- each call's own refusals have such numbers
 pub refusal_own : (c : Call) (p : List ℕ) → Own (refusal_of c p)
 unfolding open_refusal reserve_refusal withdraw_refusal arrive_refusal closed_refusal best_effort_refusal bind_refusal frame_refusal
-refusal_own (opening t) p = search (low_test, high_test, outside_low, rules) depth 9
+refusal_own (opening t) p = search (low_test, outside_low, rules) depth 9
 refusal_own (reserving s permitted) p = search (low_test, high_test, outside_low, rules) depth 9
 refusal_own (withdrawing s) p = search (low_test, high_test, outside_low, rules) depth 9
 refusal_own (arriving s charge tag) p = search (low_test, high_test, outside_low, rules) depth 9
 refusal_own ticking p = search (low_test, outside_low, rules) depth 9
 refusal_own transmitting p = search (low_test, outside_low, rules) depth 9
-refusal_own (joining_best_effort caller charge tag) p = search (low_test, high_test, outside_low, rules) depth 9
+refusal_own (joining_best_effort charge tag) p = search (low_test, outside_low, rules) depth 9
 refusal_own (binding s address vid) p = search (low_test, high_test, outside_low, rules) depth 9
-refusal_own (framing caller octets tag) p = search (low_test, outside_low, rules) depth 9
+refusal_own (framing octets tag) p = search (low_test, outside_low, rules) depth 9

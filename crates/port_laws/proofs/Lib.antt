@@ -6,7 +6,6 @@ pub mod ReserveFit
 pub mod WithdrawFit
 pub mod ArriveFit
 pub mod BindFit
-pub mod SumLaws
 pub mod DropFit
 pub mod TurnKeeps
 pub mod TickFit

@@ -1,7 +1,7 @@
 -- A record is fit after Open, whatever stood in it before. Assumes nothing.
 use Prim.Native.Nat.{ℕ, ◌≤◌}
-use mathlib.Core.Path.{◌≡◌, ap, ◌∙◌, ap₂}
-use mathlib.Core.Bool.{true, ◌&&◌}
+use mathlib.Core.Path.{◌≡◌, ap, ◌∙◌}
+use mathlib.Core.Bool.{true}
 use mathlib.Core.List.{List}
 use native.Mathlib.Omega.{arith}
 use lib.ListN.{length}
@@ -10,18 +10,17 @@ use Rattle.record.specs.Layout.{record_length}
 use Rattle.record.specs.Queues.{best_effort_at}
 use Rattle.record.proofs.QueueLaws.{queues_least}
 use Rattle.ranges.specs.Ranges.{link_fits, delay_fits}
-use Rattle.fitness.specs.Clauses.{queue_fits, delays_fit}
+use Rattle.fitness.specs.Clauses.{queue_fits}
 use Rattle.fitness.specs.Fit.{record_fits}
 use Rattle.fitness.proofs.FitLaws.{record_fit, plan_fit}
 use Rattle.steps.specs.Call.{Terms}
 use Rattle.opening.specs.Opening.{opened_record}
 use Rattle.port_laws.proofs.OpenLaws.{opened_whole, opened_queues, opened_prior, opened_delay, opened_link, opened_waits, opened_queue, opened_stream, opened_bound, opened_sum}
-use borrow.Author.Tests.{le-leb}
 
--- L, K and F in their ranges are all that is asked
-pub open_fits_lem : (p m : List ℕ) (t : Terms) → record_length ≤ length p → link_fits t.link ≡ true → delay_fits t.delay ≡ true → t.firmware ≤ t.delay
+-- L and K in their ranges are all that is asked
+pub open_fits_lem : (p m : List ℕ) (t : Terms) → record_length ≤ length p → link_fits t.link ≡ true → delay_fits t.delay ≡ true
     → record_fits (opened_record p t) m ≡ true
-open_fits_lem p m t h octets epochs firmware =
+open_fits_lem p m t h octets epochs =
     let k = opened_record p t in
     let same = opened_queues p t h in
     record_fit k m
@@ -37,7 +36,7 @@ open_fits_lem p m t h octets epochs firmware =
           plan_fit k
           (record {
             link = ap link_fits (opened_link p t h) ∙ octets;
-            delay = ap delays_fit (opened_delay p t h) ∙ ap₂ ◌&&◌ epochs (le-leb t.firmware t.delay firmware);
+            delay = ap delay_fits (opened_delay p t h) ∙ epochs;
             reservations = λ s b. rw (opened_stream p t h s b);
             sum = omega (arith, opened_sum p t h);
           });

@@ -2,7 +2,7 @@
 use Prim.Native.Nat.{ℕ, ◌+◌, ◌<◌}
 use mathlib.Core.Path.{◌≡◌, ap, ◌∙◌}
 use mathlib.Core.Bool.{true, false}
-use mathlib.Core.List.{List, []}
+use mathlib.Core.List.{List}
 use native.Mathlib.Omega.{arith}
 use lib.ListN.{length}
 use Rattle.lists.proofs.TurnLaws.{sum_to_same, sum_to_none, iterate_keeps, iterate_each}
@@ -17,10 +17,9 @@ use Rattle.record.proofs.HeadPairs.{prior_prior, waits_waits, prior_waits, queue
 use Rattle.record.proofs.KeepLaws.{keeps_prior, keeps_waits}
 use Rattle.record.proofs.OpenPairs.{length_open, open_open, length_delay, delay_delay, open_delay, prior_delay, length_link, link_link, open_link, prior_link, delay_link, length_queue, open_queue, delay_queue, link_queue}
 use Rattle.record.proofs.DropPairs.{length_dropped, open_dropped, prior_dropped, delay_dropped, link_dropped, waits_dropped, queue_dropped, stream_dropped, drain_dropped, bound_dropped, other_stream_dropped, other_drain_dropped, other_bound_dropped}
-use Rattle.queue.specs.Waiting.{waits_of}
 use Rattle.record.specs.Reservations.{permitted_of, permitted_sum}
 use Rattle.steps.specs.Call.{Terms}
-use Rattle.opening.specs.Opening.{delay_of, opened_head, all_emptied, all_dropped, opened_record}
+use Rattle.opening.specs.Opening.{opened_head, all_emptied, all_dropped, opened_record}
 
 -- a whole record with the head that Open writes, and as many queues as before
 record Opened (p : List ℕ) (t : Terms) (l : List ℕ) : Type 0 where
@@ -28,29 +27,29 @@ record Opened (p : List ℕ) (t : Terms) (l : List ℕ) : Type 0 where
   opened : open_at l ≡ true
   count : queues_at l ≡ queues_at p
   prior : prior_at l ≡ 0
-  epochs : delay_at l ≡ delay_of t
+  epochs : delay_at l ≡ t.delay
   octets : link_at l ≡ t.link
-  waits : waits_at l ≡ waits_of []
+  waits : waits_at l ≡ 0
 
 -- as it is written, field after field
 head_opened : (p : List ℕ) (t : Terms) → Whole p → Opened p t (opened_head p t)
 head_opened p t h =
     let a = with_open p in
     let b = with_prior a 0 in
-    let c = with_delay b (delay_of t) in
+    let c = with_delay b t.delay in
     let d = with_link c t.link in
     let in_a : Whole a = omega (arith, length_open p) in
     let in_b : Whole b = omega (arith, (keeps_prior a 0).long) in
-    let in_c : Whole c = omega (arith, length_delay b (delay_of t)) in
+    let in_c : Whole c = omega (arith, length_delay b t.delay) in
     let in_d : Whole d = omega (arith, length_link c t.link) in
     record {
-      whole = omega (arith, (keeps_waits d (waits_of [])).long);
-      opened = (keeps_waits d (waits_of [])).opened ∙ open_link c t.link ∙ open_delay b (delay_of t) ∙ (keeps_prior a 0).opened ∙ open_open p h;
-      count = (keeps_waits d (waits_of [])).queues ∙ queues_link c t.link ∙ queues_delay b (delay_of t) ∙ (keeps_prior a 0).queues ∙ queues_open p;
-      prior = prior_waits d (waits_of []) ∙ prior_link c t.link ∙ prior_delay b (delay_of t) ∙ prior_prior a 0 in_a;
-      epochs = (keeps_waits d (waits_of [])).delay ∙ delay_link c t.link ∙ delay_delay b (delay_of t) in_b;
-      octets = (keeps_waits d (waits_of [])).link ∙ link_link c t.link in_c;
-      waits = waits_waits d (waits_of []) in_d;
+      whole = omega (arith, (keeps_waits d 0).long);
+      opened = (keeps_waits d 0).opened ∙ open_link c t.link ∙ open_delay b t.delay ∙ (keeps_prior a 0).opened ∙ open_open p h;
+      count = (keeps_waits d 0).queues ∙ queues_link c t.link ∙ queues_delay b t.delay ∙ (keeps_prior a 0).queues ∙ queues_open p;
+      prior = prior_waits d 0 ∙ prior_link c t.link ∙ prior_delay b t.delay ∙ prior_prior a 0 in_a;
+      epochs = (keeps_waits d 0).delay ∙ delay_link c t.link ∙ delay_delay b t.delay in_b;
+      octets = (keeps_waits d 0).link ∙ link_link c t.link in_c;
+      waits = waits_waits d 0 in_d;
     }
 
 -- emptying a queue and dropping a stream leave the head
@@ -113,7 +112,7 @@ module _ (p : List ℕ) (t : Terms) (h : Whole p) where
   unfolding opened_record
   record_opened = iterate_keeps (Opened p t) (λ s l. dropped l s) stream_count (all_emptied (opened_head p t)) (dropped_leaves p t) emptied_head
 
-  -- the port is open and has as many queues as before, prior is queue 0, K, F and L are those given, W is 0 and no firmware octet waits
+  -- the port is open and has as many queues as before, prior is queue 0, K and L are those given, W is 0
   pub opened_whole : Whole (opened_record p t)
   opened_whole = record_opened.whole
 
@@ -126,13 +125,13 @@ module _ (p : List ℕ) (t : Terms) (h : Whole p) where
   pub opened_prior : prior_at (opened_record p t) ≡ 0
   opened_prior = record_opened.prior
 
-  pub opened_delay : delay_at (opened_record p t) ≡ delay_of t
+  pub opened_delay : delay_at (opened_record p t) ≡ t.delay
   opened_delay = record_opened.epochs
 
   pub opened_link : link_at (opened_record p t) ≡ t.link
   opened_link = record_opened.octets
 
-  pub opened_waits : waits_at (opened_record p t) ≡ waits_of []
+  pub opened_waits : waits_at (opened_record p t) ≡ 0
   opened_waits = record_opened.waits
 
   -- every queue is empty
@@ -167,7 +166,7 @@ unfolding opened_record
 length_opened p t =
     let a = with_open p in
     let b = with_prior a 0 in
-    let c = with_delay b (delay_of t) in
+    let c = with_delay b t.delay in
     iterate_keeps (λ l. length l ≡ length p) (λ s l. dropped l s) stream_count (all_emptied (opened_head p t)) (λ s l e. length_dropped l s ∙ e)
     (iterate_keeps (λ l. length l ≡ length p) (λ q l. with_queue l q empty_queue) (queues_at (opened_head p t) + 1) (opened_head p t) (λ q l e. length_queue l q empty_queue ∙ e)
-    ((keeps_waits (with_link c t.link) (waits_of [])).long ∙ length_link c t.link ∙ length_delay b (delay_of t) ∙ (keeps_prior a 0).long ∙ length_open p))
+    ((keeps_waits (with_link c t.link) 0).long ∙ length_link c t.link ∙ length_delay b t.delay ∙ (keeps_prior a 0).long ∙ length_open p))

@@ -17,9 +17,9 @@ use Rattle.record.proofs.QueueLaws.{queues_least, queues_most}
 use Rattle.record.proofs.EntryPairs.{stream_stream, other_stream, stream_cases, prior_stream, waits_stream, queue_stream}
 use Rattle.record.proofs.KeepLaws.{keeps_stream}
 use Rattle.record.proofs.DrainPairs.{drain_stream, other_drain_stream}
-use Rattle.ranges.specs.Ranges.{share_of, link_fits, permitted_fits}
+use Rattle.ranges.specs.Ranges.{share_of, link_fits, delay_fits, permitted_fits}
 use Rattle.record.specs.Reservations.{permitted_of, permitted_sum}
-use Rattle.fitness.specs.Clauses.{stream_fits, reservation_fits, delays_fit}
+use Rattle.fitness.specs.Clauses.{stream_fits, reservation_fits}
 use Rattle.fitness.specs.Fit.{record_fits}
 use Rattle.fitness.proofs.FitLaws.{fit_record, record_fit, Plan, fit_plan, plan_fit}
 use Rattle.fitness.proofs.TestLaws.{fit_stream}
@@ -46,7 +46,7 @@ module _ (p : List ℕ) (s permitted : ℕ) (whole : Whole p) (b : s < stream_co
       let keeps = keeps_stream p s x in
       record {
         link = ap link_fits keeps.link ∙ plan.link;
-        delay = ap delays_fit keeps.delay ∙ plan.delay;
+        delay = ap delay_fits keeps.delay ∙ plan.delay;
         reservations = λ t c. stream_cases p s x (λ y. reservation_fits y ≡ true) t whole c (λ e. least) (λ o. plan.reservations t c);
         sum = omega (arith, reserved_sum free, share, keeps.link);
       }

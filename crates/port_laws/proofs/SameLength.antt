@@ -42,22 +42,19 @@ use Rattle.port_laws.proofs.CallKeeps.{either, Kept, tick_of_keeps, call_keeps}
 length_kept : (n : ℕ) → Kept (λ l. length l ≡ n)
 length_kept n =
     record {
-      beside =
-          record {
-            by_prior = λ l number e. (keeps_prior l number).long ∙ e;
-            by_queue = λ l q x h e. length_queue l q x ∙ e;
-            by_place = λ l s place left e. (keeps_place l s place left).long ∙ e;
-            by_drain = λ l s ticks e. (keeps_drain l s ticks).long ∙ e;
-            by_drop = λ l s e. length_dropped l s ∙ e;
-            by_binding = λ l s address vid e. length_binding l s address vid ∙ e;
-          };
-      by_waits = λ l w e. (keeps_waits l w).long ∙ e;
+      by_prior = λ l number e. (keeps_prior l number).long ∙ e;
+      by_waits = λ l octets e. (keeps_waits l octets).long ∙ e;
+      by_queue = λ l q x e. length_queue l q x ∙ e;
       by_stream = λ l s x e. (keeps_stream l s x).long ∙ e;
+      by_place = λ l s place left e. (keeps_place l s place left).long ∙ e;
+      by_drain = λ l s ticks e. (keeps_drain l s ticks).long ∙ e;
+      by_drop = λ l s e. length_dropped l s ∙ e;
+      by_binding = λ l s address vid e. length_binding l s address vid ∙ e;
     }
 
 -- so does a stream's tick,
 pub ticked_length : (s : ℕ) (l : List ℕ) → length (ticked_at s l) ≡ length l
-ticked_length s l = tick_of_keeps (λ k. length k ≡ length l) (length_kept (length l)).beside s l refl
+ticked_length s l = tick_of_keeps (λ k. length k ≡ length l) (length_kept (length l)) s l refl
 
 -- and every call, refused or not
 pub record_length_lem : (c : Call) (p m : List ℕ) → length (called c p m).port ≡ length p
@@ -81,9 +78,9 @@ module _ (p m : List ℕ) where
       let r = arrive_of (last_place_at p) (stream_at p s) charge in
       arrived_length s (record { stream = s; charge = charge; tag = tag }) (reply_of r) r
 
-  best_effort_length : (caller charge tag : ℕ) → AsLong (best_effort_step p m caller charge tag)
+  best_effort_length : (charge tag : ℕ) → AsLong (best_effort_step p m charge tag)
   unfolding best_effort_step
-  best_effort_length caller charge tag = let best = best_effort_at p in joins_length m best (queue_at p best) (best_effort_frame caller charge tag)
+  best_effort_length charge tag = let best = best_effort_at p in joins_length m best (queue_at p best) (best_effort_frame charge tag)
 
   transmit_length : AsLong (transmit_step p m)
   unfolding transmit_step
@@ -96,9 +93,9 @@ module _ (p m : List ℕ) where
   unfolding tick_step
   tick_length = refl
 
-  became_length : (caller charge tag : ℕ) (found : Lookup) → AsLong (becomes p m caller charge tag found)
-  became_length caller charge tag (Bound s) = either AsLong (eqb (arrive_refusal p s charge) 0) _ _ (arrive_length s charge tag) refl
-  became_length caller charge tag Unbound = either AsLong (eqb (best_effort_refusal p caller charge) 0) _ _ (best_effort_length caller charge tag) refl
+  became_length : (charge tag : ℕ) (found : Lookup) → AsLong (becomes p m charge tag found)
+  became_length charge tag (Bound s) = either AsLong (eqb (arrive_refusal p s charge) 0) _ _ (arrive_length s charge tag) refl
+  became_length charge tag Unbound = either AsLong (eqb (best_effort_refusal p charge) 0) _ _ (best_effort_length charge tag) refl
 
   step_length : (c : Call) → AsLong (step_of c p m)
   step_length (opening t) = refl
@@ -107,9 +104,9 @@ module _ (p m : List ℕ) where
   step_length (arriving s charge tag) = arrive_length s charge tag
   step_length ticking = tick_length
   step_length transmitting = transmit_length
-  step_length (joining_best_effort caller charge tag) = best_effort_length caller charge tag
+  step_length (joining_best_effort charge tag) = best_effort_length charge tag
   step_length (binding s address vid) = refl
-  step_length (framing caller octets tag) = became_length caller (charge_of octets) tag (frame_lookup p octets)
+  step_length (framing octets tag) = became_length (charge_of octets) tag (frame_lookup p octets)
 
 pub memory_length_lem : (c : Call) (p m : List ℕ) → length (called c p m).memory ≡ length m
 memory_length_lem c p m =

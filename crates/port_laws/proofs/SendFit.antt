@@ -7,9 +7,8 @@ use native.Mathlib.Omega.{arith}
 use Rattle.lists.specs.Turns.{all_of}
 use Rattle.lists.proofs.TurnLaws.{both}
 use Rattle.queue.specs.Ring.{front_of, sent_queue}
-use Rattle.queue.specs.declared.Waits.{Waits}
-use Rattle.queue.specs.Waiting.{waiting, sent_waits}
-use Rattle.queue.proofs.WaitingLaws.{sends, sends_waits}
+use Rattle.queue.specs.Waiting.{waiting}
+use Rattle.queue.proofs.WaitingLaws.{sends, sends_charges}
 use Rattle.record.specs.Queues.{queues_at, best_effort_at}
 use Rattle.record.specs.Head.{waits_at, with_waits, queue_at, with_queue}
 use Rattle.fitness.specs.Clauses.{frame_fits}
@@ -24,8 +23,8 @@ use Rattle.port_laws.proofs.WriteFit.{FitQueue, fits_queue, fits_best_effort}
 
 module _ (p m : List ℕ) (fit : Fit p m) where
   -- a queue without its oldest frame
-  sent_waits_lem : (q : ℕ) → q < queues_at p + 1 → ((queue_at p q).count ≡ 0 → ⊥) → FitQueue (best_effort_at p) m q (sent_queue (queue_at p q))
-  sent_waits_lem q b some =
+  sent_waits : (q : ℕ) → q < queues_at p + 1 → ((queue_at p q).count ≡ 0 → ⊥) → FitQueue (best_effort_at p) m q (sent_queue (queue_at p q))
+  sent_waits q b some =
       let x = queue_at p q in
       let all = ap (all_of (frame_fits (best_effort_at p) q)) (sym (sends m q x (omega arith))) ∙ fit.frames q b in (
         bounds_queue (sent_queue x) (omega arith) (omega (arith, (queue_bounds x (fit.queues q b)).1)),
@@ -33,18 +32,18 @@ module _ (p m : List ℕ) (fit : Fit p m) where
       )
 
   sent_fits : (q : ℕ) → q < queues_at p → ((queue_at p q).count ≡ 0 → ⊥) → Fit (with_queue p q (sent_queue (queue_at p q))) m
-  sent_fits q b some = fits_queue p m fit m q (sent_queue (queue_at p q)) (sent_waits_lem q (omega arith) some) (λ r y o. refl) b
+  sent_fits q b some = fits_queue p m fit m q (sent_queue (queue_at p q)) (sent_waits q (omega arith) some) (λ r y o. refl) b
 
-  -- best effort: what waits falls by the frame that is sent
+  -- best effort: W falls by the charge of the frame that is sent
   sent_best_effort_fits : ((queue_at p (best_effort_at p)).count ≡ 0 → ⊥)
-      → Fit (with_waits (with_queue p (best_effort_at p) (sent_queue (queue_at p (best_effort_at p)))) (sent_waits (waits_at p) (front_of m (best_effort_at p) (queue_at p (best_effort_at p))))) m
+      → Fit (with_waits (with_queue p (best_effort_at p) (sent_queue (queue_at p (best_effort_at p)))) (waits_at p - (front_of m (best_effort_at p) (queue_at p (best_effort_at p))).charge)) m
   sent_best_effort_fits some =
       let best = best_effort_at p in
       let x = queue_at p best in
-      fits_best_effort p m fit m (sent_queue x) (sent_waits (waits_at p) (front_of m best x))
-      (sent_waits_lem best (omega arith) some)
+      fits_best_effort p m fit m (sent_queue x) (waits_at p - (front_of m best x).charge)
+      (sent_waits best (omega arith) some)
       (λ r y o. refl)
-      (ap (λ (w : Waits). sent_waits w (front_of m best x)) fit.waits ∙ sym (sends_waits m best x (omega arith)))
+      (omega (arith, fit.waits, sends_charges m best x (omega arith)))
 
 -- by which queue has a frame
 pub transmit_fits : (p m : List ℕ) → record_fits p m ≡ true → record_fits (transmit_step p m).port (transmit_step p m).memory ≡ true

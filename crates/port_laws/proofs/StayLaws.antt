@@ -1,5 +1,5 @@
 -- A fit record stays fit through every call, refused or not; so on a list of calls the quick calls reply as the calls do. Assumes nothing.
-use Prim.Native.Nat.{ℕ}
+use Prim.Native.Nat.{ℕ, ◌≤◌}
 use mathlib.Core.Path.{◌≡◌, refl, ◌∙◌, sym, ap, ap₂, subst}
 use mathlib.Core.Bool.{true}
 use mathlib.Core.Logic.{⊎_elim}
@@ -54,18 +54,18 @@ module _ (p m : List ℕ) (fit : record_fits p m ≡ true) (room : HasMemory p m
   arrived_fits : (s charge tag : ℕ) → arrive_refusal p s charge ≡ 0 → LeavesFit (arrive_step p m s charge tag)
   arrived_fits s charge tag e = let a = arrive_allowed p s charge e in arrive_fits p m s charge tag room fit a.stream a.reserved a.charge_fits_lem
 
-  joined_fits : (caller charge tag : ℕ) → best_effort_refusal p caller charge ≡ 0 → LeavesFit (best_effort_step p m caller charge tag)
-  joined_fits caller charge tag e = let a = best_effort_allowed p caller charge e in best_effort_fits p m caller charge tag room fit a.charge_fits_lem a.free
+  joined_fits : (charge tag : ℕ) → best_effort_refusal p charge ≡ 0 → LeavesFit (best_effort_step p m charge tag)
+  joined_fits charge tag e = let a = best_effort_allowed p charge e in best_effort_fits p m charge tag room fit a.charge_fits_lem a.free
 
   -- a frame, as the call that it becomes
-  became_fits : (caller charge tag : ℕ) (found : Lookup) → LeavesFit (becomes p m caller charge tag found)
-  became_fits caller charge tag (Bound s) = gated_fits (arrive_refusal p s charge) p m (arrive_step p m s charge tag) fit (arrived_fits s charge tag)
-  became_fits caller charge tag Unbound = gated_fits (best_effort_refusal p caller charge) p m (best_effort_step p m caller charge tag) fit (joined_fits caller charge tag)
+  became_fits : (charge tag : ℕ) (found : Lookup) → LeavesFit (becomes p m charge tag found)
+  became_fits charge tag (Bound s) = gated_fits (arrive_refusal p s charge) p m (arrive_step p m s charge tag) fit (arrived_fits s charge tag)
+  became_fits charge tag Unbound = gated_fits (best_effort_refusal p charge) p m (best_effort_step p m charge tag) fit (joined_fits charge tag)
 
   -- the step of every call that its own refusals let through
   step_fits : (c : Call) → refusal_of c p ≡ 0 → LeavesFit (step_of c p m)
   unfolding tick_step
-  step_fits (opening t) e = let a = open_allowed p t e in open_fits_lem p m t (fit_record p m fit).long a.link_fits a.delay_fits_lem a.firmware_fits_lem
+  step_fits (opening t) e = let a = open_allowed p t e in open_fits_lem p m t (fit_record p m fit).long a.link_fits a.delay_fits_lem
   step_fits (reserving s permitted) e =
       let a = reserve_allowed p s permitted e in
       reserve_fits p m s permitted fit a.opened a.stream a.free a.permitted_fits_lem a.share
@@ -73,11 +73,11 @@ module _ (p m : List ℕ) (fit : record_fits p m ≡ true) (room : HasMemory p m
   step_fits (arriving s charge tag) e = arrived_fits s charge tag e
   step_fits ticking e = tick_fits p m fit
   step_fits transmitting e = transmit_fits p m fit
-  step_fits (joining_best_effort caller charge tag) e = joined_fits caller charge tag e
+  step_fits (joining_best_effort charge tag) e = joined_fits charge tag e
   step_fits (binding s address vid) e =
       let a = bind_allowed p s address vid e in
       bind_fits p m s address vid fit a.stream a.reserved a.vid_fits_lem a.free
-  step_fits (framing caller octets tag) e = became_fits caller (charge_of octets) tag (frame_lookup p octets)
+  step_fits (framing octets tag) e = became_fits (charge_of octets) tag (frame_lookup p octets)
 
 -- every call
 pub stays_fit : (c : Call) (p m : List ℕ) → record_fits p m ≡ true → LeavesFit (called c p m)
@@ -95,7 +95,7 @@ granted_open_fits p m t e =
     let allowed = let_through (open_refusal p t) p m done (sym (ap (λ (o : Outcome). o.reply.refusal) asked) ∙ e) in
     let a = open_allowed p t allowed in
     subst LeavesFit (sym (asked ∙ grants (open_refusal p t) p m done allowed))
-    (open_fits_lem p m t (long_enough p m lent).whole a.link_fits a.delay_fits_lem a.firmware_fits_lem)
+    (open_fits_lem p m t (long_enough p m lent).whole a.link_fits a.delay_fits_lem)
 
 -- every list of calls: the quick calls reply as the calls do
 pub quick_replies : (cs : List Call) (p m : List ℕ) → record_fits p m ≡ true → replies quickly_called cs p m ≡ replies called cs p m

@@ -21,17 +21,14 @@ use Rattle.port_laws.proofs.CallKeeps.{Kept, call_keeps}
 open_kept : Kept (λ l. open_at l ≡ true)
 open_kept =
     record {
-      beside =
-          record {
-            by_prior = λ l number e. (keeps_prior l number).opened ∙ e;
-            by_queue = λ l q x h e. open_queue l q x ∙ e;
-            by_place = λ l s place left e. (keeps_place l s place left).opened ∙ e;
-            by_drain = λ l s ticks e. (keeps_drain l s ticks).opened ∙ e;
-            by_drop = λ l s e. open_dropped l s ∙ e;
-            by_binding = λ l s address vid e. open_binding l s address vid ∙ e;
-          };
-      by_waits = λ l w e. (keeps_waits l w).opened ∙ e;
+      by_prior = λ l number e. (keeps_prior l number).opened ∙ e;
+      by_waits = λ l octets e. (keeps_waits l octets).opened ∙ e;
+      by_queue = λ l q x e. open_queue l q x ∙ e;
       by_stream = λ l s x e. (keeps_stream l s x).opened ∙ e;
+      by_place = λ l s place left e. (keeps_place l s place left).opened ∙ e;
+      by_drain = λ l s ticks e. (keeps_drain l s ticks).opened ∙ e;
+      by_drop = λ l s e. open_dropped l s ∙ e;
+      by_binding = λ l s address vid e. open_binding l s address vid ∙ e;
     }
 
 pub stays_open : (c : Call) (p m : List ℕ) → open_at p ≡ true → open_at (called c p m).port ≡ true
@@ -41,17 +38,14 @@ stays_open c p m opened = call_keeps (λ l. open_at l ≡ true) open_kept p m op
 queues_kept : (n : ℕ) → Kept (λ l. queues_at l ≡ n)
 queues_kept n =
     record {
-      beside =
-          record {
-            by_prior = λ l number e. (keeps_prior l number).queues ∙ e;
-            by_queue = λ l q x h e. queues_queue l q x ∙ e;
-            by_place = λ l s place left e. (keeps_place l s place left).queues ∙ e;
-            by_drain = λ l s ticks e. (keeps_drain l s ticks).queues ∙ e;
-            by_drop = λ l s e. queues_dropped l s ∙ e;
-            by_binding = λ l s address vid e. queues_binding l s address vid ∙ e;
-          };
-      by_waits = λ l w e. (keeps_waits l w).queues ∙ e;
+      by_prior = λ l number e. (keeps_prior l number).queues ∙ e;
+      by_waits = λ l octets e. (keeps_waits l octets).queues ∙ e;
+      by_queue = λ l q x e. queues_queue l q x ∙ e;
       by_stream = λ l s x e. (keeps_stream l s x).queues ∙ e;
+      by_place = λ l s place left e. (keeps_place l s place left).queues ∙ e;
+      by_drain = λ l s ticks e. (keeps_drain l s ticks).queues ∙ e;
+      by_drop = λ l s e. queues_dropped l s ∙ e;
+      by_binding = λ l s address vid e. queues_binding l s address vid ∙ e;
     }
 
 -- so an open port asks for as much memory after a call as before it

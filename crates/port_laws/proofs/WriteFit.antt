@@ -1,18 +1,18 @@
 -- A fit record stays fit where a field of it is written with what is fit there. Assumes nothing.
-use Prim.Native.Nat.{ℕ, ◌+◌, ◌<◌}
+use Prim.Native.Nat.{ℕ, ◌+◌, ◌≤◌, ◌<◌}
 use mathlib.Core.Path.{◌≡◌, refl, sym, ap, ap₂, ◌∙◌}
 use mathlib.Core.Bool.{Bool, true, false, ◌&&◌, cond}
 use mathlib.Core.List.{List}
 use native.Mathlib.Omega.{arith}
+use lib.ListN.{length}
 use Rattle.lists.specs.Turns.{all_of}
 use Rattle.lists.proofs.TurnLaws.{both, all_to_same, sum_to_same, all_of_snoc}
 use Rattle.stream.specs.declared.Stream.{Stream}
 use Rattle.stream.specs.State.{at_place, StreamFit}
 use Rattle.queue.specs.declared.Frame.{Frame}
 use Rattle.queue.specs.declared.Queue.{Queue}
-use Rattle.queue.specs.declared.Waits.{Waits}
 use Rattle.queue.specs.Ring.{place_count, joined_memory, joined_queue}
-use Rattle.queue.specs.Waiting.{waiting, waits_of}
+use Rattle.queue.specs.Waiting.{waiting, charges_of}
 use Rattle.queue.proofs.WaitingLaws.{joins}
 use Rattle.record.specs.Layout.{stream_count}
 use Rattle.record.specs.Queues.{queues_at, last_place_at, best_effort_at, HasMemory}
@@ -72,7 +72,7 @@ module _ (p k m n : List ℕ) (fit : Fit p m) (keeps : Keeps p k) (same : SameRe
   kept_fits : prior_at k < queues_at p
       → ((q : ℕ) → q < queues_at p + 1 → FitQueue (best_effort_at p) n q (queue_at k q))
       → ((s : ℕ) → s < stream_count → stream_fits (last_place_at p) (stream_at k s) (drain_at k s) ≡ true)
-      → waits_at k ≡ waits_of (waiting n (best_effort_at p) (queue_at k (best_effort_at p)))
+      → waits_at k ≡ charges_of (waiting n (best_effort_at p) (queue_at k (best_effort_at p)))
       → Fit k n
   kept_fits prior queues streams waits =
       record {
@@ -149,8 +149,8 @@ module _ (p m : List ℕ) (fit : Fit p m) where
         (λ s b. rw (stream_queue p q x s (omega (arith, queues_most p)), drain_queue p s q x (omega (arith, queues_most p))) (fit.streams s b))
         (waits_queue p q x
         ∙ fit.waits
-        ∙ ap waits_of (sym (others (best_effort_at p) (queue_at p (best_effort_at p)) (λ e. omega arith)))
-        ∙ ap (λ (y : Queue). waits_of (waiting n (best_effort_at p) y)) (sym (other_queue p q x (best_effort_at p) (λ e. omega arith))))
+        ∙ ap charges_of (sym (others (best_effort_at p) (queue_at p (best_effort_at p)) (λ e. omega arith)))
+        ∙ ap (λ (y : Queue). charges_of (waiting n (best_effort_at p) y)) (sym (other_queue p q x (best_effort_at p) (λ e. omega arith))))
 
   -- a queue that a frame joins
   pub fits_joined : (q : ℕ) (f : Frame) → q < queues_at p + 1 → HasMemory p m → (queue_at p q).count < place_count → frame_fits (best_effort_at p) q f ≡ true
@@ -162,19 +162,19 @@ module _ (p m : List ℕ) (fit : Fit p m) where
       )
 
   -- best effort written, and W with it
-  pub fits_best_effort : (n : List ℕ) (x : Queue) (w : Waits) → FitQueue (best_effort_at p) n (best_effort_at p) x
+  pub fits_best_effort : (n : List ℕ) (x : Queue) (octets : ℕ) → FitQueue (best_effort_at p) n (best_effort_at p) x
       → ((r : ℕ) (y : Queue) → (r ≡ best_effort_at p → ⊥) → waiting n r y ≡ waiting m r y)
-      → w ≡ waits_of (waiting n (best_effort_at p) x)
-      → Fit (with_waits (with_queue p (best_effort_at p) x) w) n
-  fits_best_effort n x w waits others sum =
+      → octets ≡ charges_of (waiting n (best_effort_at p) x)
+      → Fit (with_waits (with_queue p (best_effort_at p) x) octets) n
+  fits_best_effort n x octets waits others sum =
       let best = best_effort_at p in
       let k = with_queue p best x in
       let keeps = keeps_queue p best x (omega (arith, queues_most p)) in
-      kept_fits p (with_waits k w) m n fit (keeps_both p k (with_waits k w) keeps (keeps_waits k w))
-      (λ s b. same_stream _ _ (stream_waits k w s ∙ stream_queue p best x s (omega (arith, queues_most p))))
-      (omega (arith, prior_waits k w, prior_queue p best x, fit.prior))
-      (λ q b. rw (queue_waits k w q) (queues_fit_lem n best x waits others (omega arith) q b))
-      (λ s b. rw (stream_waits k w s, drain_waits k s w, stream_queue p best x s (omega (arith, queues_most p)), drain_queue p s best x (omega (arith, queues_most p))) (fit.streams s b))
-      (waits_waits k w (omega (arith, keeps.long, fit.long))
+      kept_fits p (with_waits k octets) m n fit (keeps_both p k (with_waits k octets) keeps (keeps_waits k octets))
+      (λ s b. same_stream _ _ (stream_waits k octets s ∙ stream_queue p best x s (omega (arith, queues_most p))))
+      (omega (arith, prior_waits k octets, prior_queue p best x, fit.prior))
+      (λ q b. rw (queue_waits k octets q) (queues_fit_lem n best x waits others (omega arith) q b))
+      (λ s b. rw (stream_waits k octets s, drain_waits k s octets, stream_queue p best x s (omega (arith, queues_most p)), drain_queue p s best x (omega (arith, queues_most p))) (fit.streams s b))
+      (waits_waits k octets (omega (arith, keeps.long, fit.long))
       ∙ sum
-      ∙ ap (λ (y : Queue). waits_of (waiting n (best_effort_at p) y)) (sym (queue_waits k w best ∙ queue_queue p best x fit.long (omega (arith, queues_most p)))))
+      ∙ ap (λ (y : Queue). charges_of (waiting n (best_effort_at p) y)) (sym (queue_waits k octets best ∙ queue_queue p best x fit.long (omega (arith, queues_most p)))))

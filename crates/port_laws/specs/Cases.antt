@@ -22,18 +22,18 @@ case_link = 2620
 
 -- the port open, and the stream reserved
 abbrev pub opened_case : Case
-opened_case = record { calls = opening (terms case_link 1 0) ∷ []; expected = granted 600 0 ∷ [] }
+opened_case = record { calls = opening (terms case_link 1) ∷ []; expected = granted 600 0 ∷ [] }
 
 abbrev pub reserved_case : Case
 reserved_case = continued opened_case (reserving 5 200 ∷ []) (granted 400 0 ∷ [])
 
 -- "C1 L" 2,103: "3"; 2,104: "share 84"
 abbrev pub c1 : Case
-c1 = record { calls = opening (terms 2103 1 0) ∷ opening (terms 2104 1 0) ∷ []; expected = refused_by 3 ∷ granted 84 0 ∷ [] }
+c1 = record { calls = opening (terms 2103 1) ∷ opening (terms 2104 1) ∷ []; expected = refused_by 3 ∷ granted 84 0 ∷ [] }
 
 -- "C2 L" 23,524: "share 21,504"; 23,525: "3", the refused one first, since a port opens once
 abbrev pub c2 : Case
-c2 = record { calls = opening (terms 23525 1 0) ∷ opening (terms 23524 1 0) ∷ []; expected = refused_by 3 ∷ granted 21504 0 ∷ [] }
+c2 = record { calls = opening (terms 23525 1) ∷ opening (terms 23524 1) ∷ []; expected = refused_by 3 ∷ granted 21504 0 ∷ [] }
 
 -- "C3 P 83: 7; 84 granted"
 abbrev pub c3 : Case
@@ -84,7 +84,7 @@ c11 = continued reserved_case (arriving 5 83 1 ∷ arriving 5 2021 2 ∷ []) (re
 abbrev pub c12 : Case
 c12 =
     continued reserved_case
-    (joining_best_effort 255 2020 1 ∷ joining_best_effort 255 400 2 ∷ joining_best_effort 255 84 3 ∷ [])
+    (joining_best_effort 2020 1 ∷ joining_best_effort 400 2 ∷ joining_best_effort 84 3 ∷ [])
     (granted 2020 0 ∷ granted 2420 0 ∷ refused_by 16 ∷ [])
 
 abbrev pub cases : List Case
@@ -103,7 +103,7 @@ case_untagged octets = replicate {A = ℕ} octets 0
 abbrev pub frames_case : Case
 frames_case =
     continued reserved_case
-    (binding 5 case_address 100 ∷ framing 255 (case_tagged 60) 7 ∷ framing 255 (case_untagged 60) 8 ∷ [])
+    (binding 5 case_address 100 ∷ framing (case_tagged 60) 7 ∷ framing (case_untagged 60) 8 ∷ [])
     (granted 0 0 ∷ granted 1 116 ∷ granted 84 0 ∷ [])
 
 -- "frames of up to 2,000 octets with check sequence", on a stream that has the largest charge in each epoch: the longest, one octet more, the longest in
@@ -111,13 +111,13 @@ frames_case =
 abbrev pub long_frames_case : Case
 long_frames_case =
     record {
-      calls = opening (terms 4040 1 0)
+      calls = opening (terms 4040 1)
           ∷ reserving 5 2020
           ∷ binding 5 case_address 100
-          ∷ framing 255 (case_tagged 1996) 7
-          ∷ framing 255 (case_tagged 1997) 8
-          ∷ framing 255 (case_untagged 1996) 9
-          ∷ framing 255 (case_tagged 1519) 10
+          ∷ framing (case_tagged 1996) 7
+          ∷ framing (case_tagged 1997) 8
+          ∷ framing (case_untagged 1996) 9
+          ∷ framing (case_tagged 1519) 10
           ∷ [];
       expected = granted 2020 0 ∷ granted 0 0 ∷ granted 0 0 ∷ granted 1 2020 ∷ refused_by 17 ∷ granted 2020 0 ∷ granted 2 477 ∷ [];
     }

@@ -5,7 +5,7 @@ use Rattle.steps.specs.Call.{Call, opening, reserving, withdrawing, arriving, ti
 use Rattle.binding.specs.Finding.{frame_lookup}
 use Rattle.gates.specs.Becoming.{becoming}
 
--- the view: a tick, a transmit, a reservation of s with P, a withdrawal of s, an arrival on s, a frame of a caller for best effort, a Frame of a caller by its octets, or a call
+-- the view: a tick, a transmit, a reservation of s with P, a withdrawal of s, an arrival on s, a frame for best effort, a Frame by its octets, or a call
 -- that touches neither the queues nor a stream's reservation
 pub data Action : Type 0 where
   to_tick : Action
@@ -13,8 +13,8 @@ pub data Action : Type 0 where
   to_reserve : ℕ → ℕ → Action
   to_withdraw : ℕ → Action
   to_arrive : ℕ → ℕ → ℕ → Action
-  to_best_effort : ℕ → ℕ → ℕ → Action
-  to_frame : ℕ → List ℕ → ℕ → Action
+  to_best_effort : ℕ → ℕ → Action
+  to_frame : List ℕ → ℕ → Action
   neither : Action
 
 -- the action of each call; a later Open is refused, since the port is open
@@ -25,9 +25,9 @@ action_of (withdrawing s) = to_withdraw s
 action_of (arriving s charge tag) = to_arrive s charge tag
 action_of ticking = to_tick
 action_of transmitting = to_transmit
-action_of (joining_best_effort caller charge tag) = to_best_effort caller charge tag
+action_of (joining_best_effort charge tag) = to_best_effort charge tag
 action_of (binding s address vid) = neither
-action_of (framing caller octets tag) = to_frame caller octets tag
+action_of (framing octets tag) = to_frame octets tag
 
 -- what call c on record p counts as, by its action: of Frames, "one that is not refused with 17 and becomes an Arrive in its list counts there as
 -- that Arrive", and one that becomes Best effort as that; any other call as itself. On an open port 17 is replied just where the length is outside its
@@ -38,8 +38,8 @@ counts_by p c to_transmit = c
 counts_by p c (to_reserve s permitted) = c
 counts_by p c (to_withdraw s) = c
 counts_by p c (to_arrive s charge tag) = c
-counts_by p c (to_best_effort caller charge tag) = c
-counts_by p c (to_frame caller octets tag) = cond (length_fits octets) (becoming caller octets tag (frame_lookup p octets)) c
+counts_by p c (to_best_effort charge tag) = c
+counts_by p c (to_frame octets tag) = cond (length_fits octets) (becoming octets tag (frame_lookup p octets)) c
 counts_by p c neither = c
 
 abbrev pub counts_as : List ℕ → Call → Call

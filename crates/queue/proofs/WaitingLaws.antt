@@ -1,22 +1,20 @@
 -- A queue is first in first out: a frame that joins is the last that waits, the frame that is sent is the first, and the other queues'
 -- frames stay as they are. Over a ring that wraps. Assumes nothing.
-use Prim.Native.Nat.{ℕ, suc, ◌+◌, ◌-◌, ◌≤◌, ◌<◌}
-use mathlib.Core.Bool.{Bool, true, false, cond}
-use lib.Dec.{eqb}
+use Prim.Native.Nat.{ℕ, suc, ◌+◌, ◌-◌, ◌<◌}
 use mathlib.Core.Path.{◌≡◌, refl, ap, ap₂, ◌∙◌}
 use mathlib.Core.List.{List, [], ◌∷◌, ◌++◌}
 use native.Mathlib.Omega.{arith}
 use native.Mathlib.Numerals.{add-one}
 use lib.ListN.{length, get_or}
 use Rattle.lists.specs.Window.{Apart}
-use Rattle.lists.specs.Turns.{list_to, sum_of}
+use Rattle.lists.specs.Turns.{list_to}
 use Rattle.lists.proofs.WindowLaws.{get_or_put, length_put}
 use Rattle.lists.proofs.TurnLaws.{list_to_same, list_to_first, length_list_to, sum_of_snoc}
 use Rattle.queue.specs.declared.Frame.{Frame}
 use Rattle.queue.specs.declared.Queue.{Queue}
-use Rattle.queue.specs.Place.{firmware_stream, place_length, frame_octets, frame_at, with_frame}
+use Rattle.queue.specs.Place.{place_length, frame_octets, frame_at, with_frame}
 use Rattle.queue.specs.Ring.{place_count, HasPart, memory_offset, joined_memory, front_of, joined_queue, sent_queue, empty_queue}
-use Rattle.queue.specs.Waiting.{waiting, charges_of, firmware_charge, waits_of, joined_waits, sent_waits}
+use Rattle.queue.specs.Waiting.{waiting, charges_of}
 use Rattle.queue.proofs.PlaceLaws.{frame_same, frame_apart}
 
 -- an empty queue has no frame waiting
@@ -48,31 +46,14 @@ sends m number q h =
     ∙ list_to_first (λ i. frame_at m (memory_offset number q i)) (q.count - 1)
     ∙ ap (λ (fs : List Frame). frame_at m (memory_offset number q 0) ∷ fs) (list_to_same _ _ (q.count - 1) (λ i b. ap (frame_at m) (omega arith)))
 
--- a frame adds no more than its charge to firmware's
-pub firmware_within : (f : Frame) → firmware_charge f ≤ f.charge
-firmware_within f = told (eqb f.stream firmware_stream)
-  where
-    told : (b : Bool) → ◌≤◌ (cond b f.charge 0) f.charge
-    told true = omega arith
-    told false = omega arith
+-- so the sum of the waiting charges rises by the charge of a frame that joins, and falls by that of the frame that is sent
+pub joins_charges : (m : List ℕ) (number : ℕ) (q : Queue) (f : Frame) → q.count < place_count → HasPart m number
+    → charges_of (waiting (joined_memory m number q f) number (joined_queue q)) ≡ charges_of (waiting m number q) + f.charge
+joins_charges m number q f h room = ap charges_of (joins m number q f h room) ∙ sum_of_snoc (λ g. g.charge) (waiting m number q) f
 
--- so what waits rises by a frame that joins, and falls by the frame that is sent
-pub waits_snoc : (fs : List Frame) (f : Frame) → waits_of (fs ++ (f ∷ [])) ≡ joined_waits (waits_of fs) f
-waits_snoc fs f = rw (sum_of_snoc (λ g. g.charge) fs f, sum_of_snoc firmware_charge fs f)
-
-pub joins_waits : (m : List ℕ) (number : ℕ) (q : Queue) (f : Frame) → q.count < place_count → HasPart m number
-    → waits_of (waiting (joined_memory m number q f) number (joined_queue q)) ≡ joined_waits (waits_of (waiting m number q)) f
-joins_waits m number q f h room = ap waits_of (joins m number q f h room) ∙ waits_snoc (waiting m number q) f
-
-waits_rest : (f : Frame) (fs : List Frame) → waits_of fs ≡ sent_waits (waits_of (f ∷ fs)) f
-waits_rest f fs =
-    let octets : f.charge + charges_of fs - f.charge ≡ charges_of fs = omega arith in
-    let firmware : firmware_charge f + sum_of firmware_charge fs - firmware_charge f ≡ sum_of firmware_charge fs = omega arith in
-    rw (octets, firmware)
-
-pub sends_waits : (m : List ℕ) (number : ℕ) (q : Queue) → 0 < q.count
-    → waits_of (waiting m number (sent_queue q)) ≡ sent_waits (waits_of (waiting m number q)) (front_of m number q)
-sends_waits m number q h = rw (sends m number q h) (waits_rest (front_of m number q) (waiting m number (sent_queue q)))
+pub sends_charges : (m : List ℕ) (number : ℕ) (q : Queue) → 0 < q.count
+    → charges_of (waiting m number q) ≡ (front_of m number q).charge + charges_of (waiting m number (sent_queue q))
+sends_charges m number q h = ap charges_of (sends m number q h)
 
 -- no octet changes but the eight of the place that the frame joins
 pub joins_only : (m : List ℕ) (number : ℕ) (q : Queue) (f : Frame) (k : ℕ) → Apart k 1 (memory_offset number q q.count) place_length

@@ -15,12 +15,9 @@ charge_offset = 2
 abbrev pub tag_offset : ℕ
 tag_offset = 4
 
--- "A frame is (stream, charge, tag), its stream 255 in best effort", and there "255 for query, 253 for firmware"
+-- "A frame is (stream, charge, tag), its stream 255 in best effort"
 abbrev pub best_effort_stream : ℕ
 best_effort_stream = 255
-
-abbrev pub firmware_stream : ℕ
-firmware_stream = 253
 
 -- the octets of a frame, and the frame of a place's octets
 abbrev pub frame_octets : Frame → List ℕ

@@ -2,10 +2,10 @@
 // memory. The definitions are in specs/.
 mod place;
 
-ghost use Rattle.std.specs.Prelude.{◌≡◌, [], ◌+◌, ◌-◌, ◌*◌, ◌≤◌, ◌<◌, length};
+ghost use Rattle.std.specs.Prelude.{◌≡◌, ◌+◌, ◌*◌, ◌≤◌, ◌<◌, length};
 ghost use Rattle.queue.specs.Place.{frame_at, with_frame};
 ghost use Rattle.queue.specs.Ring.{place_count, part_length, HasPart, ring_offset, memory_offset, joined_memory, front_of, joined_queue, sent_queue, empty_queue};
-ghost use Rattle.queue.specs.Waiting.{waiting, charges_of, firmware_charge, waits_of, joined_waits, sent_waits, WaitsKept};
+ghost use Rattle.queue.specs.Waiting.{waiting, charges_of};
 
 // The places of a queue, and the octets of its part of the memory.
 pub const PLACES: u16 = 256;
@@ -14,29 +14,12 @@ const PLACE_COUNT: usize = PLACES as usize;
 
 pub const PART_LENGTH: usize = PLACE_COUNT * place::LENGTH;
 
-// The streams of best effort's frames: that of a query, and that of firmware.
-pub const BEST_EFFORT_STREAM: u16 = 255;
-
-pub const FIRMWARE_STREAM: u16 = 253;
-
 // A frame by its stream, its charge (the octets that it costs on the wire) and its tag (the caller's number for it).
 #[derive(Drop)]
 pub struct Frame {
     pub stream: u16,
     pub charge: u16,
     pub tag: u32,
-}
-
-impl Frame {
-    // What the frame is to the sum of firmware's charges.
-    fn firmware_charge(self) -> u16
-        ensures { result ≡ firmware_charge self }
-    {
-        if self.stream == FIRMWARE_STREAM {
-            return self.charge;
-        }
-        0
-    }
 }
 
 // A queue: the place of its oldest frame, and how many frames wait.
@@ -81,56 +64,6 @@ impl Queue {
         ensures { result ≡ ring_offset self i }
     {
         (self.start as usize + i as usize) % PLACE_COUNT * place::LENGTH
-    }
-}
-
-// What is left of a number after a charge, at least 0.
-fn less(octets: u32, charge: u16) -> u32
-    ensures { result ≡ octets - charge }
-{
-    if octets < charge as u32 {
-        return 0;
-    }
-    octets - charge as u32
-}
-
-// The octets that wait in best effort: W, those of all frames, and those of firmware's frames among them.
-#[derive(Drop)]
-pub struct Waits {
-    pub octets: u32,
-    pub firmware: u32,
-}
-
-impl Waits {
-    // Those of a queue with no frame.
-    pub fn none() -> Waits
-        ensures { result ≡ waits_of [] }
-    {
-        Waits {
-            octets: 0,
-            firmware: 0,
-        }
-    }
-
-    // Those after a frame has joined.
-    pub fn joined(self, frame: Frame) -> Waits
-        requires { WaitsKept self frame }
-        ensures { result ≡ joined_waits self frame }
-    {
-        Waits {
-            octets: self.octets + frame.charge as u32,
-            firmware: self.firmware + frame.firmware_charge() as u32,
-        }
-    }
-
-    // Those after a frame has been sent.
-    pub fn sent(self, frame: Frame) -> Waits
-        ensures { result ≡ sent_waits self frame }
-    {
-        Waits {
-            octets: less(self.octets, frame.charge),
-            firmware: less(self.firmware, frame.firmware_charge()),
-        }
     }
 }
 
@@ -196,19 +129,4 @@ pub fn charges(memory: &[u8], number: u8, queue: Queue) -> u32
         i += 1;
     }
     sum
-}
-
-// The octets that wait in the queue of this number in the whole memory, where it is best effort's.
-pub fn octets_waiting(memory: &[u8], number: u8, queue: Queue) -> Waits
-    requires { HasPart memory.now number }
-    ensures { result ≡ waits_of (waiting memory.now number queue) }
-{
-    let count = queue.count;
-    let mut waits = Waits::none();
-    let mut i: u16 = 0;
-    while i < count {
-        waits = waits.joined(frame_at(memory, number, queue, i));
-        i += 1;
-    }
-    waits
 }

@@ -38,10 +38,6 @@ greatest_delay = 16
 abbrev pub delay_fits : ℕ → Bool
 delay_fits = within 1 greatest_delay
 
--- "Firmware has a limit F in epochs, given at opening and never above K"
-abbrev pub firmware_fits : ℕ → ℕ → Bool
-firmware_fits delay firmware = leb firmware delay
-
 -- "P below 84" is refused; P has no upper end of its own
 abbrev pub permitted_fits : ℕ → Bool
 permitted_fits = leb least_charge

@@ -1,6 +1,6 @@
 // The ranges of documents 01 and 02, each with its numbers in one place. Numbers in calls are 32-bit. The definitions are in specs/.
 ghost use Rattle.std.specs.Prelude.{◌≡◌};
-ghost use Rattle.ranges.specs.Ranges.{within, charge_fits, share_of, link_fits, delay_fits, firmware_fits, permitted_fits, vid_fits};
+ghost use Rattle.ranges.specs.Ranges.{within, charge_fits, share_of, link_fits, delay_fits, permitted_fits, vid_fits};
 
 // The ends of a charge's range; P has the same lower end.
 pub const LEAST_CHARGE: u32 = 84;
@@ -54,13 +54,6 @@ pub fn delay_fits(delay: u32) -> bool
     ensures { result ≡ delay_fits delay }
 {
     within(delay, LEAST_DELAY, GREATEST_DELAY)
-}
-
-// Whether F is in its range, which K bounds.
-pub fn firmware_fits(delay: u32, firmware: u32) -> bool
-    ensures { result ≡ firmware_fits delay firmware }
-{
-    firmware <= delay
 }
 
 // Whether P is in its range.

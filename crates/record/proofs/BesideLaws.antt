@@ -6,18 +6,17 @@ use native.Mathlib.Omega.{arith}
 use lib.ListN.{length}
 use Rattle.lists.specs.Window.{put, get, Apart}
 use Rattle.lists.proofs.WindowLaws.{get_apart, get_get}
-use Rattle.octets.specs.Numbers.{two_of}
+use Rattle.octets.specs.Numbers.{two_of, four_octets}
 use Rattle.stream.specs.declared.Stream.{Stream}
 use Rattle.queue.specs.declared.Queue.{Queue}
 use Rattle.record.specs.Layout.{prior_offset, waits_offset, queue_offset, queue_room, entry_offset, entry_length, place_offset, stream_length, drain_offset, bound_offset, pair_offset, address_offset, address_length}
-use Rattle.record.specs.Head.{octet_of, mark_of, open_at, with_prior, with_waits, queue_octets, with_queue, waits_octets}
+use Rattle.record.specs.Head.{octet_of, mark_of, open_at, with_prior, with_waits, queue_octets, with_queue}
 use Rattle.record.specs.Queues.{queues_at}
 use Rattle.record.specs.Entry.{entry_stream, place_octets, stream_octets, stream_at, with_stream, with_place, drain_at, with_drain, bound_at, vid_at, address_at, pair_octets, with_binding, dropped}
 use Rattle.record.proofs.QueueLaws.{queues_binding, queues_dropped}
 use Rattle.record.proofs.KeepLaws.{Keeps, keeps_prior, keeps_waits, keeps_queue, keeps_stream, keeps_place, keeps_drain}
 use Rattle.record.proofs.BindingPairs.{open_binding}
 use Rattle.record.proofs.DropPairs.{open_dropped, other_dropped}
-use Rattle.queue.specs.declared.Waits.{Waits}
 
 -- record k has these as record l has them
 pub record Beside (s : ℕ) (l k : List ℕ) : Type 0 where
@@ -70,9 +69,9 @@ module _ (s : ℕ) (l : List ℕ) where
   unfolding with_prior
   beside_prior number = beside_put s l prior_offset (number ∷ []) (λ k a b c d. omega arith) (keeps_prior l number)
 
-  pub beside_waits : (w : Waits) → Beside s l (with_waits l w)
+  pub beside_waits : (octets : ℕ) → Beside s l (with_waits l octets)
   unfolding with_waits
-  beside_waits w = beside_put s l waits_offset (waits_octets w) (λ k a b c d. omega arith) (keeps_waits l w)
+  beside_waits octets = beside_put s l waits_offset (four_octets octets) (λ k a b c d. omega arith) (keeps_waits l octets)
 
   pub beside_queue : (q : ℕ) (x : Queue) → q < queue_room → Beside s l (with_queue l q x)
   unfolding with_queue

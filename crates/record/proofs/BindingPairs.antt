@@ -7,10 +7,10 @@ use native.Mathlib.Omega.{arith}
 use lib.ListN.{length}
 use Rattle.lists.specs.Window.{get}
 use Rattle.lists.proofs.WindowLaws.{length_put, get_apart, get_put, get_get}
-use Rattle.octets.specs.Numbers.{two_of}
+use Rattle.octets.specs.Numbers.{two_of, four_of}
 use Rattle.octets.proofs.NumberLaws.{two_octets_lem}
-use Rattle.record.specs.Layout.{Whole, stream_count, head_length, open_offset, prior_offset, delay_offset, link_offset, waits_offset, queue_offset, queue_length, queue_room, entry_offset, stream_length, bound_offset, pair_offset, address_offset, address_length, waits_length, delay_length}
-use Rattle.record.specs.Head.{octet_of, mark_of, open_at, prior_at, delay_at, link_at, waits_at, queue_of, queue_at, waits_read, delay_read}
+use Rattle.record.specs.Layout.{Whole, stream_count, head_length, open_offset, prior_offset, delay_offset, link_offset, waits_offset, queue_offset, queue_length, queue_room, entry_offset, stream_length, bound_offset, pair_offset, address_offset, address_length}
+use Rattle.record.specs.Head.{octet_of, mark_of, open_at, prior_at, delay_at, link_at, waits_at, queue_of, queue_at}
 use Rattle.record.specs.Entry.{entry_stream, stream_at, bound_at, vid_at, address_at, pair_octets, with_binding}
 
 module _ (l : List ℕ) (s : ℕ) (address : List ℕ) (vid : ℕ) where
@@ -33,7 +33,7 @@ module _ (l : List ℕ) (s : ℕ) (address : List ℕ) (vid : ℕ) where
 
   pub delay_binding : delay_at (with_binding l s address vid) ≡ delay_at l
   unfolding delay_at
-  delay_binding = ap delay_read (head_binding delay_offset delay_length (omega arith))
+  delay_binding = ap octet_of (head_binding delay_offset 1 (omega arith))
 
   pub link_binding : link_at (with_binding l s address vid) ≡ link_at l
   unfolding link_at
@@ -41,7 +41,7 @@ module _ (l : List ℕ) (s : ℕ) (address : List ℕ) (vid : ℕ) where
 
   pub waits_binding : waits_at (with_binding l s address vid) ≡ waits_at l
   unfolding waits_at
-  waits_binding = ap waits_read (head_binding waits_offset waits_length (omega arith))
+  waits_binding = ap four_of (head_binding waits_offset 4 (omega arith))
 
   pub queue_binding : (q : ℕ) → q < queue_room → queue_at (with_binding l s address vid) q ≡ queue_at l q
   unfolding queue_at

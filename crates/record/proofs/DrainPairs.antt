@@ -8,12 +8,12 @@ use native.Mathlib.Omega.{arith}
 use Rattle.lists.specs.Window.{get}
 use Rattle.lists.proofs.WindowLaws.{get_apart, get_put, get_get}
 use Rattle.lists.proofs.Order.{eq_or_not}
+use Rattle.octets.specs.Numbers.{four_of, four_octets}
 use Rattle.stream.specs.declared.Stream.{Stream}
 use Rattle.queue.specs.declared.Queue.{Queue}
-use Rattle.record.specs.Layout.{Whole, stream_count, prior_offset, waits_offset, queue_offset, queue_length, queue_room, entry_offset, place_offset, stream_length, drain_offset, bound_offset, waits_length}
-use Rattle.record.specs.Head.{octet_of, prior_at, with_prior, waits_at, with_waits, queue_of, queue_octets, queue_at, with_queue, waits_read, waits_octets}
+use Rattle.record.specs.Layout.{Whole, stream_count, prior_offset, waits_offset, queue_offset, queue_length, queue_room, entry_offset, place_offset, stream_length, drain_offset, bound_offset}
+use Rattle.record.specs.Head.{octet_of, prior_at, with_prior, waits_at, with_waits, queue_of, queue_octets, queue_at, with_queue}
 use Rattle.record.specs.Entry.{entry_stream, place_octets, stream_octets, stream_at, with_stream, with_place, drain_at, with_drain, pair_octets, with_binding}
-use Rattle.queue.specs.declared.Waits.{Waits}
 
 -- after the count of a stream was written
 module _ (l : List ℕ) (s ticks : ℕ) where
@@ -36,7 +36,7 @@ module _ (l : List ℕ) (s ticks : ℕ) where
 
   pub waits_drain : waits_at (with_drain l s ticks) ≡ waits_at l
   unfolding waits_at with_drain
-  waits_drain = ap waits_read (get_apart l (entry_offset s + drain_offset) (ticks ∷ []) waits_offset waits_length (λ k a b c d. omega arith))
+  waits_drain = ap four_of (get_apart l (entry_offset s + drain_offset) (ticks ∷ []) waits_offset 4 (λ k a b c d. omega arith))
 
   pub queue_drain : (q : ℕ) → q < queue_room → queue_at (with_drain l s ticks) q ≡ queue_at l q
   unfolding queue_at with_drain
@@ -56,9 +56,9 @@ module _ (l : List ℕ) (s : ℕ) where
   unfolding drain_at with_prior
   drain_prior number = ap octet_of (get_apart l prior_offset (number ∷ []) (entry_offset s + drain_offset) 1 (λ k a b c d. omega arith))
 
-  pub drain_waits : (w : Waits) → drain_at (with_waits l w) s ≡ drain_at l s
+  pub drain_waits : (octets : ℕ) → drain_at (with_waits l octets) s ≡ drain_at l s
   unfolding drain_at with_waits
-  drain_waits w = ap octet_of (get_apart l waits_offset (waits_octets w) (entry_offset s + drain_offset) 1 (λ k a b c d. omega arith))
+  drain_waits octets = ap octet_of (get_apart l waits_offset (four_octets octets) (entry_offset s + drain_offset) 1 (λ k a b c d. omega arith))
 
   pub drain_queue : (q : ℕ) (x : Queue) → q < queue_room → drain_at (with_queue l q x) s ≡ drain_at l s
   unfolding drain_at with_queue

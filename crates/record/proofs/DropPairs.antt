@@ -7,9 +7,9 @@ use native.Mathlib.Omega.{arith}
 use lib.ListN.{length}
 use Rattle.lists.specs.Window.{put, get}
 use Rattle.lists.proofs.WindowLaws.{length_put, get_apart, get_put, get_get}
-use Rattle.octets.specs.Numbers.{two_of}
-use Rattle.record.specs.Layout.{Whole, head_length, stream_count, open_offset, prior_offset, delay_offset, link_offset, waits_offset, queue_offset, queue_length, queue_room, entry_offset, stream_length, drain_offset, bound_offset, pair_offset, address_offset, address_length, waits_length, delay_length}
-use Rattle.record.specs.Head.{octet_of, mark_of, open_at, prior_at, delay_at, link_at, waits_at, queue_of, queue_at, waits_read, delay_read}
+use Rattle.octets.specs.Numbers.{two_of, four_of}
+use Rattle.record.specs.Layout.{Whole, head_length, stream_count, open_offset, prior_offset, delay_offset, link_offset, waits_offset, queue_offset, queue_length, queue_room, entry_offset, stream_length, drain_offset, bound_offset, pair_offset, address_offset, address_length}
+use Rattle.record.specs.Head.{octet_of, mark_of, open_at, prior_at, delay_at, link_at, waits_at, queue_of, queue_at}
 use Rattle.record.specs.Entry.{entry_stream, stream_at, drain_at, bound_at, vid_at, address_at, dropped}
 
 module _ (l : List ℕ) (s : ℕ) where
@@ -35,7 +35,7 @@ module _ (l : List ℕ) (s : ℕ) where
 
   pub delay_dropped : delay_at (dropped l s) ≡ delay_at l
   unfolding delay_at
-  delay_dropped = ap delay_read (head_dropped delay_offset delay_length (omega arith))
+  delay_dropped = ap octet_of (head_dropped delay_offset 1 (omega arith))
 
   pub link_dropped : link_at (dropped l s) ≡ link_at l
   unfolding link_at
@@ -43,7 +43,7 @@ module _ (l : List ℕ) (s : ℕ) where
 
   pub waits_dropped : waits_at (dropped l s) ≡ waits_at l
   unfolding waits_at
-  waits_dropped = ap waits_read (head_dropped waits_offset waits_length (omega arith))
+  waits_dropped = ap four_of (head_dropped waits_offset 4 (omega arith))
 
   pub queue_dropped : (q : ℕ) → q < queue_room → queue_at (dropped l s) q ≡ queue_at l q
   unfolding queue_at

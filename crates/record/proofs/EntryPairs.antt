@@ -11,12 +11,12 @@ use lib.Dec.{eqb}
 use Rattle.lists.specs.Window.{get}
 use Rattle.lists.proofs.WindowLaws.{get_or_put, get_apart, get_put, get_get}
 use Rattle.lists.proofs.Order.{eq_or_not}
-use Rattle.octets.specs.Numbers.{two_octets}
+use Rattle.octets.specs.Numbers.{two_octets, four_of}
 use Rattle.octets.proofs.NumberLaws.{two_octets_lem}
 use Rattle.stream.specs.declared.Stream.{Stream}
 use Rattle.stream.specs.State.{at_place}
-use Rattle.record.specs.Layout.{Whole, stream_count, prior_offset, waits_offset, queue_offset, queue_length, queue_room, entry_offset, place_offset, left_offset, permitted_offset, stream_length, waits_length}
-use Rattle.record.specs.Head.{octet_of, prior_at, waits_at, queue_of, queue_at, waits_read}
+use Rattle.record.specs.Layout.{Whole, stream_count, prior_offset, waits_offset, queue_offset, queue_length, queue_room, entry_offset, place_offset, left_offset, permitted_offset, stream_length}
+use Rattle.record.specs.Head.{octet_of, prior_at, waits_at, queue_of, queue_at}
 use Rattle.record.specs.Entry.{entry_stream, place_octets, stream_octets, stream_at, with_stream, with_place}
 use Rattle.record.proofs.EntryLaws.{stream_read}
 
@@ -49,7 +49,7 @@ module _ (l : List ℕ) (s : ℕ) (x : Stream) where
 
   pub waits_stream : waits_at (with_stream l s x) ≡ waits_at l
   unfolding waits_at with_stream
-  waits_stream = ap waits_read (get_apart l (entry_offset s) (stream_octets x ++ (0 ∷ [])) waits_offset waits_length (λ k a b c d. omega arith))
+  waits_stream = ap four_of (get_apart l (entry_offset s) (stream_octets x ++ (0 ∷ [])) waits_offset 4 (λ k a b c d. omega arith))
 
   pub queue_stream : (q : ℕ) → q < queue_room → queue_at (with_stream l s x) q ≡ queue_at l q
   unfolding queue_at with_stream
@@ -96,7 +96,7 @@ module _ (l : List ℕ) (s place left : ℕ) where
 
   pub waits_place : waits_at (with_place l s place left) ≡ waits_at l
   unfolding waits_at with_place
-  waits_place = ap waits_read (get_apart l (entry_offset s + place_offset) (place_octets place left) waits_offset waits_length (λ k a b c d. omega arith))
+  waits_place = ap four_of (get_apart l (entry_offset s + place_offset) (place_octets place left) waits_offset 4 (λ k a b c d. omega arith))
 
   pub queue_place : (q : ℕ) → q < queue_room → queue_at (with_place l s place left) q ≡ queue_at l q
   unfolding queue_at with_place

@@ -7,12 +7,12 @@ use mathlib.Core.List.{List, [], ◌∷◌}
 use native.Mathlib.Omega.{arith}
 use Rattle.lists.proofs.WindowLaws.{get_apart, get_put}
 use Rattle.lists.proofs.Order.{eq_or_not}
+use Rattle.octets.specs.Numbers.{four_of, four_octets}
 use Rattle.octets.proofs.NumberLaws.{two_octets_lem, four_octets_lem}
 use Rattle.queue.specs.declared.Queue.{Queue}
-use Rattle.record.specs.Layout.{Whole, prior_offset, waits_offset, queue_offset, queue_length, queue_room, entry_offset, stream_length, waits_length}
-use Rattle.record.specs.Head.{octet_of, prior_at, with_prior, waits_at, with_waits, queue_of, queue_octets, queue_at, with_queue, waits_read, waits_octets}
+use Rattle.record.specs.Layout.{Whole, prior_offset, waits_offset, queue_offset, queue_length, queue_room, entry_offset, stream_length}
+use Rattle.record.specs.Head.{octet_of, prior_at, with_prior, waits_at, with_waits, queue_of, queue_octets, queue_at, with_queue}
 use Rattle.record.specs.Entry.{entry_stream, stream_at}
-use Rattle.queue.specs.declared.Waits.{Waits}
 
 -- after prior was written
 module _ (l : List ℕ) (number : ℕ) where
@@ -22,7 +22,7 @@ module _ (l : List ℕ) (number : ℕ) where
 
   pub waits_prior : waits_at (with_prior l number) ≡ waits_at l
   unfolding waits_at with_prior
-  waits_prior = ap waits_read (get_apart l prior_offset (number ∷ []) waits_offset waits_length (λ k a b c d. omega arith))
+  waits_prior = ap four_of (get_apart l prior_offset (number ∷ []) waits_offset 4 (λ k a b c d. omega arith))
 
   pub queue_prior : (q : ℕ) → queue_at (with_prior l number) q ≡ queue_at l q
   unfolding queue_at with_prior
@@ -32,27 +32,23 @@ module _ (l : List ℕ) (number : ℕ) where
   unfolding stream_at with_prior
   stream_prior s = ap entry_stream (get_apart l prior_offset (number ∷ []) (entry_offset s) stream_length (λ k a b c d. omega arith))
 
--- the octets of what waits in best effort give it again
-waits_octets_lem : (w : Waits) → waits_read (waits_octets w) ≡ w
-waits_octets_lem w = rw (four_octets_lem w.octets, four_octets_lem w.firmware)
-
--- after what waits in best effort was written
-module _ (l : List ℕ) (w : Waits) where
-  pub waits_waits : Whole l → waits_at (with_waits l w) ≡ w
+-- after W was written
+module _ (l : List ℕ) (octets : ℕ) where
+  pub waits_waits : Whole l → waits_at (with_waits l octets) ≡ octets
   unfolding waits_at with_waits
-  waits_waits h = ap waits_read (get_put l waits_offset (waits_octets w) (omega arith)) ∙ waits_octets_lem w
+  waits_waits h = ap four_of (get_put l waits_offset (four_octets octets) (omega arith)) ∙ four_octets_lem octets
 
-  pub prior_waits : prior_at (with_waits l w) ≡ prior_at l
+  pub prior_waits : prior_at (with_waits l octets) ≡ prior_at l
   unfolding prior_at with_waits
-  prior_waits = ap octet_of (get_apart l waits_offset (waits_octets w) prior_offset 1 (λ k a b c d. omega arith))
+  prior_waits = ap octet_of (get_apart l waits_offset (four_octets octets) prior_offset 1 (λ k a b c d. omega arith))
 
-  pub queue_waits : (q : ℕ) → queue_at (with_waits l w) q ≡ queue_at l q
+  pub queue_waits : (q : ℕ) → queue_at (with_waits l octets) q ≡ queue_at l q
   unfolding queue_at with_waits
-  queue_waits q = ap queue_of (get_apart l waits_offset (waits_octets w) (queue_offset q) queue_length (λ k a b c d. omega arith))
+  queue_waits q = ap queue_of (get_apart l waits_offset (four_octets octets) (queue_offset q) queue_length (λ k a b c d. omega arith))
 
-  pub stream_waits : (s : ℕ) → stream_at (with_waits l w) s ≡ stream_at l s
+  pub stream_waits : (s : ℕ) → stream_at (with_waits l octets) s ≡ stream_at l s
   unfolding stream_at with_waits
-  stream_waits s = ap entry_stream (get_apart l waits_offset (waits_octets w) (entry_offset s) stream_length (λ k a b c d. omega arith))
+  stream_waits s = ap entry_stream (get_apart l waits_offset (four_octets octets) (entry_offset s) stream_length (λ k a b c d. omega arith))
 
 -- a queue's octets give the queue again
 queue_octets_lem : (x : Queue) → queue_of (queue_octets x) ≡ x
@@ -74,7 +70,7 @@ module _ (l : List ℕ) (q : ℕ) (x : Queue) where
 
   pub waits_queue : waits_at (with_queue l q x) ≡ waits_at l
   unfolding waits_at with_queue
-  waits_queue = ap waits_read (get_apart l (queue_offset q) (queue_octets x) waits_offset waits_length (λ k a b c d. omega arith))
+  waits_queue = ap four_of (get_apart l (queue_offset q) (queue_octets x) waits_offset 4 (λ k a b c d. omega arith))
 
   pub stream_queue : (s : ℕ) → q < queue_room → stream_at (with_queue l q x) s ≡ stream_at l s
   unfolding stream_at with_queue

@@ -7,14 +7,13 @@ use native.Mathlib.Omega.{arith}
 use lib.ListN.{length}
 use Rattle.lists.specs.Window.{put, Apart}
 use Rattle.lists.proofs.WindowLaws.{length_put, get_apart}
-use Rattle.octets.specs.Numbers.{two_of}
+use Rattle.octets.specs.Numbers.{two_of, four_octets}
 use Rattle.stream.specs.declared.Stream.{Stream}
 use Rattle.queue.specs.declared.Queue.{Queue}
-use Rattle.record.specs.Layout.{open_offset, prior_offset, delay_offset, link_offset, waits_offset, queue_offset, queue_room, entry_offset, entry_length, place_offset, drain_offset, bound_offset, pair_offset, address_offset, address_length, delay_length}
-use Rattle.record.specs.Head.{mark_of, open_at, with_prior, delay_at, link_at, with_waits, queue_octets, with_queue, waits_octets, delay_read}
+use Rattle.record.specs.Layout.{open_offset, prior_offset, delay_offset, link_offset, waits_offset, queue_offset, queue_room, entry_offset, entry_length, place_offset, drain_offset, bound_offset, pair_offset, address_offset, address_length}
+use Rattle.record.specs.Head.{octet_of, mark_of, open_at, with_prior, delay_at, link_at, with_waits, queue_octets, with_queue}
 use Rattle.record.specs.Queues.{queues_at}
 use Rattle.record.specs.Entry.{place_octets, stream_octets, with_stream, with_place, with_drain, bound_at, vid_at, address_at}
-use Rattle.queue.specs.declared.Waits.{Waits}
 
 -- record k has these as record l has them
 pub record Keeps (l k : List ℕ) : Type 0 where
@@ -48,7 +47,7 @@ keeps_both j k l a b =
 -- octets written apart from all of these keep them
 keeps_put : (l : List ℕ) (i : ℕ) (vs : List ℕ)
     → Apart open_offset 1 i (length vs)
-    → Apart delay_offset delay_length i (length vs)
+    → Apart delay_offset 1 i (length vs)
     → Apart link_offset 2 i (length vs)
     → ((s : ℕ) → Apart (entry_offset s + bound_offset) (entry_length - bound_offset) i (length vs))
     → Keeps l (put l i vs)
@@ -58,7 +57,7 @@ keeps_put l i vs opened delay link binding =
       long = length_put l i vs;
       opened = ap mark_of (get_apart l i vs open_offset 1 opened);
       queues = refl;
-      delay = ap delay_read (get_apart l i vs delay_offset delay_length delay);
+      delay = ap octet_of (get_apart l i vs delay_offset 1 delay);
       link = ap two_of (get_apart l i vs link_offset 2 link);
       bound = λ s. ap mark_of (get_apart l i vs (entry_offset s + bound_offset) 1 (λ k a b c d. binding s k a (omega arith) c d));
       vid = λ s. ap two_of (get_apart l i vs (entry_offset s + pair_offset) 2 (λ k a b c d. binding s k (omega arith) (omega arith) c d));
@@ -71,10 +70,10 @@ module _ (l : List ℕ) where
   keeps_prior number =
       keeps_put l prior_offset (number ∷ []) (λ k a b c d. omega arith) (λ k a b c d. omega arith) (λ k a b c d. omega arith) (λ s k a b c d. omega arith)
 
-  pub keeps_waits : (w : Waits) → Keeps l (with_waits l w)
+  pub keeps_waits : (octets : ℕ) → Keeps l (with_waits l octets)
   unfolding with_waits
-  keeps_waits w =
-      keeps_put l waits_offset (waits_octets w) (λ k a b c d. omega arith) (λ k a b c d. omega arith) (λ k a b c d. omega arith) (λ s k a b c d. omega arith)
+  keeps_waits octets =
+      keeps_put l waits_offset (four_octets octets) (λ k a b c d. omega arith) (λ k a b c d. omega arith) (λ k a b c d. omega arith) (λ s k a b c d. omega arith)
 
   pub keeps_queue : (q : ℕ) (x : Queue) → q < queue_room → Keeps l (with_queue l q x)
   unfolding with_queue

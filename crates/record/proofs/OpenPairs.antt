@@ -1,18 +1,19 @@
 -- What the record reads after the writes of Open in the head: the mark of an open port, K, L, and a queue. A law is named after the reader and the
 -- writer. Assumes nothing.
-use Prim.Native.Nat.{ℕ}
-use mathlib.Core.Bool.{true}
+use Prim.Native.Nat.{ℕ, ◌+◌, ◌≤◌, ◌<◌}
+use mathlib.Core.Bool.{true, false}
 use mathlib.Core.Path.{◌≡◌, ap, ◌∙◌}
 use mathlib.Core.List.{List, [], ◌∷◌}
 use native.Mathlib.Omega.{arith}
 use lib.ListN.{length}
+use Rattle.lists.specs.Window.{put, get}
 use Rattle.lists.proofs.WindowLaws.{length_put, get_apart, get_put}
-use Rattle.octets.specs.Numbers.{two_of, two_octets}
+use Rattle.octets.specs.Numbers.{two_of, two_octets, four_of}
 use Rattle.octets.proofs.NumberLaws.{two_octets_lem}
 use Rattle.queue.specs.declared.Queue.{Queue}
-use Rattle.record.specs.Layout.{Whole, open_offset, prior_offset, delay_offset, link_offset, queue_offset, delay_length}
-use Rattle.record.specs.Head.{octet_of, mark_of, open_at, with_open, prior_at, delay_at, with_delay, link_at, with_link, queue_octets, with_queue, delay_read, delay_octets}
-use Rattle.record.specs.declared.Delay.{Delay}
+use Rattle.record.specs.Layout.{Whole, head_length, stream_count, open_offset, prior_offset, delay_offset, link_offset, waits_offset, queue_offset, queue_length, queue_room, entry_offset, bound_offset, stream_length}
+use Rattle.record.specs.Head.{octet_of, mark_of, open_at, with_open, prior_at, delay_at, with_delay, link_at, with_link, waits_at, queue_of, queue_octets, queue_at, with_queue}
+use Rattle.record.specs.Entry.{entry_stream, stream_at, bound_at, dropped}
 
 -- after the port was marked open
 module _ (l : List ℕ) where
@@ -24,23 +25,23 @@ module _ (l : List ℕ) where
   unfolding open_at with_open
   open_open h = ap mark_of (get_put l open_offset (1 ∷ []) (omega arith))
 
--- after the delay bounds were written
-module _ (l : List ℕ) (delay : Delay) where
-  pub length_delay : length (with_delay l delay) ≡ length l
+-- after K was written
+module _ (l : List ℕ) (epochs : ℕ) where
+  pub length_delay : length (with_delay l epochs) ≡ length l
   unfolding with_delay
-  length_delay = length_put l delay_offset (delay_octets delay)
+  length_delay = length_put l delay_offset (epochs ∷ [])
 
-  pub delay_delay : Whole l → delay_at (with_delay l delay) ≡ delay
+  pub delay_delay : Whole l → delay_at (with_delay l epochs) ≡ epochs
   unfolding delay_at with_delay
-  delay_delay h = ap delay_read (get_put l delay_offset (delay_octets delay) (omega arith))
+  delay_delay h = ap octet_of (get_put l delay_offset (epochs ∷ []) (omega arith))
 
-  pub open_delay : open_at (with_delay l delay) ≡ open_at l
+  pub open_delay : open_at (with_delay l epochs) ≡ open_at l
   unfolding open_at with_delay
-  open_delay = ap mark_of (get_apart l delay_offset (delay_octets delay) open_offset 1 (λ k a b c d. omega arith))
+  open_delay = ap mark_of (get_apart l delay_offset (epochs ∷ []) open_offset 1 (λ k a b c d. omega arith))
 
-  pub prior_delay : prior_at (with_delay l delay) ≡ prior_at l
+  pub prior_delay : prior_at (with_delay l epochs) ≡ prior_at l
   unfolding prior_at with_delay
-  prior_delay = ap octet_of (get_apart l delay_offset (delay_octets delay) prior_offset 1 (λ k a b c d. omega arith))
+  prior_delay = ap octet_of (get_apart l delay_offset (epochs ∷ []) prior_offset 1 (λ k a b c d. omega arith))
 
 -- after L was written
 module _ (l : List ℕ) (octets : ℕ) where
@@ -62,7 +63,7 @@ module _ (l : List ℕ) (octets : ℕ) where
 
   pub delay_link : delay_at (with_link l octets) ≡ delay_at l
   unfolding delay_at with_link
-  delay_link = ap delay_read (get_apart l link_offset (two_octets octets) delay_offset delay_length (λ k a b c d. omega arith))
+  delay_link = ap octet_of (get_apart l link_offset (two_octets octets) delay_offset 1 (λ k a b c d. omega arith))
 
 -- after a queue of whatever number was written
 module _ (l : List ℕ) (q : ℕ) (x : Queue) where
@@ -76,7 +77,7 @@ module _ (l : List ℕ) (q : ℕ) (x : Queue) where
 
   pub delay_queue : delay_at (with_queue l q x) ≡ delay_at l
   unfolding delay_at with_queue
-  delay_queue = ap delay_read (get_apart l (queue_offset q) (queue_octets x) delay_offset delay_length (λ k a b c d. omega arith))
+  delay_queue = ap octet_of (get_apart l (queue_offset q) (queue_octets x) delay_offset 1 (λ k a b c d. omega arith))
 
   pub link_queue : link_at (with_queue l q x) ≡ link_at l
   unfolding link_at with_queue

@@ -9,7 +9,6 @@ use Rattle.queue.specs.declared.Queue.{Queue}
 use Rattle.record.specs.Head.{with_open, with_delay, with_link, with_queue}
 use Rattle.record.specs.Entry.{with_binding, dropped}
 use Rattle.record.specs.Queues.{queues_at}
-use Rattle.record.specs.declared.Delay.{Delay}
 
 -- its bounds
 module _ (l : List ℕ) where
@@ -32,9 +31,9 @@ module _ (l : List ℕ) where
   unfolding queues_at
   queues_open = refl
 
-  pub queues_delay : (delay : Delay) → queues_at (with_delay l delay) ≡ queues_at l
+  pub queues_delay : (epochs : ℕ) → queues_at (with_delay l epochs) ≡ queues_at l
   unfolding queues_at
-  queues_delay delay = refl
+  queues_delay epochs = refl
 
   pub queues_link : (octets : ℕ) → queues_at (with_link l octets) ≡ queues_at l
   unfolding queues_at

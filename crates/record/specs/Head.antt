@@ -1,12 +1,9 @@
--- The fields of the record's head, each read and written: open or closed, prior, K, F, L, W with firmware's part of it, and the start and count of each
--- queue.
+-- The fields of the record's head, each read and written: open or closed, prior, K, L, W, and the start and count of each queue.
 use Rattle.std.specs.Prelude.{ℕ, Bool, List, [], ◌∷◌, ◌++◌, get_or, eqb}
 use Rattle.lists.specs.Window.{put, get}
 use Rattle.octets.specs.Numbers.{two_of, two_octets, four_of, four_octets}
 use Rattle.queue.specs.declared.Queue.{Queue}
-use Rattle.queue.specs.declared.Waits.{Waits}
-use Rattle.record.specs.declared.Delay.{Delay}
-use Rattle.record.specs.Layout.{open_offset, prior_offset, delay_offset, delay_length, link_offset, waits_offset, waits_length, firmware_waits_offset, queue_offset, queue_length, count_offset}
+use Rattle.record.specs.Layout.{open_offset, prior_offset, delay_offset, link_offset, waits_offset, queue_offset, queue_length, count_offset}
 
 -- one octet as a number, and as a mark: 1 is yes, any other no
 abbrev pub octet_of : List ℕ → ℕ
@@ -29,18 +26,12 @@ prior_at l = octet_of (get l prior_offset 1)
 unfoldable pub with_prior : List ℕ → ℕ → List ℕ
 with_prior l number = put l prior_offset (number ∷ [])
 
--- the delay bounds in epochs: K, that of best effort, and F, firmware's own
-abbrev pub delay_read : List ℕ → Delay
-delay_read o = record { epochs = get_or o 0 0; firmware = get_or o 1 0 }
+-- K, the best-effort delay bound in epochs
+unfoldable pub delay_at : List ℕ → ℕ
+delay_at l = octet_of (get l delay_offset 1)
 
-abbrev pub delay_octets : Delay → List ℕ
-delay_octets d = d.epochs ∷ d.firmware ∷ []
-
-unfoldable pub delay_at : List ℕ → Delay
-delay_at l = delay_read (get l delay_offset delay_length)
-
-unfoldable pub with_delay : List ℕ → Delay → List ℕ
-with_delay l d = put l delay_offset (delay_octets d)
+unfoldable pub with_delay : List ℕ → ℕ → List ℕ
+with_delay l epochs = put l delay_offset (epochs ∷ [])
 
 -- L, the link octets in an epoch
 unfoldable pub link_at : List ℕ → ℕ
@@ -49,18 +40,12 @@ link_at l = two_of (get l link_offset 2)
 unfoldable pub with_link : List ℕ → ℕ → List ℕ
 with_link l octets = put l link_offset (two_octets octets)
 
--- what waits in best effort: W, the sum of charges, and the sum of firmware's charges among them
-abbrev pub waits_read : List ℕ → Waits
-waits_read o = record { octets = four_of (get o 0 4); firmware = four_of (get o firmware_waits_offset 4) }
+-- W, the sum of charges waiting in best effort
+unfoldable pub waits_at : List ℕ → ℕ
+waits_at l = four_of (get l waits_offset 4)
 
-abbrev pub waits_octets : Waits → List ℕ
-waits_octets w = four_octets w.octets ++ four_octets w.firmware
-
-unfoldable pub waits_at : List ℕ → Waits
-waits_at l = waits_read (get l waits_offset waits_length)
-
-unfoldable pub with_waits : List ℕ → Waits → List ℕ
-with_waits l w = put l waits_offset (waits_octets w)
+unfoldable pub with_waits : List ℕ → ℕ → List ℕ
+with_waits l octets = put l waits_offset (four_octets octets)
 
 -- the start and count of queue q
 abbrev pub queue_of : List ℕ → Queue

@@ -26,8 +26,7 @@ memory_length queues = (queues + 1) * part_length
 abbrev pub Whole : List ℕ → Type 0
 Whole l = record_length ≤ length l
 
--- the head's fields: open (1 octet, 1: open), prior (1), K (1) and F (1), L (2), W (4) and what of it is firmware's (4), then for each queue its start (2)
--- and count (2)
+-- the head's fields: open (1 octet, 1: open), prior (1), K (1), L (2), W (4), then for each queue its start (2) and count (2)
 abbrev pub open_offset : ℕ
 open_offset = 0
 
@@ -37,20 +36,11 @@ prior_offset = 1
 abbrev pub delay_offset : ℕ
 delay_offset = 2
 
-abbrev pub delay_length : ℕ
-delay_length = 2
-
 abbrev pub link_offset : ℕ
 link_offset = 6
 
 abbrev pub waits_offset : ℕ
 waits_offset = 8
-
-abbrev pub waits_length : ℕ
-waits_length = 8
-
-abbrev pub firmware_waits_offset : ℕ
-firmware_waits_offset = 4
 
 abbrev pub queues_offset : ℕ
 queues_offset = 16

@@ -1,12 +1,11 @@
-// The fields of the record's head: open or closed, prior, K, F, L, W with firmware's part of it, the number of queues, and the start and count of each.
+// The fields of the record's head: open or closed, prior, K, L, W, the number of queues, and the start and count of each.
 ghost use Rattle.std.specs.Prelude.{◌≡◌, ◌≤◌, ◌<◌};
 ghost use Rattle.stream.specs.State.{least_queues, most_queues};
 ghost use Rattle.record.specs.Layout.{Whole, memory_length, queue_room, queue_offset};
 ghost use Rattle.record.specs.Queues.{queues_at, last_place_at, best_effort_at};
 ghost use Rattle.record.specs.Head.{open_at, with_open, prior_at, with_prior, delay_at, with_delay, link_at, with_link, waits_at, with_waits, queue_at, with_queue};
 
-use crate::Delay;
-use queue::{Queue, Waits};
+use queue::Queue;
 
 // Where the fields begin.
 const OPEN: usize = 0;
@@ -15,13 +14,9 @@ const PRIOR: usize = 1;
 
 const DELAY: usize = 2;
 
-const FIRMWARE: usize = 3;
-
 const LINK: usize = 6;
 
 const WAITS: usize = 8;
-
-const FIRMWARE_WAITS: usize = 12;
 
 const QUEUES: usize = 16;
 
@@ -62,24 +57,20 @@ pub fn put_prior(port: &mut [u8], number: u8)
     crate::put_octet(port, PRIOR, number);
 }
 
-// The delay bounds: K, and F.
-pub fn delay(port: &[u8]) -> Delay
+// K, the best-effort delay bound in epochs.
+pub fn delay(port: &[u8]) -> u8
     requires { Whole port.now }
     ensures { result ≡ delay_at port.now }
 {
-    Delay {
-        epochs: port[DELAY],
-        firmware: port[FIRMWARE],
-    }
+    port[DELAY]
 }
 
-// Writes both.
-pub fn put_delay(port: &mut [u8], delay: Delay)
+// Writes K.
+pub fn put_delay(port: &mut [u8], epochs: u8)
     requires { Whole port.old }
-    ensures { port.new ≡ with_delay port.old delay }
+    ensures { port.new ≡ with_delay port.old epochs }
 {
-    crate::put_octet(port, DELAY, delay.epochs);
-    crate::put_octet(port, FIRMWARE, delay.firmware);
+    crate::put_octet(port, DELAY, epochs);
 }
 
 // L, the link octets in an epoch.
@@ -98,24 +89,20 @@ pub fn put_link(port: &mut [u8], octets: u16)
     octets::put_two(port, LINK, octets);
 }
 
-// What waits in best effort: W, and firmware's part of it.
-pub fn waits(port: &[u8]) -> Waits
+// W, the sum of charges waiting in best effort.
+pub fn waits(port: &[u8]) -> u32
     requires { Whole port.now }
     ensures { result ≡ waits_at port.now }
 {
-    Waits {
-        octets: octets::four_at(port, WAITS),
-        firmware: octets::four_at(port, FIRMWARE_WAITS),
-    }
+    octets::four_at(port, WAITS)
 }
 
-// Writes both.
-pub fn put_waits(port: &mut [u8], waits: Waits)
+// Writes W.
+pub fn put_waits(port: &mut [u8], octets: u32)
     requires { Whole port.old }
-    ensures { port.new ≡ with_waits port.old waits }
+    ensures { port.new ≡ with_waits port.old octets }
 {
-    octets::put_four(port, WAITS, waits.octets);
-    octets::put_four(port, FIRMWARE_WAITS, waits.firmware);
+    octets::put_four(port, WAITS, octets);
 }
 
 // The queues for reserved traffic, of a slice of any length.

@@ -20,13 +20,6 @@ pub const LEAST_MEMORY_LENGTH: usize = (LEAST_QUEUES as usize + 1) * queue::PART
 // The octets of an address.
 pub const ADDRESS_LENGTH: usize = 6;
 
-// The delay bounds in epochs: K, that of best effort, and F, firmware's own.
-#[derive(Drop)]
-pub struct Delay {
-    pub epochs: u8,
-    pub firmware: u8,
-}
-
 // An octet as a mark: 1 is yes, any other no.
 const YES: u8 = 1;
 

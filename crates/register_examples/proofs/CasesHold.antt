@@ -55,6 +55,6 @@ use_cases_hold =
     ∙ quickly
 
 -- a counter that stands at 4,294,967,295 wraps
-pub wraps : uses_reply quickly_used wrap_uses (at_the_end (quickly_used (calling (opening (terms 2620 1 0))) fresh_port fresh_memory).port) fresh_memory ≡ wrap_expected
+pub wraps : uses_reply quickly_used wrap_uses (at_the_end (quickly_used (calling (opening (terms 2620 1))) fresh_port fresh_memory).port) fresh_memory ≡ wrap_expected
 unfolding all_to sum_to list_to iterate two_of four_of attempt arrive_of tick_of frame_at with_frame joined_memory front_of waiting open_at with_open prior_at with_prior delay_at with_delay link_at with_link waits_at with_waits queue_at queues_at with_queue stream_at with_stream with_place drain_at with_drain drains_at bound_at vid_at dropped record_fits lent_refusal role_at opened_record arrive_step drained_at ticked_record tick_step transmit_step best_effort_step open_refusal reserve_refusal arrive_refusal closed_refusal best_effort_refusal registered short_refusal in_block open_noted octets_equal address_at with_binding charge_of length_fits tagged_frame vid_of compared_back compared_at lookup_from lookup frame_lookup bind_refusal frame_refusal withdraw_refusal withdraw_noted arrival_noted accepted discarded withdrawn shown_count tick_noted transmit_noted offset_refusal read_by named write_by flag_at with_flag without_flag word_at with_word raised zeroed flags_of shares_one line_up status_of register_at cleared_by written_at length_refusal
 wraps = refl

@@ -49,7 +49,7 @@ controlled_opens = refl
 abbrev calls : CallList
 calls = calls_in (controlled_list controlled_opens) (guaranteed (controlled_list controlled_opens)).opens_record
 
-quickly_made : events quickly_called (opening (terms 2104 1 0) ∷ all_calls controlled_uses) fresh_record fresh_memory ≡ controlled
+quickly_made : events quickly_called (opening (terms 2104 1) ∷ all_calls controlled_uses) fresh_record fresh_memory ≡ controlled
 unfolding all_to sum_to list_to iterate two_of four_of attempt arrive_of tick_of frame_at with_frame joined_memory front_of waiting open_at with_open prior_at with_prior delay_at with_delay link_at with_link waits_at with_waits queue_at queues_at with_queue stream_at with_stream with_place drain_at with_drain drains_at bound_at vid_at dropped role_at opened_record arrive_step drained_at ticked_record tick_step transmit_step best_effort_step open_refusal reserve_refusal arrive_refusal closed_refusal best_effort_refusal length_refusal named
 quickly_made = refl
 

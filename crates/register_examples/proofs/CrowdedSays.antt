@@ -40,7 +40,7 @@ use Rattle.register_examples.specs.Crowded.{crowded_uses, own_calls, own_grants,
 
 -- the events of a list of uses, by the quick calls
 abbrev quick_events : List Use → List Event
-quick_events us = events quickly_called (opening (terms 2620 1 0) ∷ all_calls us) fresh_record fresh_memory
+quick_events us = events quickly_called (opening (terms 2620 1) ∷ all_calls us) fresh_record fresh_memory
 
 quickly : (us : List Use) → events_of (list_of us it_opens) ≡ quick_events us
 quickly us = sym (quick_events_lem (calls_in (list_of us it_opens) (opened_record_lem (list_of us it_opens))))

@@ -35,14 +35,14 @@ controlled_uses =
     ∷ []
 
 abbrev pub ControlledOpens : Type 0
-ControlledOpens = (port_call (opening (terms 2104 1 0)) fresh_port fresh_memory).reply.refusal ≡ 0
+ControlledOpens = (port_call (opening (terms 2104 1)) fresh_port fresh_memory).reply.refusal ≡ 0
 
 abbrev pub controlled_list : ControlledOpens → UseList
-controlled_list opened = record { port = fresh_port; memory = fresh_memory; terms = terms 2104 1 0; later = controlled_uses; opened = opened }
+controlled_list opened = record { port = fresh_port; memory = fresh_memory; terms = terms 2104 1; later = controlled_uses; opened = opened }
 
 -- the events of its calls, of which are open the reply to the frame and what the second control write sends
 abbrev pub controlled_before : List Event
-controlled_before = replied (opening (terms 2104 1 0)) (granted 84 0) ∷ []
+controlled_before = replied (opening (terms 2104 1)) (granted 84 0) ∷ []
 
 abbrev pub controlled_grant : Event
 controlled_grant = replied (reserving 5 84) (granted 0 0)
@@ -82,6 +82,6 @@ pub record ControlledSays : Type 0 where
       ≡ (in_turn called (lent (record_part (opened_by (controlled_list opens)).port) (opened_by (controlled_list opens)).memory) (all_calls controlled_uses)).port
   pub memory_follows : (left_by (controlled_list opens)).memory
       ≡ (in_turn called (lent (record_part (opened_by (controlled_list opens)).port) (opened_by (controlled_list opens)).memory) (all_calls controlled_uses)).memory
-  pub open_replies : (opened_by (controlled_list opens)).reply ≡ (called (opening (terms 2104 1 0)) (record_part fresh_port) fresh_memory).reply
-  pub open_record : record_part (opened_by (controlled_list opens)).port ≡ (called (opening (terms 2104 1 0)) (record_part fresh_port) fresh_memory).port
-  pub open_memory : (opened_by (controlled_list opens)).memory ≡ (called (opening (terms 2104 1 0)) (record_part fresh_port) fresh_memory).memory
+  pub open_replies : (opened_by (controlled_list opens)).reply ≡ (called (opening (terms 2104 1)) (record_part fresh_port) fresh_memory).reply
+  pub open_record : record_part (opened_by (controlled_list opens)).port ≡ (called (opening (terms 2104 1)) (record_part fresh_port) fresh_memory).port
+  pub open_memory : (opened_by (controlled_list opens)).memory ≡ (called (opening (terms 2104 1)) (record_part fresh_port) fresh_memory).memory

@@ -16,7 +16,7 @@ crowded_uses =
     ∷ calling (reserving 5 200)
     ∷ calling (arriving 6 200 8)
     ∷ calling (arriving 5 200 1)
-    ∷ calling (joining_best_effort 255 84 9)
+    ∷ calling (joining_best_effort 84 9)
     ∷ calling (arriving 5 200 2)
     ∷ writing 28 6
     ∷ calling (arriving 5 200 3)

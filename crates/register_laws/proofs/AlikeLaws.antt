@@ -56,9 +56,9 @@ tally refusal n (arriving s charge tag ∷ cs) [] gs = n
 tally refusal n (arriving s charge tag ∷ cs) (r ∷ rs) gs = tally refusal (cond (eqb r.refusal refusal) (n + 1) n) cs rs gs
 tally refusal n (ticking ∷ cs) rs gs = tally refusal n cs rs gs
 tally refusal n (transmitting ∷ cs) rs gs = tally refusal n cs rs gs
-tally refusal n (joining_best_effort caller charge tag ∷ cs) rs gs = tally refusal n cs rs gs
+tally refusal n (joining_best_effort charge tag ∷ cs) rs gs = tally refusal n cs rs gs
 tally refusal n (binding s address vid ∷ cs) rs gs = tally refusal n cs rs gs
-tally refusal n (framing caller octets tag ∷ cs) rs gs = tally refusal n cs rs gs
+tally refusal n (framing octets tag ∷ cs) rs gs = tally refusal n cs rs gs
 
 module _ (refusal s : ℕ) where
   -- the count of happenings
@@ -102,9 +102,9 @@ module _ (refusal s : ℕ) where
         by_stream false = rest n
     one ticking n none = rest n
     one transmitting n none = rest n
-    one (joining_best_effort caller charge tag) n none = rest n
+    one (joining_best_effort charge tag) n none = rest n
     one (binding i address vid) n none = rest n
-    one (framing caller octets tag) n none = rest n
+    one (framing octets tag) n none = rest n
 
   tallied : (es : List Event) → All (λ h. is_reply granted_open h ≡ false) (happened es) → Tallied es
   tallied [] none n = refl

@@ -17,7 +17,7 @@ abbrev frames : List Happening
 frames =
     replied (arriving 5 84 1) (granted 1 0)
     ∷ replied (arriving 6 84 2) (granted 1 0)
-    ∷ replied (joining_best_effort 255 84 3) (granted 84 0)
+    ∷ replied (joining_best_effort 84 3) (granted 84 0)
     ∷ replied (arriving 5 84 4) (granted 2 0)
     ∷ replied (arriving 5 83 5) (refused_by 13)
     ∷ replied (arriving 5 84 6) (refused_by 14)
@@ -39,7 +39,7 @@ other_discards_none : how_many (is_reply (discard_of 6)) frames ≡ 0
 other_discards_none = refl
 
 -- a frame of best effort is none of a stream's
-best_effort_uncounted : is_there (is_reply (acceptance_of 5)) (replied (joining_best_effort 255 84 3) (granted 84 0) ∷ []) ≡ false
+best_effort_uncounted : is_there (is_reply (acceptance_of 5)) (replied (joining_best_effort 84 3) (granted 84 0) ∷ []) ≡ false
 best_effort_uncounted = refl
 
 -- "since the latest opening or granted withdrawal": a withdrawal of the stream begins, and neither a refused one nor another stream's does
@@ -57,7 +57,7 @@ tick_begins_nothing : is_reply (beginning 5) (replied ticking (granted 0 0)) ≡
 tick_begins_nothing = refl
 
 -- and an opening does
-since_opening : how_many (is_reply (acceptance_of 5)) (since (is_reply (beginning 5)) (frames_with (replied (opening (terms 2620 1 0)) (granted 600 0)))) ≡ 1
+since_opening : how_many (is_reply (acceptance_of 5)) (since (is_reply (beginning 5)) (frames_with (replied (opening (terms 2620 1)) (granted 600 0)))) ≡ 1
 since_opening = refl
 
 -- of two withdrawals "the latest"
@@ -85,7 +85,7 @@ other_flag : clears purge_flag (written 8 1) ≡ false
 other_flag = refl
 
 -- "from 0 at opening": a refused Open clears nothing
-refused_open : clears discard_flag (replied (opening (terms 2620 1 0)) (refused_by 2)) ≡ false
+refused_open : clears discard_flag (replied (opening (terms 2620 1)) (refused_by 2)) ≡ false
 refused_open = refl
 
 -- a write to another register than control makes no call

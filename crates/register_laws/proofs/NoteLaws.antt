@@ -31,9 +31,9 @@ module _ (G : List ℕ → Type 0) (b : List ℕ) (same : G b) where
   by_note (arriving i charge tag) r z w a d p s n = either_block G (eqb r.refusal 0) _ _ (a i) (either_block G (eqb r.refusal 14) _ _ (d i) same)
   by_note ticking r z w a d p s n = either_block G (eqb r.refusal 0) _ _ (either_block G (eqb r.first 0) _ _ same p) same
   by_note transmitting r z w a d p s n = either_block G (eqb r.refusal 0) _ _ (either_block G (eqb r.first nothing) _ _ n s) same
-  by_note (joining_best_effort caller charge tag) r z w a d p s n = same
+  by_note (joining_best_effort charge tag) r z w a d p s n = same
   by_note (binding i address vid) r z w a d p s n = same
-  by_note (framing caller octets tag) r z w a d p s n = same
+  by_note (framing octets tag) r z w a d p s n = same
 
 pub length_noted : (c : Call) (r : Reply) (b : List ℕ) → length (noted c r b) ≡ length b
 length_noted c r b =

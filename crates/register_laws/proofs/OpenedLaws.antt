@@ -61,11 +61,11 @@ call_no_open (withdrawing s) p m opened = refl
 call_no_open (arriving s charge tag) p m opened = refl
 call_no_open ticking p m opened = refl
 call_no_open transmitting p m opened = refl
-call_no_open (joining_best_effort caller charge tag) p m opened = refl
+call_no_open (joining_best_effort charge tag) p m opened = refl
 call_no_open (binding s address vid) p m opened = refl
-call_no_open (framing caller octets tag) p m opened = by_found (length_fits octets) (frame_lookup p octets)
+call_no_open (framing octets tag) p m opened = by_found (length_fits octets) (frame_lookup p octets)
   where
-    by_found : (fits : Bool) (found : Lookup) → granted_open (sort_of (cond fits (becoming caller octets tag found) (framing caller octets tag))) (called (framing caller octets tag) p m).reply ≡ false
+    by_found : (fits : Bool) (found : Lookup) → granted_open (sort_of (cond fits (becoming octets tag found) (framing octets tag))) (called (framing octets tag) p m).reply ≡ false
     by_found true (Bound s) = refl
     by_found true Unbound = refl
     by_found false found = refl

@@ -31,9 +31,9 @@ by_sort (withdrawing s) r b = refl
 by_sort (arriving s charge tag) r b = refl
 by_sort ticking r b = refl
 by_sort transmitting r b = refl
-by_sort (joining_best_effort caller charge tag) r b = refl
+by_sort (joining_best_effort charge tag) r b = refl
 by_sort (binding s address vid) r b = refl
-by_sort (framing caller octets tag) r b = refl
+by_sort (framing octets tag) r b = refl
 
 module _ {A : Type 0} (f : List ℕ → A) (b : List ℕ) where
   -- the field after every call, where it is known after each that notes something

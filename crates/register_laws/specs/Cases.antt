@@ -36,9 +36,9 @@ closed_case =
           ∷ reading 28
           ∷ reading 4
           ∷ writing 0 1
-          ∷ calling (opening (terms 2103 1 0))
+          ∷ calling (opening (terms 2103 1))
           ∷ reading 12
-          ∷ calling (opening (terms 2620 1 0))
+          ∷ calling (opening (terms 2620 1))
           ∷ reading 12
           ∷ reading 28
           ∷ reading 4
@@ -74,7 +74,7 @@ discard_uses =
 abbrev pub discard_case : UseCase
 discard_case =
     record {
-      uses = (calling (opening (terms 2620 1 0)) ∷ discard_uses) ++ (reading 16 ∷ reading 20 ∷ reading 8 ∷ reading 4 ∷ writing 8 6 ∷ reading 8 ∷ writing 8 1 ∷ reading 8 ∷ reading 4 ∷ []);
+      uses = (calling (opening (terms 2620 1)) ∷ discard_uses) ++ (reading 16 ∷ reading 20 ∷ reading 8 ∷ reading 4 ∷ writing 8 6 ∷ reading 8 ∷ writing 8 1 ∷ reading 8 ∷ reading 4 ∷ []);
       expected = granted 600 0
           ∷ granted 400 0
           ∷ granted 0 0
@@ -102,7 +102,7 @@ control_uses = discard_uses ++ (writing 0 3 ∷ writing 0 1 ∷ writing 0 1 ∷ 
 abbrev pub control_case : UseCase
 control_case =
     record {
-      uses = (calling (opening (terms 2620 1 0)) ∷ control_uses) ++ (reading 8 ∷ reading 24 ∷ reading 4 ∷ reading 0 ∷ writing 16 9 ∷ reading 16 ∷ reading 32 ∷ reading 2 ∷ reading 64 ∷ []);
+      uses = (calling (opening (terms 2620 1)) ∷ control_uses) ++ (reading 8 ∷ reading 24 ∷ reading 4 ∷ reading 0 ∷ writing 16 9 ∷ reading 16 ∷ reading 32 ∷ reading 2 ∷ reading 64 ∷ []);
       expected = granted 600 0
           ∷ granted 400 0
           ∷ granted 0 0
@@ -133,13 +133,13 @@ control_case =
 abbrev pub streams_case : UseCase
 streams_case =
     record {
-      uses = calling (opening (terms 2620 1 0))
+      uses = calling (opening (terms 2620 1))
           ∷ calling (reserving 0 84)
           ∷ calling (reserving 63 200)
           ∷ calling (binding 63 case_address 100)
           ∷ calling (arriving 0 84 1)
-          ∷ calling (framing 255 (case_tagged 60) 2)
-          ∷ calling (joining_best_effort 255 84 3)
+          ∷ calling (framing (case_tagged 60) 2)
+          ∷ calling (joining_best_effort 84 3)
           ∷ calling (arriving 63 201 4)
           ∷ reading 16
           ∷ reading 20
@@ -182,7 +182,7 @@ streams_case =
 abbrev pub withdrawn_case : UseCase
 withdrawn_case =
     record {
-      uses = (calling (opening (terms 2620 1 0)) ∷ discard_uses)
+      uses = (calling (opening (terms 2620 1)) ∷ discard_uses)
           ++ (calling (withdrawing 5)
           ∷ reading 16
           ∷ reading 20

@@ -34,9 +34,9 @@ sort_of (withdrawing s) = withdraws s
 sort_of (arriving s charge tag) = arrives s
 sort_of ticking = ticks
 sort_of transmitting = transmits
-sort_of (joining_best_effort caller charge tag) = others
+sort_of (joining_best_effort charge tag) = others
 sort_of (binding s address vid) = others
-sort_of (framing caller octets tag) = others
+sort_of (framing octets tag) = others
 
 -- a reply of each sort that a counter or a flag tells: a granted Open,
 abbrev pub granted_open : Sort → Reply → Bool

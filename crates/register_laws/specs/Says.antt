@@ -20,10 +20,10 @@ use Rattle.register_laws.specs.Cases.{fresh_port, control_uses}
 
 -- uses after Open(2,620, 1) on a port never opened
 abbrev pub Opens : List Use → Type 0
-Opens us = (port_call (opening (terms 2620 1 0)) fresh_port fresh_memory).reply.refusal ≡ 0
+Opens us = (port_call (opening (terms 2620 1)) fresh_port fresh_memory).reply.refusal ≡ 0
 
 abbrev pub list_of : (us : List Use) → Opens us → UseList
-list_of us opened = record { port = fresh_port; memory = fresh_memory; terms = terms 2620 1 0; later = us; opened = opened }
+list_of us opened = record { port = fresh_port; memory = fresh_memory; terms = terms 2620 1; later = us; opened = opened }
 
 -- the same with the discard flag cleared at the end
 abbrev pub cleared_uses : List Use

@@ -84,7 +84,7 @@ arrival_counted : word_at (noted (arriving 1 84 7) (granted 1 0) counted) (accep
 unfolding arrival_noted accepted word_at four_of two_of raised with_word
 arrival_counted = refl
 
-best_effort_not_counted : word_at (noted (joining_best_effort 255 84 7) (granted 84 0) quiet) (accepted_octet 0) ≡ 0
+best_effort_not_counted : word_at (noted (joining_best_effort 84 7) (granted 84 0) quiet) (accepted_octet 0) ≡ 0
 unfolding arrival_noted accepted word_at four_of two_of raised with_word
 best_effort_not_counted = refl
 
@@ -132,11 +132,11 @@ bound =
     replicate {A = ℕ} 80 0
     ++ (1 ∷ 1 ∷ 0 ∷ 200 ∷ 0 ∷ 200 ∷ 0 ∷ 1 ∷ 0 ∷ 100 ∷ (case_address ++ (replicate {A = ℕ} 992 0 ++ (counted ++ replicate {A = ℕ} 496 0))))
 
-frame_counted : word_at (block_part (registered (λ c p m. outcome (granted 1 0) p m) (framing 255 (case_tagged 60) 7) bound []).port) (accepted_octet 1) ≡ 12
+frame_counted : word_at (block_part (registered (λ c p m. outcome (granted 1 0) p m) (framing (case_tagged 60) 7) bound []).port) (accepted_octet 1) ≡ 12
 unfolding registered short_refusal queues_at all_to octets_equal bound_at vid_at address_at charge_of length_fits tagged_frame vid_of compared_back compared_at lookup_from lookup frame_lookup stream_at withdrawn arrival_noted accepted discarded word_at four_of two_of raised with_word with_flag
 frame_counted = refl
 
-frame_discarded : word_at (block_part (registered (λ c p m. refused 14 p m) (framing 255 (case_tagged 60) 7) bound []).port) (discarded_octet 1) ≡ 14
+frame_discarded : word_at (block_part (registered (λ c p m. refused 14 p m) (framing (case_tagged 60) 7) bound []).port) (discarded_octet 1) ≡ 14
 unfolding registered short_refusal queues_at all_to octets_equal bound_at vid_at address_at charge_of length_fits tagged_frame vid_of compared_back compared_at lookup_from lookup frame_lookup stream_at withdrawn arrival_noted accepted discarded word_at four_of two_of raised with_word with_flag
 frame_discarded = refl
 
@@ -195,9 +195,9 @@ number_of (withdrawing s) = 3
 number_of (arriving s charge tag) = 4
 number_of ticking = 5
 number_of transmitting = 6
-number_of (joining_best_effort caller charge tag) = 7
+number_of (joining_best_effort charge tag) = 7
 number_of (binding s address vid) = 8
-number_of (framing caller octets tag) = 9
+number_of (framing octets tag) = 9
 
 abbrev numbers_of : List Call → List ℕ
 numbers_of [] = []

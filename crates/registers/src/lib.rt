@@ -32,21 +32,15 @@ fn lengths(port: &[u8], memory: &[u8]) -> u8
     fitness::UNFIT_RECORD
 }
 
-// Open(L, K, F).
-pub fn open_port(port: &mut [u8], memory: &[u8], link: u32, delay: u32, firmware: u32) -> Reply
-    ensures { outcome result port.new memory.now ≡ port_call (opening (terms link delay firmware)) port.old memory.now }
+// Open(L, K).
+pub fn open_port(port: &mut [u8], memory: &[u8], link: u32, delay: u32) -> Reply
+    ensures { outcome result port.new memory.now ≡ port_call (opening (terms link delay)) port.old memory.now }
 {
     let refusal = lengths(port, memory);
     if refusal != 0 {
         return steps::refused(refusal);
     }
-    let reply = port::open_port(
-        &mut port[..record::RECORD_LENGTH],
-        memory,
-        link,
-        delay,
-        firmware,
-    );
+    let reply = port::open_port(&mut port[..record::RECORD_LENGTH], memory, link, delay);
     notes::open(port, reply.refusal);
     reply
 }
@@ -125,21 +119,15 @@ pub fn transmit(port: &mut [u8], memory: &[u8]) -> Reply
     reply
 }
 
-// Best effort(caller, a, tag).
-pub fn best_effort(port: &mut [u8], memory: &mut [u8], caller: u8, charge: u32, tag: u32) -> Reply
-    ensures { outcome result port.new memory.new ≡ port_call (joining_best_effort caller charge tag) port.old memory.old }
+// Best effort(a, tag).
+pub fn best_effort(port: &mut [u8], memory: &mut [u8], charge: u32, tag: u32) -> Reply
+    ensures { outcome result port.new memory.new ≡ port_call (joining_best_effort charge tag) port.old memory.old }
 {
     let refusal = lengths(port, memory);
     if refusal != 0 {
         return steps::refused(refusal);
     }
-    port::best_effort(
-        &mut port[..record::RECORD_LENGTH],
-        memory,
-        caller,
-        charge,
-        tag,
-    )
+    port::best_effort(&mut port[..record::RECORD_LENGTH], memory, charge, tag)
 }
 
 // Bind(s, address, VID).
@@ -165,22 +153,16 @@ pub fn bind(
     )
 }
 
-// Frame(caller, octets, tag): the call that it becomes; a frame that becomes none, since its length is outside its range, is refused on the record.
-pub fn frame(port: &mut [u8], memory: &mut [u8], caller: u8, octets: &[u8], tag: u32) -> Reply
-    ensures { outcome result port.new memory.new ≡ port_call (framing caller octets.now tag) port.old memory.old }
+// Frame(octets, tag): the call that it becomes; a frame that becomes none, since its length is outside its range, is refused on the record.
+pub fn frame(port: &mut [u8], memory: &mut [u8], octets: &[u8], tag: u32) -> Reply
+    ensures { outcome result port.new memory.new ≡ port_call (framing octets.now tag) port.old memory.old }
 {
     let refusal = lengths(port, memory);
     if refusal != 0 {
         return steps::refused(refusal);
     }
     if !header::length_fits(octets) {
-        return port::frame(
-            &mut port[..record::RECORD_LENGTH],
-            memory,
-            caller,
-            octets,
-            tag,
-        );
+        return port::frame(&mut port[..record::RECORD_LENGTH], memory, octets, tag);
     }
     let charge = header::charge(octets);
     match binding::finding::of_frame(&port[..record::RECORD_LENGTH], octets) {
@@ -198,7 +180,6 @@ pub fn frame(port: &mut [u8], memory: &mut [u8], caller: u8, octets: &[u8], tag:
         Lookup::Unbound => port::best_effort(
             &mut port[..record::RECORD_LENGTH],
             memory,
-            caller,
             charge,
             tag,
         ),

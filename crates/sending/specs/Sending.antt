@@ -1,29 +1,28 @@
 -- Transmit.
-use Rattle.std.specs.Prelude.{ℕ, cond, List, eqb}
+use Rattle.std.specs.Prelude.{ℕ, ◌-◌, cond, List, eqb}
 use Rattle.stream.specs.Replies.{granted}
 use Rattle.stream.specs.declared.Reply.{Reply}
 use Rattle.queue.specs.declared.Queue.{Queue}
 use Rattle.queue.specs.Ring.{front_of, sent_queue}
-use Rattle.queue.specs.Waiting.{sent_waits}
 use Rattle.record.specs.Queues.{best_effort_at}
 use Rattle.record.specs.Head.{waits_at, with_waits, queue_at, with_queue}
 use Rattle.steps.specs.Outcome.{Outcome, outcome}
 use Rattle.steps.specs.Roles.{role_at, prior_role, current_role}
 
 -- the oldest frame of queue `number`, which starts and counts as q says, is sent: "transmit: stream (255 best effort, 254 nothing), tag (0 for
--- nothing)"; a firmware frame has 253 as its stream, "and transmit replies with it"
+-- nothing)"
 abbrev pub sent_reply : List ℕ → ℕ → Queue → Reply
 sent_reply m number q = granted (front_of m number q).stream (front_of m number q).tag
 
 abbrev pub sent : List ℕ → List ℕ → ℕ → Queue → Outcome
 sent p m number q = outcome (sent_reply m number q) (with_queue p number (sent_queue q)) m
 
--- a best-effort frame leaves W, "the sum of charges waiting there", too, and a firmware frame the firmware octets waiting
+-- a best-effort frame leaves W, "the sum of charges waiting there", too
 abbrev pub sent_best_effort : List ℕ → List ℕ → ℕ → Queue → Outcome
 sent_best_effort p m number q =
     outcome
     (sent_reply m number q)
-    (with_waits (with_queue p number (sent_queue q)) (sent_waits (waits_at p) (front_of m number q)))
+    (with_waits (with_queue p number (sent_queue q)) (waits_at p - (front_of m number q).charge))
     m
 
 -- "254 nothing"

@@ -1,5 +1,5 @@
 // The step of Transmit, in the octets that the host lends. The definition is in specs/.
-ghost use Rattle.std.specs.Prelude.{◌≡◌, ◌<◌};
+ghost use Rattle.std.specs.Prelude.{◌≡◌, ◌<◌, ◌-◌};
 ghost use Rattle.queue.specs.Ring.{HasPart};
 ghost use Rattle.record.specs.Layout.{Whole, queue_room};
 ghost use Rattle.record.specs.Queues.{HasMemory};
@@ -11,6 +11,16 @@ use stream::Reply;
 
 // The stream in the reply where nothing is sent.
 pub const NOTHING: u32 = 254;
+
+// What is left of a number after a charge, at least 0.
+fn less(octets: u32, charge: u16) -> u32
+    ensures { result ≡ octets - charge }
+{
+    if octets < charge as u32 {
+        return 0;
+    }
+    octets - charge as u32
+}
 
 // Sends the oldest frame of the queue of this number, which starts and counts as given.
 fn send(port: &mut [u8], memory: &[u8], number: u8, queue: Queue) -> Reply
@@ -28,7 +38,7 @@ fn send_best_effort(port: &mut [u8], memory: &[u8], number: u8, queue: Queue) ->
     ensures { outcome result port.new memory.now ≡ sent_best_effort port.old memory.now number queue }
 {
     let frame = queue::front_at(memory, number, queue);
-    let waits = record::head::waits(port).sent(frame);
+    let waits = less(record::head::waits(port), frame.charge);
     record::head::put_queue(port, number, queue.sent());
     record::head::put_waits(port, waits);
     steps::granted(frame.stream as u32, frame.tag)

@@ -1,18 +1,16 @@
 -- A call with its arguments as one value: whatever is said of every call is said of this.
 use Rattle.std.specs.Prelude.{ℕ, List}
 
--- what an Open asks for: L, the link octets in an epoch, K, the best-effort delay bound in epochs, and F, firmware's limit in epochs
+-- what an Open asks for: L, the link octets in an epoch, and K, the best-effort delay bound in epochs
 pub record Terms : Type 0 where
   pub link : ℕ
   pub delay : ℕ
-  pub firmware : ℕ
 
 -- Open's arguments as one value
-abbrev pub terms : ℕ → ℕ → ℕ → Terms
-terms link delay firmware = record { link = link; delay = delay; firmware = firmware }
+abbrev pub terms : ℕ → ℕ → Terms
+terms link delay = record { link = link; delay = delay }
 
--- Open(L, K, F), Reserve(s, P), Withdraw(s), Arrive(s, a, tag), Tick, Transmit, Best effort(caller, a, tag), Bind(s, address, VID), Frame(caller, octets,
--- tag): "The caller is named with each best-effort frame and each Frame call"
+-- Open(L, K), Reserve(s, P), Withdraw(s), Arrive(s, a, tag), Tick, Transmit, Best effort(a, tag), Bind(s, address, VID), Frame(octets, tag)
 pub data Call : Type 0 where
   opening : Terms → Call
   reserving : ℕ → ℕ → Call
@@ -20,6 +18,6 @@ pub data Call : Type 0 where
   arriving : ℕ → ℕ → ℕ → Call
   ticking : Call
   transmitting : Call
-  joining_best_effort : ℕ → ℕ → ℕ → Call
+  joining_best_effort : ℕ → ℕ → Call
   binding : ℕ → List ℕ → ℕ → Call
-  framing : ℕ → List ℕ → ℕ → Call
+  framing : List ℕ → ℕ → Call

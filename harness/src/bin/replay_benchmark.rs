@@ -11,7 +11,7 @@ use std::path::{Path, PathBuf};
 use std::process::{Command, ExitCode, Stdio};
 use std::time::Instant;
 
-use harness::call::{Call, QUERY};
+use harness::call::Call;
 use harness::capture::file::{self, MOST_RECORDS};
 use harness::capture::stored;
 use harness::command_line::{self, asked};
@@ -38,7 +38,7 @@ const GROWING: [usize; 5] = [0, 250, 1_000, 4_000, MOST_RECORDS];
 const STORED: [&str; 3] = ["sample", "four_ports", "full_file"];
 
 /// L and K: 125 microseconds of a link of 1 Gbit/s, and four of these epochs.
-const OPEN: Call = Call::Open { link: 15_625, delay: 4, firmware: 0 };
+const OPEN: Call = Call::Open { link: 15_625, delay: 4 };
 /// The reserved streams, and the P of each: together most of the share.
 const STREAMS: usize = 32;
 const PERMITTED: u32 = 400;
@@ -274,7 +274,7 @@ fn epoch(random: &mut Random, events: &mut Vec<Call>) {
             place if place < ARRIVALS => {
                 Call::Arrive { stream: random.below(STREAMS) as u8, charge: random.between(LEAST_CHARGE..=PERMITTED), tag }
             }
-            place if place < ARRIVALS + BEST_EFFORTS => Call::BestEffort { caller: QUERY, charge: random.between(CHARGES), tag },
+            place if place < ARRIVALS + BEST_EFFORTS => Call::BestEffort { charge: random.between(CHARGES), tag },
             _ => Call::Transmit,
         });
     }

@@ -10,7 +10,6 @@ use std::process::{Command, ExitCode};
 
 use harness::command_line::{self, WRONG_WORDS};
 use harness::seeding::{self, closed, harness, Package, Seed};
-use harness::sharing::Folder;
 
 /// How the program is called.
 const USAGE: &str = "usage: wrong_readings [--all]";
@@ -24,8 +23,16 @@ const SOUND: &str = "sound";
 /// What is copied for each wrong reading: the outside program.
 const COPIED: &str = "model";
 
-/// The file of it that has the program `replay`.
-const PLAYED: [&str; 1] = ["replay"];
+/// The files of the outside program by which it is `replay`, each before those that use it.
+const FILES: [&str; 9] = ["refusal", "port", "registers", "octets", "frame", "lookup", "rule", "capture", "replay"];
+/// Those of them in which a reading can be wrong, each with the others that use it.
+const USED_BY: [(&str, &[&str]); 5] = [
+    ("port", &["lookup", "rule", "replay"]),
+    ("octets", &["capture", "replay"]),
+    ("rule", &["replay"]),
+    ("capture", &["replay"]),
+    ("replay", &[]),
+];
 
 /// The manifest of the package, which takes nothing from this one but copies: quick to build, and a sum that overflows stops it.
 const MANIFEST: &str = r#"[package]
@@ -66,8 +73,7 @@ fn run(all: bool) -> ExitCode {
     let readings = Readings { program, command: conformance.join("run"), folder: package.join("parting"), all };
     let built = seeding::read_all(&conformance.join("wrong")).and_then(|seeds| {
         let copies = seeds.iter().map(|seed| (seed, COPIED));
-        let program = program_of(&seeds, &Folder::read(COPIED)?);
-        Package { folder: &package, manifest: MANIFEST, program: &program }.built(copies).map(|()| seeds)
+        Package { folder: &package, manifest: MANIFEST, program: &program_of(&seeds) }.built(copies).map(|()| seeds)
     });
     match built {
         Ok(seeds) => readings.tried(&seeds),
@@ -76,8 +82,8 @@ fn run(all: bool) -> ExitCode {
 }
 
 /// The program over the copies: its word names a wrong reading, and it is `replay` by that reading.
-fn program_of(seeds: &[Seed], model: &Folder) -> String {
-    let modules: String = seeds.iter().map(|seed| model.module(seed, &PLAYED)).collect();
+fn program_of(seeds: &[Seed]) -> String {
+    let modules: String = seeds.iter().map(module).collect();
     let arms: String = seeds.iter().map(|seed| format!("        \"{0}\" => {0}::model::replay::program(),\n", seed.name)).collect();
     [
         "#[path = \"../../../src/call.rs\"]\nmod call;\n#[path = \"../../../src/model/mod.rs\"]\nmod model;\n",
@@ -88,6 +94,15 @@ fn program_of(seeds: &[Seed], model: &Folder) -> String {
         "    }\n}\n",
     ]
     .concat()
+}
+
+/// The module of a wrong reading: the files that it changes and those that use them, and the others as they are. So the package is quick to build.
+fn module(seed: &Seed) -> String {
+    let changed = USED_BY.iter().filter(|(file, _)| seed.files().any(|edited| edited == format!("{COPIED}/{file}.rs")));
+    let copied: Vec<&str> = changed.flat_map(|(file, used_by)| [file].into_iter().chain(*used_by)).copied().collect();
+    let (copies, others): (Vec<&str>, Vec<&str>) = FILES.iter().partition(|file| copied.contains(file));
+    let copies: String = copies.iter().map(|file| format!("        pub mod {file};\n")).collect();
+    format!("mod {} {{\n    pub mod model {{\n        pub use crate::model::{{{}}};\n{copies}    }}\n}}\n", seed.name, others.join(", "))
 }
 
 impl Readings {

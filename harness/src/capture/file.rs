@@ -1,9 +1,9 @@
 //! The octets of a capture file, record by record.
 
-use crate::call::{Call, FIRMWARE, QUERY};
+use crate::call::Call;
 use crate::model::capture::{
     kind, FIRST_INDICES_AT, KIND_AT, LETTERS, MOST_OCTETS, NEXT_INDEX_AT, NO_STREAM, NUMBER_A_AT, NUMBER_B_AT, PORTS, RECORD_OCTETS,
-    STREAM_AT,
+    STREAM_AT, STREAM_OF_BEST_EFFORT,
 };
 use crate::model::octets::TWO;
 
@@ -26,15 +26,14 @@ pub fn header(first: [u16; PORTS]) -> Record {
     record
 }
 
-/// The record of an event, with its next index; the F of an Open is at most 255.
+/// The record of an event, with its next index.
 pub fn record(event: &Call, next: u16) -> Record {
     let (stream, a, b) = match *event {
-        Call::Open { link, delay, firmware } => (u8::try_from(firmware).expect("a stream octet holds F"), link, delay),
+        Call::Open { link, delay } => (NO_STREAM, link, delay),
         Call::Reserve { stream, permitted } => (stream, permitted, 0),
         Call::Withdraw { stream } => (stream, 0, 0),
         Call::Arrive { stream, charge, tag } => (stream, charge, tag),
-        Call::BestEffort { caller: FIRMWARE, charge, tag } => (FIRMWARE, charge, tag),
-        Call::BestEffort { charge, tag, .. } => (QUERY, charge, tag),
+        Call::BestEffort { charge, tag } => (STREAM_OF_BEST_EFFORT, charge, tag),
         Call::Tick | Call::Transmit => (NO_STREAM, 0, 0),
         Call::Bind { .. } | Call::Frame { .. } => unreachable!("no record of a capture is a Bind or a Frame"),
         Call::ReadRegister { .. } | Call::WriteRegister { .. } => unreachable!("no record of a capture names a register"),

@@ -2,7 +2,7 @@
 
 use super::file::{header, put_next_index, record, Record};
 use super::{reading, stored, tool, writing};
-use crate::call::{Call, FIRMWARE, QUERY};
+use crate::call::Call;
 use crate::comparing::random::Random;
 use crate::model::capture::PORTS;
 use crate::model::replay::replay;
@@ -53,36 +53,13 @@ fn the_sample_is_read_and_written() {
 #[test]
 fn every_kind_has_its_octets() {
     let large = 0x0102_0304;
-    assert_eq!(record(&Call::Open { link: large, delay: 1, firmware: 0 }, 0x0506), [1, 0, 5, 6, 1, 2, 3, 4, 0, 0, 0, 1, 0, 0, 0, 0]);
+    assert_eq!(record(&Call::Open { link: large, delay: 1 }, 0x0506), [1, 0, 5, 6, 1, 2, 3, 4, 0, 0, 0, 1, 0, 0, 0, 0]);
     assert_eq!(record(&Call::Reserve { stream: 255, permitted: large }, 0), [2, 255, 0, 0, 1, 2, 3, 4, 0, 0, 0, 0, 0, 0, 0, 0]);
     assert_eq!(record(&Call::Arrive { stream: 9, charge: 84, tag: large }, 1), [3, 9, 0, 1, 0, 0, 0, 84, 1, 2, 3, 4, 0, 0, 0, 0]);
-    assert_eq!(record(&Call::BestEffort { caller: QUERY, charge: large, tag: 7 }, 2), [4, 255, 0, 2, 1, 2, 3, 4, 0, 0, 0, 7, 0, 0, 0, 0]);
+    assert_eq!(record(&Call::BestEffort { charge: large, tag: 7 }, 2), [4, 255, 0, 2, 1, 2, 3, 4, 0, 0, 0, 7, 0, 0, 0, 0]);
     assert_eq!(record(&Call::Tick, 3), [5, 0, 0, 3, 0, 0, 0, 0, 0, 0, 0, 0, 0, 0, 0, 0]);
     assert_eq!(record(&Call::Transmit, 4), [6, 0, 0, 4, 0, 0, 0, 0, 0, 0, 0, 0, 0, 0, 0, 0]);
     assert_eq!(record(&Call::Withdraw { stream: 255 }, 5), [7, 255, 0, 5, 0, 0, 0, 0, 0, 0, 0, 0, 0, 0, 0, 0]);
-}
-
-#[test]
-fn a_firmware_frame_and_its_limit_are_read_and_written() {
-    let firmware = |charge| Call::BestEffort { caller: FIRMWARE, charge, tag: 7 };
-    assert_eq!(record(&firmware(84), 2), [4, 253, 0, 2, 0, 0, 0, 84, 0, 0, 0, 7, 0, 0, 0, 0]);
-    let open = |firmware| Call::Open { link: 2_620, delay: 1, firmware };
-    assert_eq!(record(&open(255), 2), [1, 255, 0, 2, 0, 0, 10, 60, 0, 0, 0, 1, 0, 0, 0, 0]);
-    let records = [record(&open(1), 2), record(&open(255), 3), record(&firmware(84), 4), record(&open(0), 1)];
-    let capture = [&[header([1, 0, 0, 0])][..], &records].concat().concat();
-    exact(&capture, "port 0\nopen 2620 1 1\nopen 2620 1 255\nfirmware 84 7\nopen 2620 1 next 1\n");
-    assert_eq!(written("port 0\nopen 2620 1 0\n"), written("port 0\nopen 2620 1\n"));
-    assert_eq!(said_of(b"port 0\nopen 2620 1 256\n"), "line 2: '256' is not an F, which is a number from 0 to 255");
-    assert_eq!(said_of(b"port 0\nopen 2620 1 2 3\n"), "line 2: '3' is one word too many");
-}
-
-#[test]
-fn a_best_effort_frame_of_another_octet_is_octets() {
-    for (octet, digits) in [(254, "fe"), (252, "fc"), (0, "00")] {
-        let mut bad = record(&Call::BestEffort { caller: FIRMWARE, charge: 84, tag: 7 }, 0);
-        bad[1] = octet;
-        exact(&[header([1, 0, 0, 0]), bad].concat(), &format!("port 0\noctets 04{digits}0000000000540000000700000000\n"));
-    }
 }
 
 #[test]
@@ -119,7 +96,7 @@ fn ports_share_a_run_and_others_have_their_own() {
 
 #[test]
 fn a_next_index_that_is_not_the_following_record_is_said() {
-    let records = [record(&Call::Tick, 3), record(&Call::Transmit, 3), record(&Call::BestEffort { caller: QUERY, charge: 84, tag: 7 }, 9)];
+    let records = [record(&Call::Tick, 3), record(&Call::Transmit, 3), record(&Call::BestEffort { charge: 84, tag: 7 }, 9)];
     let capture = [&[header([1, 2, 3, 0])][..], &records].concat().concat();
     exact(&capture, "first 2 3\nport 0\ntick next 3\nport 1\ntransmit\nbest effort 84 7 next 9\n");
 }
@@ -202,12 +179,9 @@ fn any_capture(random: &mut Random) -> Vec<Record> {
     let events = [
         Call::Tick,
         Call::Arrive { stream: 5, charge: 84, tag: 7 },
-        Call::Open { link: 2_620, delay: 1, firmware: 0 },
+        Call::Open { link: 2_620, delay: 1 },
         Call::Transmit,
         Call::Withdraw { stream: 5 },
-        Call::Open { link: 2_620, delay: 1, firmware: 255 },
-        Call::BestEffort { caller: FIRMWARE, charge: 84, tag: 7 },
-        Call::BestEffort { caller: QUERY, charge: 84, tag: 7 },
     ];
     let count = random.between(1..=9) as u16;
     let mut records = vec![header([0; PORTS].map(|_| random.below(usize::from(count) + 3) as u16))];
@@ -237,14 +211,6 @@ fn bad_text_gets_its_line_and_what_is_wrong() {
         ("port 0\narrive 5 120", "line 2: a tag is missing"),
         ("port 0\nbest 120 7", "line 2: 'effort' is missing after 'best'"),
         ("port 0\nbest effort 120", "line 2: a tag is missing"),
-        ("port 0\nopen 2620 1 x", "line 2: 'x' is one word too many"),
-        ("port 0\nopen 2620 1 1x", "line 2: '1x' is not an F, which is a number from 0 to 255"),
-        ("port 0\nopen 2620 1 next", "line 2: a next index is missing"),
-        ("port 0\nopen 2620 1 1 next", "line 2: a next index is missing"),
-        ("port 0\nfirmware", "line 2: a charge is missing"),
-        ("port 0\nfirmware 120", "line 2: a tag is missing"),
-        ("port 0\nfirmware 120 7 1", "line 2: '1' is one word too many"),
-        ("port 0\nfirmware effort 120 7", "line 2: 'effort' is not a charge, which is a number from 0 to 4294967295"),
         ("port 0\narrive 256 120 7", "line 2: '256' is not a stream, which is a number from 0 to 255"),
         ("port 0\narrive 5 4294967296 7", "line 2: '4294967296' is not a charge, which is a number from 0 to 4294967295"),
         ("port 0\nreserve 5 +200", "line 2: '+200' is not a P, which is a number from 0 to 4294967295"),

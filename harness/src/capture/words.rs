@@ -42,19 +42,6 @@ impl<'a> Words<'a> {
         number(word, what, greatest)
     }
 
-    /// A number up to the greatest, where the next word begins with a digit; else 0, and the word is not taken.
-    pub fn number_or_0<Number: FromStr + PartialOrd + Display + Default>(
-        &mut self,
-        what: &str,
-        greatest: Number,
-    ) -> Result<Number, String> {
-        let word = self.words.clone().next().unwrap_or_default();
-        match word.starts_with(|digit: char| digit.is_ascii_digit()) {
-            true => self.number(what, greatest),
-            false => Ok(Number::default()),
-        }
-    }
-
     /// Octets in hexadecimal digits, at most as many as are given; none where the word is missing.
     pub fn octets(&mut self, most: usize) -> Result<Vec<u8>, String> {
         let word = self.word().unwrap_or_default();

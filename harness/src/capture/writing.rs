@@ -1,6 +1,6 @@
 //! From the text form to a capture; of a bad text, the line and what is wrong there.
 
-use crate::call::{Call, FIRMWARE, QUERY};
+use crate::call::Call;
 use crate::capture::file::{self, Record, LAST_INDEX};
 use crate::capture::lines::{self, BadText};
 use crate::capture::words::{number, Words, CHAIN, FIRST, HEADER, NEXT, OCTETS, PORT};
@@ -177,18 +177,13 @@ pub fn event(word: &str, words: &mut Words) -> Result<Call, String> {
     let charge = |words: &mut Words| words.number("a charge", u32::MAX);
     let tag = |words: &mut Words| words.number("a tag", u32::MAX);
     Ok(match word {
-        "open" => Call::Open {
-            link: words.number("an L", u32::MAX)?,
-            delay: words.number("a K", u32::MAX)?,
-            firmware: u32::from(words.number_or_0("an F", u8::MAX)?),
-        },
+        "open" => Call::Open { link: words.number("an L", u32::MAX)?, delay: words.number("a K", u32::MAX)? },
         "reserve" => Call::Reserve { stream: stream(words)?, permitted: words.number("a P", u32::MAX)? },
         "arrive" => Call::Arrive { stream: stream(words)?, charge: charge(words)?, tag: tag(words)? },
         "best" => match words.word() {
-            Some("effort") => Call::BestEffort { caller: QUERY, charge: charge(words)?, tag: tag(words)? },
+            Some("effort") => Call::BestEffort { charge: charge(words)?, tag: tag(words)? },
             _ => return Err(String::from("'effort' is missing after 'best'")),
         },
-        "firmware" => Call::BestEffort { caller: FIRMWARE, charge: charge(words)?, tag: tag(words)? },
         "tick" => Call::Tick,
         "transmit" => Call::Transmit,
         "withdraw" => Call::Withdraw { stream: stream(words)? },

@@ -1,13 +1,10 @@
 //! For each clause of refusal 19 the smallest changes of a fit record that break it alone, at its boundary.
 
-use crate::comparing::firmware::any_limit;
 use crate::comparing::fit::{any_count, any_start, binding as stream_binding, Octets};
 use crate::comparing::random::Random;
 use crate::layout::{self, four, permitted_sum, put_four, put_two, two};
 use crate::model::fitness::Clause;
-use crate::model::port::{
-    BEST_EFFORT, FIRMWARE_STREAM, LARGEST_CHARGE, LEAST_PERMITTED, LINKS, QUEUES, QUEUE_PLACES, RESERVED_QUEUES, STREAMS, VIDS,
-};
+use crate::model::port::{BEST_EFFORT, LARGEST_CHARGE, LEAST_PERMITTED, LINKS, QUEUES, QUEUE_PLACES, RESERVED_QUEUES, STREAMS, VIDS};
 
 /// Where a breach stands and how far it goes.
 struct Boundary {
@@ -89,8 +86,8 @@ pub const OF_BINDINGS: [Breach; 15] = [
     breach("VID 1 to 4,097", Clause::BindingVid, STREAMS, vid, 1, 4_096),
 ];
 
-/// Breaches of the waiting frames, of W and of the firmware octets that wait.
-pub const OF_FRAMES: [Breach; 26] = [
+/// Breaches of the waiting frames and of W.
+pub const OF_FRAMES: [Breach; 15] = [
     breach("waiting stream 63 to 64", Clause::WaitingStream, RESERVED_QUEUES, waiting_stream, 63, 1),
     breach("waiting stream 63 to 255", Clause::WaitingStream, RESERVED_QUEUES, waiting_stream, 63, 192),
     breach("waiting stream 63 to 319", Clause::WaitingStream, RESERVED_QUEUES, waiting_stream, 63, 256),
@@ -98,11 +95,6 @@ pub const OF_FRAMES: [Breach; 26] = [
     breach("best effort's stream 255 to 256", Clause::WaitingBestEffortStream, 1, waiting_best_effort_stream, 255, 1),
     breach("best effort's stream 255 to 511", Clause::WaitingBestEffortStream, 1, waiting_best_effort_stream, 255, 256),
     breach("best effort's stream 255 to 0", Clause::WaitingBestEffortStream, 1, waiting_best_effort_stream, 255, -255),
-    breach("best effort's stream 255 to 252", Clause::WaitingBestEffortStream, 1, waiting_best_effort_stream, 255, -3),
-    breach("best effort's stream 253 to 254", Clause::WaitingBestEffortStream, 1, waiting_best_effort_stream, 253, 1),
-    breach("best effort's stream 253 to 252", Clause::WaitingBestEffortStream, 1, waiting_best_effort_stream, 253, -1),
-    breach("best effort's stream 253 to 509", Clause::WaitingBestEffortStream, 1, waiting_best_effort_stream, 253, 256),
-    breach("best effort's stream 253 to 125", Clause::WaitingBestEffortStream, 1, waiting_best_effort_stream, 253, -128),
     breach("waiting charge 84 to 83", Clause::WaitingCharge, QUEUES, waiting_charge, 84, -1),
     breach("waiting charge 2,020 to 2,021", Clause::WaitingCharge, QUEUES, waiting_charge, 2_020, 1),
     breach("waiting charge 84 to 0", Clause::WaitingCharge, QUEUES, waiting_charge, 84, -84),
@@ -111,16 +103,10 @@ pub const OF_FRAMES: [Breach; 26] = [
     breach("W one less than the sum of some frames", Clause::Waits, 1, waits, 1, -1),
     breach("W 65,536 more", Clause::Waits, 1, waits, 0, 65_536),
     breach("W 2^31 more", Clause::Waits, 1, waits, 0, 1 << 31),
-    breach("firmware octets one more than the sum of any frames", Clause::FirmwareWaits, 1, firmware_waits, 0, 1),
-    breach("firmware octets one less than the sum of some frames", Clause::FirmwareWaits, 1, firmware_waits, 1, -1),
-    breach("firmware octets 65,536 more", Clause::FirmwareWaits, 1, firmware_waits, 0, 65_536),
-    breach("firmware octets 2^31 more", Clause::FirmwareWaits, 1, firmware_waits, 0, 1 << 31),
-    breach("a query made firmware's, 255 to 253", Clause::FirmwareWaits, 1, waiting_caller, 255, -2),
-    breach("firmware's made a query, 253 to 255", Clause::FirmwareWaits, 1, waiting_caller, 253, 2),
 ];
 
 /// Breaches of what is asked of an open port alone.
-pub const OF_OPEN_PORTS: [Breach; 17] = [
+pub const OF_OPEN_PORTS: [Breach; 12] = [
     breach("L 2,104 to 2,103", Clause::Link, 1, link, 2_104, -1),
     breach("L 2,104 to 1,626", Clause::Link, 1, link, 2_104, -478),
     breach("L 23,524 to 23,525", Clause::Link, 1, link, 23_524, 1),
@@ -128,11 +114,6 @@ pub const OF_OPEN_PORTS: [Breach; 17] = [
     breach("K 1 to 0", Clause::Delay, 1, delay, 1, -1),
     breach("K 16 to 17", Clause::Delay, 1, delay, 16, 1),
     breach("K 16 to 255", Clause::Delay, 1, delay, 16, 239),
-    breach("F from K 1 to 2", Clause::Firmware, 1, firmware, 1, 1),
-    breach("F from K 16 to 17", Clause::Firmware, 1, firmware, 16, 1),
-    breach("F from K 7 to 255", Clause::Firmware, 1, firmware, 7, 248),
-    breach("K from F 2 to 1", Clause::Firmware, 1, delay_of_firmware, 2, -1),
-    breach("K from F 16 to 1", Clause::Firmware, 1, delay_of_firmware, 16, -15),
     breach("P 84 to 83", Clause::Permitted, STREAMS, permitted, 84, -1),
     breach("P 84 to 0", Clause::Permitted, STREAMS, permitted, 84, -84),
     breach("P sum from the share to one more", Clause::PermittedSum, STREAMS, permitted_fills_share, 84, 1),
@@ -160,7 +141,7 @@ impl Breach {
 
     /// The clauses that the changed record breaks: on a closed port none where the clause is asked of an open one alone.
     pub fn broken(&self, open: bool) -> Vec<Clause> {
-        let of_open_port = [Clause::Link, Clause::Delay, Clause::Firmware, Clause::Permitted, Clause::PermittedSum].contains(&self.clause);
+        let of_open_port = [Clause::Link, Clause::Delay, Clause::Permitted, Clause::PermittedSum].contains(&self.clause);
         match of_open_port && !open {
             true => vec![],
             false => vec![self.clause],
@@ -281,52 +262,22 @@ fn waiting_stream(port: &mut Octets, random: &mut Random, boundary: &Boundary) -
     vec![Change::memory(at, boundary.by)]
 }
 
-/// The stream of a frame that waits in best effort; the firmware octets that wait stay the sum.
+/// The stream of a frame that waits in best effort.
 fn waiting_best_effort_stream(port: &mut Octets, random: &mut Random, boundary: &Boundary) -> Vec<Change> {
-    let (frame, mut changes) = (waiting_frame(port, random, BEST_EFFORT), Vec::new());
-    put_caller(port, frame, boundary.from);
-    if boundary.from == FIRMWARE_STREAM {
-        let charge = two(&port.memory, frame + layout::FRAME_CHARGE);
-        changes.push(Change::record(layout::FIRMWARE_WAITS, 4, -i64::from(charge)));
-    }
-    changes.push(Change::memory(frame + layout::FRAME_STREAM, boundary.by));
-    changes
+    waiting_stream(port, random, &Boundary { site: BEST_EFFORT, ..*boundary })
 }
 
-/// The stream of a frame that waits in best effort, which becomes the other caller's; the firmware octets that wait stay what they were.
-fn waiting_caller(port: &mut Octets, random: &mut Random, boundary: &Boundary) -> Vec<Change> {
-    let frame = waiting_frame(port, random, BEST_EFFORT);
-    put_caller(port, frame, boundary.from);
-    vec![Change::memory(frame + layout::FRAME_STREAM, boundary.by)]
-}
-
-/// Makes a frame that waits in best effort one of a caller, by its stream; the firmware octets that wait stay the sum.
-fn put_caller(port: &mut Octets, frame: usize, stream: u32) {
-    let (before, charge) = (two(&port.memory, frame + layout::FRAME_STREAM), two(&port.memory, frame + layout::FRAME_CHARGE));
-    let of_firmware = |stream: u32| if stream == FIRMWARE_STREAM { charge } else { 0 };
-    let waits = four(&port.record, layout::FIRMWARE_WAITS) - of_firmware(before) + of_firmware(stream);
-    put_four(&mut port.record, layout::FIRMWARE_WAITS, waits);
-    put_two(&mut port.memory, frame + layout::FRAME_STREAM, stream);
-}
-
-/// The charge of a waiting frame; in best effort W and the firmware octets that wait stay the sums.
+/// The charge of a waiting frame; in best effort W stays the sum.
 fn waiting_charge(port: &mut Octets, random: &mut Random, boundary: &Boundary) -> Vec<Change> {
-    let frame = waiting_frame(port, random, boundary.site);
-    let (stream, at) = (two(&port.memory, frame + layout::FRAME_STREAM), frame + layout::FRAME_CHARGE);
+    let at = waiting_frame(port, random, boundary.site) + layout::FRAME_CHARGE;
     let before = two(&port.memory, at);
     put_two(&mut port.memory, at, boundary.from);
-    let sums: &[usize] = match (boundary.site, stream) {
-        (BEST_EFFORT, FIRMWARE_STREAM) => &[layout::WAITS, layout::FIRMWARE_WAITS],
-        (BEST_EFFORT, _) => &[layout::WAITS],
-        _ => &[],
-    };
-    let mut changes = vec![Change::memory(at, boundary.by)];
-    for &sum in sums {
-        let waits = four(&port.record, sum) - before + boundary.from;
-        put_four(&mut port.record, sum, waits);
-        changes.push(Change::record(sum, 4, boundary.by));
+    if boundary.site != BEST_EFFORT {
+        return vec![Change::memory(at, boundary.by)];
     }
-    changes
+    let waits = four(&port.record, layout::WAITS) - before + boundary.from;
+    put_four(&mut port.record, layout::WAITS, waits);
+    vec![Change::memory(at, boundary.by), Change::record(layout::WAITS, 4, boundary.by)]
 }
 
 /// W, with at least so many frames in best effort as the boundary says.
@@ -336,16 +287,6 @@ fn waits(port: &mut Octets, random: &mut Random, boundary: &Boundary) -> Vec<Cha
     vec![Change::record(layout::WAITS, 4, boundary.by)]
 }
 
-/// The firmware octets that wait, with a frame of firmware in best effort where the boundary says so.
-fn firmware_waits(port: &mut Octets, random: &mut Random, boundary: &Boundary) -> Vec<Change> {
-    waits(port, random, boundary);
-    if boundary.from > 0 {
-        let start = two(&port.record, layout::start(BEST_EFFORT)) as usize;
-        put_caller(port, layout::frame(BEST_EFFORT, start, 0), FIRMWARE_STREAM);
-    }
-    vec![Change::record(layout::FIRMWARE_WAITS, 4, boundary.by)]
-}
-
 /// L, with no more reservations than its share holds.
 fn link(port: &mut Octets, random: &mut Random, boundary: &Boundary) -> Vec<Change> {
     put_two(&mut port.record, layout::LINK, boundary.from);
@@ -353,24 +294,9 @@ fn link(port: &mut Octets, random: &mut Random, boundary: &Boundary) -> Vec<Chan
     vec![Change::record(layout::LINK, 2, boundary.by)]
 }
 
-/// K, with an F that is above it neither before the change nor after it.
-fn delay(port: &mut Octets, random: &mut Random, boundary: &Boundary) -> Vec<Change> {
-    let least = boundary.from.min(boundary.from.wrapping_add_signed(boundary.by as i32));
+/// K.
+fn delay(port: &mut Octets, _: &mut Random, boundary: &Boundary) -> Vec<Change> {
     port.record[layout::DELAY] = boundary.from as u8;
-    port.record[layout::FIRMWARE] = any_limit(random, least) as u8;
-    vec![Change::record(layout::DELAY, 1, boundary.by)]
-}
-
-/// F, at the boundary K.
-fn firmware(port: &mut Octets, _: &mut Random, boundary: &Boundary) -> Vec<Change> {
-    port.record[layout::DELAY] = boundary.from as u8;
-    port.record[layout::FIRMWARE] = boundary.from as u8;
-    vec![Change::record(layout::FIRMWARE, 1, boundary.by)]
-}
-
-/// K, at the boundary F.
-fn delay_of_firmware(port: &mut Octets, random: &mut Random, boundary: &Boundary) -> Vec<Change> {
-    firmware(port, random, boundary);
     vec![Change::record(layout::DELAY, 1, boundary.by)]
 }
 

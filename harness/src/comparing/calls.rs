@@ -6,12 +6,11 @@ use std::ops::RangeInclusive;
 use crate::call::Call;
 use crate::comparing::compared::Step;
 use crate::comparing::counts::any_question;
-use crate::comparing::firmware::{any_free, any_limit, edge_limit};
 use crate::comparing::fit::no_mark;
 use crate::comparing::lookups::any_lookup;
 use crate::comparing::random::Random;
 use crate::comparing::registers::{any_read, any_write};
-use crate::layout::{self, is_draining, is_reserved, permitted_sum, two};
+use crate::layout::{self, best_effort_limit, is_draining, is_reserved, permitted_sum, two, waits_with};
 use crate::model::octets::RECORD_OCTETS;
 use crate::model::port::{CHARGES, DELAYS, LARGEST_CHARGE, LEAST_CHARGE, LEAST_PERMITTED, LINKS, MARK_YES, STREAMS};
 
@@ -98,8 +97,6 @@ pub struct Profile {
     pub links: RangeInclusive<u32>,
     pub permitted: Permitted,
     pub charges: Charges,
-    /// How many best-effort frames in a hundred are of firmware.
-    pub firmware: usize,
     /// How many calls in a hundred have arguments at the ends of their ranges or outside them.
     pub edges: usize,
 }
@@ -125,12 +122,8 @@ pub const ORDINARY: Profile = Profile {
     links: LINKS,
     permitted: Permitted::NearFree,
     charges: Charges::NearLeft,
-    firmware: 30,
     edges: 0,
 };
-
-/// The same with best-effort frames of firmware alone.
-const OF_FIRMWARE_ALONE: Profile = Profile { firmware: 100, ..ORDINARY };
 
 /// Each of the nine calls, each access to a register, the lookup and the question for a stream's counts, with good and bad arguments, to be tried on
 /// a port of any length and content.
@@ -141,7 +134,7 @@ pub fn each_call(random: &mut Random, record: &[u8]) -> Vec<Call> {
 }
 
 /// Each of the nine calls, with good and bad arguments.
-fn each_of_traffic(random: &mut Random, record: &[u8]) -> [Call; 26] {
+fn each_of_traffic(random: &mut Random, record: &[u8]) -> [Call; 22] {
     let profile = ORDINARY;
     [
         profile.open(random, false),
@@ -157,16 +150,12 @@ fn each_of_traffic(random: &mut Random, record: &[u8]) -> [Call; 26] {
         profile.best_effort(random, record, false),
         profile.best_effort(random, record, false),
         profile.best_effort(random, record, true),
-        OF_FIRMWARE_ALONE.best_effort(random, record, false),
-        OF_FIRMWARE_ALONE.best_effort(random, record, false),
-        OF_FIRMWARE_ALONE.best_effort(random, record, true),
         profile.bind(random, record, false),
         profile.bind(random, record, true),
         profile.frame(random, record, false),
         profile.frame(random, record, false),
         profile.frame(random, record, false),
         profile.frame(random, record, true),
-        OF_FIRMWARE_ALONE.frame(random, record, false),
         profile.withdraw(random, record, false),
         profile.withdraw(random, record, false),
         profile.withdraw(random, record, true),
@@ -218,12 +207,11 @@ impl Profile {
         })
     }
 
-    /// An Open; one at an edge has some of its arguments, or all, at an end or outside.
+    /// An Open; one at an edge has one of its arguments, or both, at an end or outside.
     pub fn open(&self, random: &mut Random, edge: bool) -> Call {
         let link = if edge && random.chance(50) { random.pick(&EDGE_LINKS) } else { self.any_link(random) };
         let delay = if edge && random.chance(50) { random.pick(&EDGE_DELAYS) } else { any_delay(random) };
-        let firmware = if edge && random.chance(50) { edge_limit(random, delay) } else { any_limit(random, delay) };
-        Call::Open { link, delay, firmware }
+        Call::Open { link, delay }
     }
 
     /// An L in this profile's range, the ends more often.
@@ -279,18 +267,17 @@ impl Profile {
         Call::Arrive { stream, charge, tag: any_tag(random) }
     }
 
-    /// A Best effort of any caller; one at an edge has its charge at an end or outside.
+    /// A Best effort; one at an edge has its charge at an end or outside.
     fn best_effort(&self, random: &mut Random, record: &[u8], edge: bool) -> Call {
-        let caller = self.any_caller(random);
-        let charge = if edge { random.pick(&EDGE_CHARGES) } else { self.any_best_effort(random, record, caller) };
-        Call::BestEffort { caller, charge, tag: any_tag(random) }
+        let charge = if edge { random.pick(&EDGE_CHARGES) } else { self.any_best_effort(random, record) };
+        Call::BestEffort { charge, tag: any_tag(random) }
     }
 
-    /// A best-effort charge of this profile: what a limit of its caller still allows, one octet more or less than that, or any.
-    pub fn any_best_effort(&self, random: &mut Random, record: &[u8], caller: u8) -> u32 {
+    /// A best-effort charge of this profile: what the limit still allows, one octet more or less than that, or any.
+    pub fn any_best_effort(&self, random: &mut Random, record: &[u8]) -> u32 {
         let Charges::NearLeft = self.charges else { return LEAST_CHARGE };
         let any = random.between(CHARGES);
-        let free = any_free(random, record, caller);
+        let free = best_effort_limit(record).saturating_sub(waits_with(record, 0)).min(u64::from(LARGEST_CHARGE)) as u32;
         let charge = random.pick(&[free, free, free + 1, free.saturating_sub(1), LEAST_CHARGE, LARGEST_CHARGE, any, any]);
         charge.clamp(LEAST_CHARGE, LARGEST_CHARGE)
     }

@@ -1,6 +1,6 @@
 //! Good captures: chains of several shapes through the records of a file, with events that press the ports on which they are played.
 
-use crate::call::{Call, FIRMWARE, QUERY};
+use crate::call::Call;
 use crate::capture::file::{self, Record};
 use crate::comparing::calls::Profile;
 use crate::comparing::compared::Step;
@@ -168,17 +168,8 @@ fn any_event(random: &mut Random, profile: &Profile, record: &[u8]) -> Call {
         match profile.step(random, record) {
             Step::Call(Call::Bind { .. } | Call::Frame { .. } | Call::ReadRegister { .. } | Call::WriteRegister { .. }) => (),
             Step::Call(Call::Lookup { .. } | Call::StreamCounts { .. }) | Step::HostWrites { .. } => (),
-            Step::Call(event) => return held(event),
+            Step::Call(event) => return event,
         }
-    }
-}
-
-/// The event as a record of a good capture holds it: its F is an octet, and a caller that is neither firmware nor query is query.
-fn held(event: Call) -> Call {
-    match event {
-        Call::Open { link, delay, firmware } => Call::Open { link, delay, firmware: firmware.min(u8::MAX.into()) },
-        Call::BestEffort { caller, charge, tag } if caller != FIRMWARE => Call::BestEffort { caller: QUERY, charge, tag },
-        event => event,
     }
 }
 

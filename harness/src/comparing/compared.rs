@@ -94,7 +94,7 @@ fn giving<'a>(call: &'a Call, octets: &'a [u8]) -> Given<'a> {
     match *call {
         Call::Bind { stream, vid, .. } => Call::Bind { stream, address: address(), vid },
         Call::Lookup { vid, .. } => Call::Lookup { address: address(), vid },
-        Call::Frame { caller, tag, .. } => Call::Frame { caller, octets, tag },
+        Call::Frame { tag, .. } => Call::Frame { octets, tag },
         _ => call.given(),
     }
 }

@@ -6,14 +6,13 @@ use std::fmt;
 use crate::call::{Call, Reply};
 use crate::comparing::counts::Counting;
 use crate::comparing::damage::Field;
-use crate::comparing::firmware::Loading;
 use crate::comparing::fit::is_bound;
 use crate::comparing::frames::{stream_of, BESIDE_LENGTH};
 use crate::comparing::lookups::Looked;
 use crate::comparing::registers::{Count, Flag};
 use crate::guarantee::found::Shown;
 use crate::layout;
-use crate::model::port::{is_best_effort, BEST_EFFORT, CURRENT, LAST, NOTHING, QUEUE_PLACES, RESERVED_QUEUES, STREAMS};
+use crate::model::port::{BEST_EFFORT, BEST_EFFORT_STREAM, CURRENT, LAST, NOTHING, QUEUE_PLACES, RESERVED_QUEUES, STREAMS};
 use crate::model::refusal::{BEST_EFFORT_EXCEEDED, BEST_EFFORT_FULL, DRAINING, FRAME_LENGTH, MEMORY_SHORT, PORT_CLOSED, RECORD_UNFIT};
 
 /// One kind of thing that can happen.
@@ -63,8 +62,6 @@ pub enum Seen {
     BestEffortFullAndAbove,
     /// A granted Reserve after which W is above K × (L − R).
     LimitBelowWaits,
-    /// What was met of firmware frames and of F.
-    Loading(Loading),
     /// An envelope frame that joined one of the four queues, and one that joined best effort.
     EnvelopeJoined,
     EnvelopeBestEffort,
@@ -175,7 +172,6 @@ impl fmt::Display for Seen {
             Seen::BestEffortFilled => write!(f, "best effort filled"),
             Seen::BestEffortFullAndAbove => write!(f, "best effort full and above"),
             Seen::LimitBelowWaits => write!(f, "limit fell below W"),
-            Seen::Loading(loading) => write!(f, "{loading}"),
             Seen::EnvelopeJoined => write!(f, "envelope frames joined"),
             Seen::EnvelopeBestEffort => write!(f, "envelope frames joined best effort"),
             Seen::EnvelopeFrame => write!(f, "envelope frames by octets"),
@@ -284,13 +280,12 @@ impl Coverage {
     /// Counts what a call did, by its reply and the record after it; `prior_waited` says whether frames waited in prior before it.
     pub fn count_call(&mut self, call: &Call, reply: &Reply, record: &[u8], prior_waited: bool) {
         match call {
-            Call::Frame { caller, octets, tag } => return self.count_frame(*caller, octets, *tag, reply, record),
+            Call::Frame { octets, tag } => return self.count_frame(octets, *tag, reply, record),
             Call::Lookup { address, vid } => return self.count_lookup(address, *vid, reply, record),
             Call::StreamCounts { stream } => return self.count_question(*stream, reply, record),
             Call::BestEffort { charge, .. } => self.count_best_effort(*charge, reply, record),
             _ => (),
         }
-        self.count_loading(call, reply, record);
         self.count_access(call, reply);
         self.count_shown(call, reply, record);
         if reply.refusal != 0 {
@@ -337,7 +332,7 @@ impl Coverage {
     }
 
     /// Counts a Frame, and the call that it becomes where it becomes one.
-    fn count_frame(&mut self, caller: u8, octets: &[u8], tag: u32, reply: &Reply, record: &[u8]) {
+    fn count_frame(&mut self, octets: &[u8], tag: u32, reply: &Reply, record: &[u8]) {
         if reply.refusal != 0 {
             self.count(Seen::FrameRefused(reply.refusal));
         }
@@ -347,11 +342,10 @@ impl Coverage {
         let charge = octets.len() as u32 + BESIDE_LENGTH;
         let (becomes, seen) = match stream_of(record, octets) {
             Some(stream) => (Call::Arrive { stream: stream as u8, charge, tag }, Seen::FrameArrived),
-            None => (Call::BestEffort { caller, charge, tag }, Seen::FrameBestEffort),
+            None => (Call::BestEffort { charge, tag }, Seen::FrameBestEffort),
         };
         self.add(seen, u64::from(reply.refusal == 0));
         self.add(Seen::EnvelopeFrame, u64::from(reply.refusal == 0 && is_envelope(charge)));
-        self.count_loading_frame(caller, &becomes, reply);
         self.count_call(&becomes, reply, record, false);
     }
 
@@ -415,7 +409,7 @@ impl Coverage {
 fn sent(reply: &Reply, prior_waited: bool) -> Seen {
     match reply.first {
         NOTHING => Seen::SentNothing,
-        stream if is_best_effort(stream) => Seen::SentFromBestEffort,
+        BEST_EFFORT_STREAM => Seen::SentFromBestEffort,
         _ if prior_waited => Seen::SentFromPrior,
         _ => Seen::SentFromCurrent,
     }

@@ -164,9 +164,10 @@ fn record_damages(capture: &[u8], at: usize) -> Vec<Damage> {
     let mut damages = [0, 8, 128, 255].map(|kind| octet(KIND_AT, kind)).to_vec();
     damages.extend((ZEROS_AT..RECORD_OCTETS).flat_map(|within| [octet(within, 1), octet(within, 255)]));
     let (streams, unused): (&[u8], _) = match capture[at + KIND_AT] {
-        OPEN | ARRIVE => (&[], 0..0),
+        OPEN => (&[1, 255], 0..0),
         RESERVE => (&[], NUMBER_B_AT..ZEROS_AT),
-        BEST_EFFORT => (&[0, 1, 252, 254], 0..0),
+        ARRIVE => (&[], 0..0),
+        BEST_EFFORT => (&[0, 1, 253, 254], 0..0),
         WITHDRAW => (&[], NUMBER_A_AT..ZEROS_AT),
         _ => (&[1, 128, 255], NUMBER_A_AT..ZEROS_AT),
     };

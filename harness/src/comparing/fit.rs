@@ -1,13 +1,12 @@
 //! Random records that are fit, each with its memory: open or closed, with content that no list from an opening reaches.
 
 use crate::comparing::counts::any_choice;
-use crate::comparing::firmware::any_limit;
 use crate::comparing::random::Random;
 use crate::layout::{self, put_four, put_two, two};
 use crate::model::octets::{MEMORY_OCTETS, PORT_OCTETS};
 use crate::model::port::{
-    share, BEST_EFFORT, CHARGES, CURRENT, DELAYS, DRAINING_TICKS, FIRMWARE_STREAM, LAST, LEAST_PERMITTED, LINKS, MARK_YES, NOT_DRAINING,
-    QUERY_STREAM, QUEUES, QUEUE_PLACES, RESERVED_QUEUES, STREAMS, VIDS,
+    share, BEST_EFFORT, BEST_EFFORT_STREAM, CHARGES, CURRENT, DELAYS, DRAINING_TICKS, LAST, LEAST_PERMITTED, LINKS, MARK_YES, NOT_DRAINING,
+    QUEUES, QUEUE_PLACES, RESERVED_QUEUES, STREAMS, VIDS,
 };
 
 /// VID and address of a stream, as they stand in its entry.
@@ -69,7 +68,7 @@ impl Octets {
         self.record[layout::OPEN] == MARK_YES
     }
 
-    /// Writes the open mark, prior, K, F and L; those of a closed port need not be in their ranges.
+    /// Writes the open mark, prior, K and L; those of a closed port need not be in their ranges.
     fn put_head(&mut self, random: &mut Random, open: bool) {
         self.record[layout::OPEN] = if open { MARK_YES } else { no_mark(random) };
         self.record[layout::PRIOR] = random.below(RESERVED_QUEUES) as u8;
@@ -77,30 +76,25 @@ impl Octets {
             let link = [*LINKS.start(), *LINKS.end(), random.between(LINKS), random.between(LINKS)];
             let delay = [*DELAYS.start(), *DELAYS.end(), random.between(DELAYS)];
             put_two(&mut self.record, layout::LINK, random.pick(&link));
-            let delay = random.pick(&delay);
-            self.record[layout::DELAY] = delay as u8;
-            self.record[layout::FIRMWARE] = any_limit(random, delay) as u8;
+            self.record[layout::DELAY] = random.pick(&delay) as u8;
         }
     }
 
-    /// Gives a queue a start, a count and fit frames that wait; in best effort none, some or all of them are of firmware, and the sums become right.
+    /// Gives a queue a start, a count and fit frames that wait; in best effort W becomes their sum.
     pub fn put_queue(&mut self, random: &mut Random, queue: usize, start: usize, count: usize) {
         put_two(&mut self.record, layout::start(queue), start as u32);
         put_two(&mut self.record, layout::count(queue), count as u32);
-        let (mut sum, mut firmware_sum) = (0, 0);
-        let firmware = random.pick(&[0, 30, 70, 100]);
+        let mut sum = 0;
         for ahead in 0..count {
             let at = layout::frame(queue, start, ahead);
-            let (stream, charge) = (waiting_stream(random, queue, firmware), any_charge(random));
-            put_two(&mut self.memory, at + layout::FRAME_STREAM, stream);
+            let charge = any_charge(random);
+            put_two(&mut self.memory, at + layout::FRAME_STREAM, waiting_stream(random, queue));
             put_two(&mut self.memory, at + layout::FRAME_CHARGE, charge);
             put_four(&mut self.memory, at + layout::FRAME_TAG, random.number());
             sum += charge;
-            firmware_sum += if stream == FIRMWARE_STREAM { charge } else { 0 };
         }
         if queue == BEST_EFFORT {
             put_four(&mut self.record, layout::WAITS, sum);
-            put_four(&mut self.record, layout::FIRMWARE_WAITS, firmware_sum);
         }
     }
 
@@ -224,10 +218,10 @@ fn any_charge(random: &mut Random) -> u32 {
     random.pick(&[*CHARGES.start(), *CHARGES.end(), charge, charge])
 }
 
-/// The stream of a frame that waits in a queue: reserved or not; in best effort that of firmware so many times in a hundred, else a query's.
-fn waiting_stream(random: &mut Random, queue: usize, firmware: usize) -> u32 {
+/// The stream of a frame that waits in a queue: reserved or not, or 255 in best effort.
+fn waiting_stream(random: &mut Random, queue: usize) -> u32 {
     if queue == BEST_EFFORT {
-        return if random.chance(firmware) { FIRMWARE_STREAM } else { QUERY_STREAM };
+        return BEST_EFFORT_STREAM;
     }
     random.below(STREAMS) as u32
 }

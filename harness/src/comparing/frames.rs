@@ -3,7 +3,7 @@
 
 use std::sync::Arc;
 
-use crate::call::{Call, ADDRESS_OCTETS, QUERY};
+use crate::call::{Call, ADDRESS_OCTETS};
 use crate::comparing::calls::{any_tag, edge_stream, Profile, OVER_TWO_OCTETS};
 use crate::comparing::fit::{any_binding, binding, bindings, is_bound, Binding};
 use crate::comparing::random::Random;
@@ -53,14 +53,9 @@ impl Header {
         octets.into()
     }
 
-    /// A query's Frame of a charge with this header.
+    /// A Frame of a charge with this header.
     pub fn frame(&self, random: &mut Random, charge: u32, tag: u32) -> Call {
-        self.frame_of(random, QUERY, charge, tag)
-    }
-
-    /// A caller's Frame of a charge with this header.
-    pub fn frame_of(&self, random: &mut Random, caller: u8, charge: u32, tag: u32) -> Call {
-        Call::Frame { caller, octets: self.octets(random, length(charge)), tag }
+        Call::Frame { octets: self.octets(random, length(charge)), tag }
     }
 }
 
@@ -149,18 +144,18 @@ impl Profile {
         any as u8
     }
 
-    /// A Frame of any caller, its charge about what is left to the stream that it is bound to, or to best effort; one at an edge has its length there.
+    /// A Frame, its charge about what is left to the stream that it is bound to, or to best effort; one at an edge has its length there.
     pub fn frame(&self, random: &mut Random, record: &[u8], edge: bool) -> Call {
         let header = any_header(random, record);
-        let (caller, tag) = (self.any_caller(random), any_tag(random));
+        let tag = any_tag(random);
         if edge && random.chance(70) {
             let length = random.pick(&EDGE_LENGTHS);
-            return Call::Frame { caller, octets: header.octets(random, length), tag };
+            return Call::Frame { octets: header.octets(random, length), tag };
         }
         let charge = match stream_of(record, &header.octets(random, HEADER_OCTETS)) {
             Some(stream) => self.any_charge(random, record, stream as u8),
-            None => self.any_best_effort(random, record, caller),
+            None => self.any_best_effort(random, record),
         };
-        header.frame_of(random, caller, charge, tag)
+        header.frame(random, charge, tag)
     }
 }

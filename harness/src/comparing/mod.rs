@@ -9,7 +9,6 @@ pub mod coverage;
 pub mod damage;
 pub mod draining;
 pub mod fenced;
-pub mod firmware;
 pub mod fit;
 pub mod frames;
 pub mod lent;

@@ -94,29 +94,6 @@ pub const WITHDRAWING: Profile = Profile {
     ..ORDINARY
 };
 
-/// Firmware loads that press their limit beside queries, with transmits enough that they go on, and reservations that lower the limits now and then.
-pub const LOADING: Profile = Profile {
-    weights: Weights {
-        reserve: 2,
-        arrive: 5,
-        tick: 4,
-        transmit: 50,
-        best_effort: 80,
-        bind: 2,
-        frame: 40,
-        withdraw: 1,
-        read_register: 1,
-        write_register: 2,
-        ..NEVER
-    },
-    streams: 6,
-    links: 2_104..=9_000,
-    permitted: Permitted::UpTo(1_000),
-    firmware: 60,
-    edges: 5,
-    ..ORDINARY
-};
-
 /// Registers read and written again and again beside calls of every sort, with ticks that purge, discards, and transmits that find nothing.
 pub const REGISTERS: Profile = Profile {
     weights: Weights {
@@ -198,7 +175,6 @@ pub fn any_profile(random: &mut Random) -> Profile {
         edges: any(0, 20),
         permitted: random.pick(&[Permitted::NearFree, Permitted::UpTo(1_000), Permitted::UpTo(6_000)]),
         charges: random.pick(&[Charges::NearLeft, Charges::Least]),
-        firmware: random.pick(&[0, 30, 80]),
         ..ORDINARY
     }
 }

@@ -16,8 +16,8 @@ use crate::comparing::tests;
 
 /// How the program is called.
 const USAGE: &str =
-    "usage: compare [lists] [records] [quick] [frames] [withdrawals] [firmware] [registers] [counts] [lookups] [guarantee] [captures] [TEST..] \
-[--seed N] [--size PERCENT, at least 10] [--first-failure] [--replay PROGRAM]";
+    "usage: compare [lists] [records] [quick] [frames] [withdrawals] [registers] [counts] [lookups] [guarantee] [captures] [TEST..] [--seed N] \
+[--size PERCENT, at least 10] [--first-failure] [--replay PROGRAM]";
 /// The seed of a run that names none.
 const DEFAULT_SEED: u64 = 1;
 /// The size of a run that names none.

@@ -81,12 +81,7 @@ pub fn extreme(random: &mut Random) -> Octets {
         put_extreme(random, &mut octets.record, layout::start(queue), &[255, 256, 32_768, u16::MAX]);
         put_extreme(random, &mut octets.record, layout::count(queue), &[0, 255, 256, 257, 32_768, u16::MAX]);
         let oldest = layout::frame(queue, two(&octets.record, layout::start(queue)) as usize, 0);
-        put_extreme(
-            random,
-            &mut octets.memory,
-            oldest + layout::FRAME_STREAM,
-            &[64, 252, 253, 253, 254, 254, 255, 256 + 253, 256 + 254, u16::MAX],
-        );
+        put_extreme(random, &mut octets.memory, oldest + layout::FRAME_STREAM, &[64, 254, 254, 255, 256 + 254, u16::MAX]);
     }
     for at in (0..STREAMS).map(layout::entry) {
         put_extreme(random, &mut octets.record, at + layout::LEFT, &[0, 83, 84, u16::MAX]);
@@ -97,13 +92,10 @@ pub fn extreme(random: &mut Random) -> Octets {
         octets.record[at + layout::DRAINING] = if random.chance(10) { random.pick(&[0, 1, 5, 255]) } else { draining };
     }
     put_extreme(random, &mut octets.record, layout::LINK, &[0, 1_626, 2_019, 2_020, 2_103, 23_525, u16::MAX]);
-    for sum in [layout::WAITS, layout::FIRMWARE_WAITS] {
-        put_extreme(random, &mut octets.record, sum, &[0, u16::MAX]);
-        put_extreme(random, &mut octets.record, sum + 2, &[0, 84, u16::MAX]);
-    }
-    let (prior, delay, firmware) = (octets.record[layout::PRIOR], octets.record[layout::DELAY], octets.record[layout::FIRMWARE]);
+    put_extreme(random, &mut octets.record, layout::WAITS, &[0, u16::MAX]);
+    put_extreme(random, &mut octets.record, layout::WAITS + 2, &[0, u16::MAX]);
+    let (prior, delay) = (octets.record[layout::PRIOR], octets.record[layout::DELAY]);
     octets.record[layout::DELAY] = random.pick(&[0, 17, 255, delay, delay, delay]);
-    octets.record[layout::FIRMWARE] = random.pick(&[0, 1, 17, 255, delay.wrapping_add(1), firmware, firmware, firmware]);
     octets.record[layout::PRIOR] = random.pick(&[4, 7, 255, prior]);
     octets
 }

@@ -3,9 +3,9 @@
 use std::fmt;
 
 use crate::call::{Given, Reply, Stream};
-use crate::guarantee::found::{Alike, Broken, Counts, Found, Limits, Numbers, Queries};
+use crate::guarantee::found::{Alike, Broken, Counts, Found, Numbers};
 use crate::guarantee::list::Event;
-use crate::guarantee::{claims, counts, limits, pairs, queries, taken};
+use crate::guarantee::{claims, counts, pairs, taken};
 use crate::{exports, in_place, model};
 
 /// How a call is played on a lent record and memory.
@@ -23,10 +23,6 @@ pub type Check = fn(&[Event]) -> Result<Found, Broken>;
 pub type CheckNumbers = fn(&[Event]) -> Result<Numbers, Broken>;
 /// How what a list tells of its streams' counts is held against its replies.
 pub type CheckCounts = fn(&[Event]) -> Result<Counts, Broken>;
-/// How the replies of a list to queries are held against what firmware leaves to them.
-pub type CheckQueries = fn(&[Event]) -> Result<Queries, Broken>;
-/// How one list that is played with two F's is held beside itself: how much of it was compared, if it has no firmware frame.
-pub type CheckLimits = fn(&[Event], &[Event]) -> Result<Option<Limits>, String>;
 /// How two lists are held beside each other for one stream: how much of it was compared, if the lists are alike in what is its own.
 pub type CheckPair = fn(&[Event], &[Event], u8) -> Result<Option<Alike>, String>;
 
@@ -58,8 +54,6 @@ pub struct Sides {
     pub check: Check,
     pub numbers: CheckNumbers,
     pub counts: CheckCounts,
-    pub queries: CheckQueries,
-    pub limits: CheckLimits,
     pub pair: CheckPair,
 }
 
@@ -75,8 +69,6 @@ impl Sides {
         check: claims::check,
         numbers: taken::check,
         counts: counts::check,
-        queries: queries::check,
-        limits: limits::check,
         pair: pairs::check,
     };
 

@@ -1,7 +1,7 @@
 //! A list of Binds, Frames, Withdraws, accesses to registers and other calls whose replies are written down, from documents 01 and 02 or for records
 //! that are not fit from the quick calls' definition, played on two sides.
 
-use crate::call::{Call, Reply, ADDRESS_OCTETS, QUERY};
+use crate::call::{Call, Reply, ADDRESS_OCTETS};
 use crate::comparing::compared::Compared;
 use crate::comparing::fit::Octets;
 use crate::comparing::frames::Header;
@@ -36,22 +36,12 @@ impl<'a, 'r> Stated<'a, 'r> {
 
     /// A list that begins with Open(L, K) on a used record that is closed, and reserves streams, each with its P.
     pub fn opened(run: &'a mut Run<'r>, sides: [Side; 2], link: u32, delay: u32, streams: &[(u8, u32)]) -> Result<Stated<'a, 'r>, String> {
-        Stated::opened_with(run, sides, [link, delay, 0], streams)
-    }
-
-    /// The same with Open(L, K, F).
-    pub fn opened_with(
-        run: &'a mut Run<'r>,
-        sides: [Side; 2],
-        [link, delay, firmware]: [u32; 3],
-        streams: &[(u8, u32)],
-    ) -> Result<Stated<'a, 'r>, String> {
         let mut random = run.next_list();
         let used = Octets::fit(&mut random, false);
         let compared = Compared::guarded(sides, run, &used.record, &used.memory);
         let mut list = Stated { run, compared, random };
         let mut free = share(link);
-        list.call(Call::Open { link, delay, firmware }, Reply::granted(free, 0))?;
+        list.call(Call::Open { link, delay }, Reply::granted(free, 0))?;
         for &(stream, permitted) in streams {
             free -= permitted;
             list.call(Call::Reserve { stream, permitted }, Reply::granted(free, 0))?;
@@ -96,15 +86,10 @@ impl<'a, 'r> Stated<'a, 'r> {
         }
     }
 
-    /// A query's Frame of a length with a header.
+    /// A Frame of a length with a header.
     pub fn frame(&mut self, header: &Header, length: usize, tag: u32, reply: Reply) -> Result<(), String> {
-        self.frame_of_caller(QUERY, header, length, tag, reply)
-    }
-
-    /// The same of a caller.
-    pub fn frame_of_caller(&mut self, caller: u8, header: &Header, length: usize, tag: u32, reply: Reply) -> Result<(), String> {
         let octets = header.octets(&mut self.random, length);
-        self.call(Call::Frame { caller, octets, tag }, reply)
+        self.call(Call::Frame { octets, tag }, reply)
     }
 
     /// A Frame of 60 octets and the Transmit that sends it: on a stream that has 84 octets left after it, or in best effort, where none waits.
@@ -117,7 +102,7 @@ impl<'a, 'r> Stated<'a, 'r> {
     pub fn octets_of(&mut self, octets: Vec<u8>, stream: Option<u8>) -> Result<(), String> {
         let tag = self.random.number();
         let reply = if stream.is_some() { Reply::granted(1, 84) } else { Reply::granted(84, 0) };
-        self.call(Call::Frame { caller: QUERY, octets: octets.into(), tag }, reply)?;
+        self.call(Call::Frame { octets: octets.into(), tag }, reply)?;
         self.call(Call::Transmit, Reply::granted(u32::from(stream.unwrap_or(255)), tag))?;
         self.call(Call::Tick, Reply::granted(0, 0))
     }

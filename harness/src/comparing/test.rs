@@ -17,7 +17,6 @@ pub enum Kind {
     Quick,
     Frames,
     Withdrawals,
-    Firmware,
     Registers,
     Counts,
     Lookups,
@@ -26,14 +25,13 @@ pub enum Kind {
 }
 
 /// Each kind with the word that names it on the command line.
-pub const KINDS: [(&str, Kind); 12] = [
+pub const KINDS: [(&str, Kind); 11] = [
     ("streams", Kind::Streams),
     ("lists", Kind::Lists),
     ("records", Kind::Records),
     ("quick", Kind::Quick),
     ("frames", Kind::Frames),
     ("withdrawals", Kind::Withdrawals),
-    ("firmware", Kind::Firmware),
     ("registers", Kind::Registers),
     ("counts", Kind::Counts),
     ("lookups", Kind::Lookups),

@@ -2,8 +2,8 @@
 
 use crate::call::hexadecimal;
 use crate::model::capture::{
-    first_index, next_index, Refused, BEST_EFFORT, CALLERS, KIND_AT, LETTERS, MOST_OCTETS, NO_STREAM, NUMBER_A_AT, NUMBER_B_AT, OPEN,
-    PORTS, RECORD_OCTETS, STREAM_AT, TICK, TRANSMIT, WITHDRAW, ZEROS_AT,
+    first_index, next_index, Refused, BEST_EFFORT, KIND_AT, LETTERS, MOST_OCTETS, NO_STREAM, NUMBER_A_AT, NUMBER_B_AT, OPEN, PORTS,
+    RECORD_OCTETS, STREAM_AT, STREAM_OF_BEST_EFFORT, TICK, TRANSMIT, WITHDRAW, ZEROS_AT,
 };
 use crate::model::octets::{number, FOUR};
 use crate::model::refusal::{CAPTURE_HEADER, CAPTURE_INDEX, CAPTURE_LENGTH, CAPTURE_RECORD};
@@ -105,15 +105,14 @@ fn wrong_next_index(next: usize, own: usize, records: usize) -> String {
 /// What is wrong with a record, as far as its kind is one.
 fn wrong_record(record: &[u8]) -> String {
     let (kind, stream) = (record[KIND_AT], record[STREAM_AT]);
-    let due: &[u8] = match kind {
-        TICK | TRANSMIT => &[NO_STREAM],
-        BEST_EFFORT => &CALLERS,
-        _ => &[],
+    let due = match kind {
+        OPEN | TICK | TRANSMIT => Some(NO_STREAM),
+        BEST_EFFORT => Some(STREAM_OF_BEST_EFFORT),
+        _ => None,
     };
-    let allowed: Vec<String> = due.iter().map(u8::to_string).collect();
     match due {
         _ if !(OPEN..=WITHDRAW).contains(&kind) => format!("kind {kind} is none of {OPEN} to {WITHDRAW}"),
-        [_, ..] if !due.contains(&stream) => format!("the stream octet of kind {kind} is {stream} and not {}", allowed.join(" or ")),
+        Some(due) if stream != due => format!("the stream octet of kind {kind} is {stream} and not {due}"),
         _ if record[ZEROS_AT..].iter().any(|&octet| octet != 0) => String::from("its zero octets are not all zero"),
         _ => format!("an unused number of kind {kind} is not 0"),
     }

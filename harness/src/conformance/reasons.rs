@@ -2,11 +2,9 @@
 
 use std::ops::RangeInclusive;
 
-use crate::call::{Call, Reply, FIRMWARE};
+use crate::call::{Call, Reply};
 use crate::model::port::{permitted_sum, share, Port, BEST_EFFORT, CHARGES, CURRENT, DRAINING_TICKS, LARGEST_CHARGE, LAST, LINKS};
-use crate::model::refusal::{
-    BEST_EFFORT_EXCEEDED, CHARGE_OUTSIDE, DISCARD, DRAINING, FIRMWARE_ABOVE, FIRMWARE_EXCEEDED, LINK_OUTSIDE, SHARE_EXCEEDED,
-};
+use crate::model::refusal::{BEST_EFFORT_EXCEEDED, CHARGE_OUTSIDE, DISCARD, DRAINING, LINK_OUTSIDE, SHARE_EXCEEDED};
 use crate::timeline::words::ROLES;
 
 /// The steps that lead to a reply to a call on a port as it was before; of a refusal also the order of the call's checks.
@@ -14,13 +12,9 @@ pub fn steps(call: &Call, reply: &Reply, before: &Port) -> Vec<String> {
     let mut steps = match (call, reply.refusal) {
         (Call::Open { link, .. }, 0) => vec![opening(*link)],
         (Call::Open { link, .. }, LINK_OUTSIDE) => vec![outside("L", *link, &LINKS)],
-        (Call::Open { delay, firmware, .. }, FIRMWARE_ABOVE) => vec![format!("F is {firmware}, above K, {delay}")],
         (Call::Arrive { charge, .. } | Call::BestEffort { charge, .. }, CHARGE_OUTSIDE) => vec![outside("the charge", *charge, &CHARGES)],
         (Call::Reserve { permitted, .. }, 0 | SHARE_EXCEEDED) => vec![reservation(before, *permitted)],
         (Call::Arrive { stream, charge, .. }, 0 | DISCARD) => arrival(before, usize::from(*stream), *charge),
-        (Call::BestEffort { caller: FIRMWARE, charge, .. }, 0 | FIRMWARE_EXCEEDED) => {
-            vec![best_effort(before, *charge), firmware(before, *charge)]
-        }
         (Call::BestEffort { charge, .. }, 0 | BEST_EFFORT_EXCEEDED) => vec![best_effort(before, *charge)],
         (Call::Tick, 0) => vec![format!("{} in prior before it", waiting(before, before.prior))],
         (Call::Transmit, 0) => vec![transmit(before)],
@@ -30,7 +24,7 @@ pub fn steps(call: &Call, reply: &Reply, before: &Port) -> Vec<String> {
         }
         _ => Vec::new(),
     };
-    if [SHARE_EXCEEDED, BEST_EFFORT_EXCEEDED, FIRMWARE_EXCEEDED].contains(&reply.refusal) {
+    if matches!((call, reply.refusal), (Call::Reserve { .. }, SHARE_EXCEEDED) | (Call::BestEffort { .. }, BEST_EFFORT_EXCEEDED)) {
         steps.extend(of_draining(before));
     }
     if reply.refusal != 0 {
@@ -42,10 +36,9 @@ pub fn steps(call: &Call, reply: &Reply, before: &Port) -> Vec<String> {
 /// The refusals of a call that an event of a capture can meet, in their order.
 fn checks(call: &Call) -> &'static str {
     match call {
-        Call::Open { .. } => "2 3 4 27",
+        Call::Open { .. } => "2 3 4",
         Call::Reserve { .. } => "1 5 25 6 7 8",
         Call::Arrive { .. } => "1 5 25 12 13 14",
-        Call::BestEffort { caller: FIRMWARE, .. } => "1 13 15 16 28",
         Call::BestEffort { .. } => "1 13 15 16",
         Call::Tick | Call::Transmit => "1",
         Call::Withdraw { .. } => "1 5 25 12",
@@ -124,21 +117,11 @@ fn arrival(before: &Port, number: usize, charge: u32) -> Vec<String> {
 
 /// W with the charge, beside the limit.
 fn best_effort(before: &Port, charge: u32) -> String {
-    beside_limit(before, ("W", before.waits), charge, ("K", before.delay))
-}
-
-/// The firmware octets that wait with the charge, beside the limit of their own.
-fn firmware(before: &Port, charge: u32) -> String {
-    beside_limit(before, ("firmware octets waiting", before.firmware_waits), charge, ("F", before.firmware))
-}
-
-/// A named sum with the charge, beside so many epochs, which have a name too, of L less R.
-fn beside_limit(before: &Port, (what, waits): (&str, u32), charge: u32, (name, epochs): (&str, u32)) -> String {
-    let (link, reserved) = (before.link, permitted_sum(&before.streams));
-    let limit = u64::from(epochs) * (u64::from(link) - reserved);
-    let sum = waits + charge;
+    let (reserved, waits) = (permitted_sum(&before.streams), before.waits);
+    let limit = u64::from(before.delay) * (u64::from(before.link) - reserved);
+    let (sum, delay, link) = (waits + charge, before.delay, before.link);
     let compared = if u64::from(sum) <= limit { "within" } else { "above" };
-    format!("{what} {waits} and the charge {charge} make {sum}, {compared} {name} × (L − R), {epochs} × ({link} − {reserved}) = {limit}")
+    format!("W {waits} and the charge {charge} make {sum}, {compared} K × (L − R), {delay} × ({link} − {reserved}) = {limit}")
 }
 
 /// What waits in the queues from which a frame can be sent.

@@ -8,7 +8,7 @@ use crate::conformance::sums::{self, Sums};
 use crate::model::replay::replay;
 
 /// The edition of the rule by which the set is made: the number of the last request of document 02 that the rule follows.
-pub const EDITION: u32 = 6;
+pub const EDITION: u32 = 5;
 
 /// The group of the stored captures.
 pub const STORED: &str = "stored";

@@ -3,7 +3,6 @@
 
 use crate::call::Call;
 use crate::comparing::calls::ORDINARY;
-use crate::comparing::firmware::any_limit;
 use crate::comparing::fit::Octets;
 use crate::comparing::frames::{arrival, stream_of};
 use crate::comparing::random::Random;
@@ -28,7 +27,7 @@ const CONTROLLED: usize = 20;
 /// After how many of the stream's own calls in a hundred its counts are asked for.
 const ASKED: usize = 40;
 
-/// Writes such a list on another record and memory, with an L, a K and an F of its own.
+/// Writes such a list on another record and memory, with an L and a K of its own.
 pub fn write(random: &mut Random, play: Play, begin: &Octets, events: &[Event], stream: u8) -> Vec<Event> {
     let kept = random.pick(&[0, 50, 90]);
     let changes = Changes { kept, changed: random.pick(&[0, 50, 100]), added: random.pick(&[0, 1, 3]) };
@@ -53,15 +52,14 @@ pub fn write(random: &mut Random, play: Play, begin: &Octets, events: &[Event], 
     playing.events
 }
 
-/// An Open with any K and F, and any L or the same.
+/// An Open with any K, and any L or the same.
 fn other_open(random: &mut Random, open: &Call) -> Call {
     let any = random.between(LINKS);
     let same = match *open {
         Call::Open { link, .. } => link,
         _ => any,
     };
-    let delay = random.between(DELAYS);
-    Call::Open { link: random.pick(&[same, *LINKS.end(), any]), delay, firmware: any_limit(random, delay) }
+    Call::Open { link: random.pick(&[same, *LINKS.end(), any]), delay: random.between(DELAYS) }
 }
 
 /// Plays a tick or a call of the stream's own; a Reserve is most often followed by a Bind.
@@ -106,11 +104,11 @@ fn any_other(random: &mut Random, playing: &mut Playing, stream: u8) {
     let (tag, charge) = (random.number(), random.between(CHARGES));
     let record = &playing.octets().record;
     let call = match random.weighted(&[1, 4, 20, 20, 10, 4, 2, 2, 4, 15]) {
-        0 => Call::Open { link: random.between(LINKS), delay: 1, firmware: 0 },
+        0 => Call::Open { link: random.between(LINKS), delay: 1 },
         1 => Call::Reserve { stream: another, permitted: random.between(LEAST_PERMITTED..=2 * LARGEST_CHARGE) },
         2 => Call::Arrive { stream: another, charge, tag },
         3 => Call::Transmit,
-        4 => Call::BestEffort { caller: ORDINARY.any_caller(random), charge, tag },
+        4 => Call::BestEffort { charge, tag },
         5 => ORDINARY.bind(random, record, false),
         6 => Call::Withdraw { stream: another },
         7 => any_read(random, false),

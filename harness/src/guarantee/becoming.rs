@@ -11,10 +11,6 @@ use crate::guarantee::taken::{Pair, Taken};
 
 /// "17 frame outside" its range of lengths.
 const OUTSIDE: u8 = 17;
-/// The stream that a firmware frame keeps: "253 for firmware, the frame keeps it as its stream".
-pub const FIRMWARE_KEPT: u32 = 253;
-/// The stream that a query's frame keeps: "255 for query".
-const QUERY_KEPT: u32 = 255;
 /// The octets of a header up to those of the VID.
 const HEADER: usize = 16;
 
@@ -23,7 +19,7 @@ const HEADER: usize = 16;
 pub fn counted(events: &[Event]) -> Vec<Call> {
     let mut taken = Taken::default();
     let count = |event: &Event| match (made(&event.call), event.reply.refusal) {
-        (Call::Frame { caller, octets, tag }, refusal) if refusal != OUTSIDE => becomes(&taken, caller, &octets, tag),
+        (Call::Frame { octets, tag }, refusal) if refusal != OUTSIDE => becomes(&taken, &octets, tag),
         (call, 0) => {
             taken.follow(&call);
             call
@@ -73,20 +69,12 @@ pub fn by_control(call: Call, above: u32) -> Call {
     }
 }
 
-/// "A bound pair is an Arrive on its stream; all else is best effort", of the caller that the frame names.
-fn becomes(taken: &Taken, caller: u8, octets: &[u8], tag: u32) -> Call {
+/// "A bound pair is an Arrive on its stream; all else is best effort."
+fn becomes(taken: &Taken, octets: &[u8], tag: u32) -> Call {
     let charge = octets.len() as u32 + BESIDE_LENGTH;
     match pair(octets).and_then(|pair| taken.bound_to(&pair)) {
         Some(stream) => Call::Arrive { stream, charge, tag },
-        None => Call::BestEffort { caller, charge, tag },
-    }
-}
-
-/// The stream that a best-effort frame keeps of its caller: 253 is firmware, any other caller is query.
-pub fn kept(caller: u8) -> u32 {
-    match u32::from(caller) {
-        FIRMWARE_KEPT => FIRMWARE_KEPT,
-        _ => QUERY_KEPT,
+        None => Call::BestEffort { charge, tag },
     }
 }
 

@@ -12,7 +12,8 @@ use crate::guarantee::list::Event;
 use crate::guarantee::ranges::{share, CHARGES};
 use crate::layout;
 
-/// "254 nothing", in the place of a stream.
+/// "255 best effort, 254 nothing", in the place of a stream.
+const BEST_EFFORT: u32 = 255;
 const NOTHING: u32 = 254;
 /// "as current" is a reply "whose first number is 1".
 const AS_CURRENT: u32 = 1;
@@ -85,7 +86,7 @@ fn frame_sent(events: &[Event], calls: &[Call], number: usize) -> Result<Option<
     }
     let (stream, tag) = match calls[frame] {
         Call::Arrive { stream, tag, .. } => (u32::from(stream), tag),
-        Call::BestEffort { caller, tag, .. } => (becoming::kept(caller), tag),
+        Call::BestEffort { tag, .. } => (BEST_EFFORT, tag),
         _ => return broken(number, "it sends the frame of a call that brings none"),
     };
     match reply == Reply::granted(stream, tag) && marked == Reply::granted(stream, marked.second) {

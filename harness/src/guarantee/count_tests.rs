@@ -1,7 +1,7 @@
 //! The checkers' own tests of what lists tell of their streams' counts: which replies are counted, since when, and of which stream; and two lists that
 //! are alike in all that a stream's counts depend on.
 
-use crate::call::{Call, Reply, QUERY};
+use crate::call::{Call, Reply};
 use crate::guarantee::found::{Alike, Counts};
 use crate::guarantee::tests::{Hand, STREAM};
 use crate::guarantee::{counts, pairs};
@@ -66,7 +66,7 @@ fn counts_are_numbers_of_replies() {
 fn other_replies_are_not_counted() {
     let mut hand = Hand::reserved(200);
     (1..=28).filter(|refusal| *refusal != 14).for_each(|refusal| _ = hand.arrive(84, Reply::refused(refusal)));
-    hand.put(Call::BestEffort { caller: QUERY, charge: 84, tag: 7 }, Reply::granted(84, 0));
+    hand.put(Call::BestEffort { charge: 84, tag: 7 }, Reply::granted(84, 0));
     hand.put(Call::Reserve { stream: 6, permitted: 84 }, Reply::granted(316, 0));
     hand.ticks(5);
     assert!((0..64).all(|stream| hand.may_tell(stream, 0, 0) && !hand.may_tell(stream, 1, 0) && !hand.may_tell(stream, 0, 1)));

@@ -202,22 +202,6 @@ pub enum Shown {
     DiscardsTold,
     /// A question or a read of a stream on which frames arrived since its withdrawal and before it.
     CountedAnew,
-    /// A query that was accepted while firmware waited, and that the claim about queries covers.
-    QueryBeside,
-    /// One of these that made the query octets waiting just (K − F) × (L − R).
-    QueriesAllTheirPart,
-    /// A query that was refused with 16 where the query octets waiting and its charge are more than that.
-    QueryRefused,
-    /// A query that was refused with 16 though they are not, after a reservation that was granted beside firmware.
-    QueryRefusedAfterReservation,
-    /// A firmware frame that was refused with 28.
-    LoadStopped,
-    /// A list that was played with another F.
-    LimitChanged,
-    /// A best-effort frame of such a list.
-    QueryWhateverTheLimit,
-    /// A 16 of such a list.
-    RefusedWhateverTheLimit,
 }
 
 /// What the replies of a list showed of the numbers, share and pairs that are taken.
@@ -276,39 +260,6 @@ impl Counts {
     }
 }
 
-/// What a list showed of queries beside firmware: queries that were accepted while firmware waited and that the claim covers, those of them that made
-/// the query octets waiting just (K − F) × (L − R), queries that were refused with 16 and that it does not cover, by their octets or for a
-/// reservation that was granted beside firmware, and firmware frames that were refused with 28.
-#[derive(Clone, Copy, Debug, Default, PartialEq, Eq)]
-pub struct Queries {
-    pub beside: u64,
-    pub all_of_it: u64,
-    pub refused: u64,
-    pub refused_after_reservation: u64,
-    pub stopped: u64,
-}
-
-impl Queries {
-    /// The counts by what they show.
-    pub fn shown(&self) -> [(Shown, u64); 5] {
-        [
-            (Shown::QueryBeside, self.beside),
-            (Shown::QueriesAllTheirPart, self.all_of_it),
-            (Shown::QueryRefused, self.refused),
-            (Shown::QueryRefusedAfterReservation, self.refused_after_reservation),
-            (Shown::LoadStopped, self.stopped),
-        ]
-    }
-}
-
-/// One list with two F's: how many replies were compared, how many best-effort frames it has, and how many 16s are among the replies.
-#[derive(Clone, Copy, Debug, Default, PartialEq, Eq)]
-pub struct Limits {
-    pub replies: u64,
-    pub queries: u64,
-    pub refused: u64,
-}
-
 /// Two lists that are alike: how many arrivals were compared, how many of these are a Frame in one list and an Arrive in the other, how many
 /// Withdraws of the stream there are, and how many of its counts other than 0 were compared.
 #[derive(Clone, Copy, Debug, PartialEq, Eq)]
@@ -365,14 +316,6 @@ impl fmt::Display for Shown {
             Shown::CountOfNone => "counts of no stream read or asked for",
             Shown::DiscardsTold => "counts told of streams with discards",
             Shown::CountedAnew => "of streams that count anew",
-            Shown::QueryBeside => "queries accepted beside firmware",
-            Shown::QueriesAllTheirPart => "of these that make all of their part",
-            Shown::QueryRefused => "queries refused beyond their part",
-            Shown::QueryRefusedAfterReservation => "queries refused after a reservation beside firmware",
-            Shown::LoadStopped => "loads refused 28",
-            Shown::LimitChanged => "lists with another F",
-            Shown::QueryWhateverTheLimit => "best-effort frames of these",
-            Shown::RefusedWhateverTheLimit => "16s of these",
         })
     }
 }

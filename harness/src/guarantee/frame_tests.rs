@@ -2,7 +2,7 @@
 
 use std::sync::Arc;
 
-use crate::call::{Call, Reply, QUERY};
+use crate::call::{Call, Reply};
 use crate::guarantee::found::{Alike, Found, Link, Prompt};
 use crate::guarantee::tests::{Hand, STREAM};
 use crate::guarantee::{becoming, pairs};
@@ -15,7 +15,7 @@ impl Hand {
 
     /// A Frame to such an address with VID 1 that replies as said.
     pub fn frame(&mut self, octet: u8, length: usize, reply: Reply) -> usize {
-        self.put(Call::Frame { caller: QUERY, octets: tagged(octet, length), tag: 7 }, reply)
+        self.put(Call::Frame { octets: tagged(octet, length), tag: 7 }, reply)
     }
 }
 
@@ -39,10 +39,10 @@ fn frames_count_as_what_they_become() {
         hand.frame(octet, length, Reply::refused(refusal));
     }
     let counted = becoming::counted(&hand.events);
-    assert_eq!(counted[3], Call::BestEffort { caller: QUERY, charge: 84, tag: 7 });
+    assert_eq!(counted[3], Call::BestEffort { charge: 84, tag: 7 });
     assert_eq!(counted[7], Call::Arrive { stream: STREAM, charge: 84, tag: 7 });
     assert_eq!(counted[8], Call::Arrive { stream: 6, charge: 2_020, tag: 7 });
-    assert_eq!(counted[9], Call::BestEffort { caller: QUERY, charge: 124, tag: 7 });
+    assert_eq!(counted[9], Call::BestEffort { charge: 124, tag: 7 });
     assert_eq!(counted[10], hand.events[10].call);
     for number in [0, 1, 2, 4, 5, 6] {
         assert_eq!(counted[number], hand.events[number].call);
@@ -60,7 +60,7 @@ fn frames_count_by_their_header() {
         octets[at] ^= change;
         let mut hand = Hand::reserved(200);
         hand.bind(STREAM, 9, Reply::granted(0, 0));
-        hand.put(Call::Frame { caller: QUERY, octets: octets.into(), tag: 7 }, Reply::granted(1, 0));
+        hand.put(Call::Frame { octets: octets.into(), tag: 7 }, Reply::granted(1, 0));
         let arrive = Call::Arrive { stream: STREAM, charge: 84, tag: 7 };
         assert_eq!(becoming::counted(&hand.events)[3] == arrive, bound);
     }

@@ -62,8 +62,8 @@ fn first_apart(one: &[u8], other: &[u8]) -> Option<usize> {
 fn with_tag(call: Given, tag: u32) -> Given {
     match call {
         Call::Arrive { stream, charge, .. } => Call::Arrive { stream, charge, tag },
-        Call::BestEffort { caller, charge, .. } => Call::BestEffort { caller, charge, tag },
-        Call::Frame { caller, octets, .. } => Call::Frame { caller, octets, tag },
+        Call::BestEffort { charge, .. } => Call::BestEffort { charge, tag },
+        Call::Frame { octets, .. } => Call::Frame { octets, tag },
         other => other,
     }
 }

@@ -3,8 +3,8 @@
 //!
 //! `list` plays a list twice and sees that both plays leave the same record, `becoming` tells what each call counts as, `claims` holds one list
 //! against the demand and `pairs` two, `taken` holds its replies against the numbers, share and pairs that its granted calls take, `counts` what it
-//! tells of its streams' counts against its replies, `queries` what firmware leaves to queries, and `limits` one list with another F, all by the
-//! numbers of `ranges` and without a model of the port; `writing` and `alike` make the lists, and may look into the record to make them hard.
+//! tells of its streams' counts against its replies, all by the numbers of `ranges` and without a model of the port; `writing` and `alike` make the
+//! lists, and may look into the record to make them hard.
 
 pub mod alike;
 pub mod becoming;
@@ -15,12 +15,8 @@ pub mod counts;
 pub mod found;
 #[cfg(test)]
 mod frame_tests;
-pub mod limits;
 pub mod list;
 pub mod pairs;
-pub mod queries;
-#[cfg(test)]
-mod query_tests;
 pub mod ranges;
 #[cfg(test)]
 mod register_tests;

@@ -77,11 +77,6 @@ impl Taken {
         self.streams.iter().find(|(_, stream)| stream.pair == Some(*pair)).map(|(&number, _)| number)
     }
 
-    /// R, the sum of the P's that are taken: a draining stream's "P in R and the share".
-    pub fn permitted(&self) -> u64 {
-        self.streams.values().map(|stream| u64::from(stream.permitted)).sum()
-    }
-
     /// Whether a stream's number is taken, and drains.
     fn drains(&self, stream: u8) -> bool {
         self.streams.get(&stream).is_some_and(|stream| stream.ticks.is_some())
@@ -102,7 +97,8 @@ impl Taken {
 
     /// What is due to a Reserve of a stream that does not drain: "6 reserved already; 7 P below 84; 8 sum of P above the share", or what is then free.
     fn reservation(&self, is_taken: bool, permitted: u32) -> Reply {
-        let sum = self.permitted() + u64::from(permitted);
+        let taken: u64 = self.streams.values().map(|stream| u64::from(stream.permitted)).sum();
+        let sum = taken + u64::from(permitted);
         match u64::from(self.share).checked_sub(sum) {
             _ if is_taken => Reply::refused(6),
             _ if permitted < LEAST_PERMITTED => Reply::refused(7),

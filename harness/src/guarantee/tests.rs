@@ -1,7 +1,7 @@
 //! The checkers' own tests: lists with replies that no port need ever have given, each of which breaks one claim, or just does not. Those with
 //! Frames are in `frame_tests`, those with Withdraws in `withdraw_tests`, those with accesses to registers in `register_tests`.
 
-use crate::call::{Call, Given, Reply, QUERY};
+use crate::call::{Call, Given, Reply};
 use crate::comparing::fit::Octets;
 use crate::guarantee::found::{Alike, Found, Link, Prompt};
 use crate::guarantee::list::{Event, Playing};
@@ -25,7 +25,7 @@ impl Hand {
     /// A list after a granted Open.
     pub fn opened() -> Hand {
         let mut hand = Hand { events: Vec::new() };
-        hand.put(Call::Open { link: LINK, delay: 1, firmware: 0 }, Reply::granted(SHARE, 0));
+        hand.put(Call::Open { link: LINK, delay: 1 }, Reply::granted(SHARE, 0));
         hand
     }
 
@@ -139,7 +139,7 @@ fn records_do_not_depend_on_tags() {
     let mut hand = Hand::reserved(200);
     let number = hand.current(84);
     assert!(hand.check().is_ok());
-    for (octet, field) in [(1, "prior"), (3, "F"), (4, "spare"), (12, "firmware octets waiting"), (64, "reserved mark of stream 0")] {
+    for (octet, field) in [(1, "prior"), (12, "spare"), (64, "reserved mark of stream 0")] {
         hand.events[number].apart = Some(octet);
         assert_eq!(hand.check(), Err(number));
         assert_eq!(hand.words(), format!("octet {octet} of the record, {field}, is another where tags are"));
@@ -149,7 +149,7 @@ fn records_do_not_depend_on_tags() {
 /// A play that compares the records sees where a port's record has something of a tag.
 #[test]
 fn plays_are_compared() {
-    let calls = [Call::Open { link: LINK, delay: 1, firmware: 0 }, Call::BestEffort { caller: QUERY, charge: 84, tag: 7 }, Call::Tick];
+    let calls = [Call::Open { link: LINK, delay: 1 }, Call::BestEffort { charge: 84, tag: 7 }, Call::Tick];
     let apart = |play| {
         let mut playing = Playing::new(play, &Octets::zero());
         calls.clone().map(|call| playing.call(call).apart)
@@ -224,7 +224,7 @@ fn link_condition_by_octets() {
 #[test]
 fn link_condition_by_idle_transmits() {
     let mut hand = Hand::opened();
-    let effort = hand.put(Call::BestEffort { caller: QUERY, charge: 84, tag: 7 }, Reply::granted(84, 0));
+    let effort = hand.put(Call::BestEffort { charge: 84, tag: 7 }, Reply::granted(84, 0));
     hand.tick();
     assert_eq!(hand.link(), Link::NothingToMeet);
     hand.put_marked(Call::Transmit, Reply::granted(255, 7), Reply::granted(255, effort as u32));
@@ -464,7 +464,7 @@ fn pairs_of_lists() {
     other.idle();
     other.tick();
     other.arrive(300, Reply::refused(14));
-    other.put(Call::BestEffort { caller: QUERY, charge: 84, tag: 0 }, Reply::granted(84, 0));
+    other.put(Call::BestEffort { charge: 84, tag: 0 }, Reply::granted(84, 0));
     assert_eq!(pairs::check(&one.events, &other.events, STREAM), Ok(Some(Alike { arrivals: 2, frames: 0, withdrawals: 0, counts: 0 })));
     for reply in [Reply::granted(1, 1), Reply::granted(2, 0), Reply::refused(14)] {
         one.events[2].reply = reply;

@@ -1,6 +1,6 @@
 //! The checkers' own tests of lists with Withdraws: what is taken and what is free by the replies, and "each frame" from a grant to the withdrawal.
 
-use crate::call::{Call, Reply, QUERY};
+use crate::call::{Call, Reply};
 use crate::guarantee::found::{Alike, Found, Link, Numbers};
 use crate::guarantee::tests::{current, Hand, STREAM};
 use crate::guarantee::{becoming, pairs, taken};
@@ -86,7 +86,7 @@ fn pair_is_taken_until_the_fourth_tick() {
         assert_eq!(hand.allowed(&bind, &[0]), if ticks < 4 { [(9, 0), (10, 0), (11, 0)] } else { [(9, 0), (10, 0), (0, 0)] });
         let frame = hand.frame(9, 60, Reply::granted(84, 0));
         let arrive = Call::Arrive { stream: STREAM, charge: 84, tag: 7 };
-        let best_effort = Call::BestEffort { caller: QUERY, charge: 84, tag: 7 };
+        let best_effort = Call::BestEffort { charge: 84, tag: 7 };
         assert_eq!(becoming::counted(&hand.events)[frame], if ticks < 4 { arrive } else { best_effort });
         assert_eq!(hand.numbers().err(), (ticks < 4).then_some(frame));
     }

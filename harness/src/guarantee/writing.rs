@@ -4,10 +4,9 @@
 
 use std::ops::RangeInclusive;
 
-use crate::call::{Call, ADDRESS_OCTETS, QUERY};
+use crate::call::{Call, ADDRESS_OCTETS};
 use crate::comparing::calls::{Profile, ORDINARY};
 use crate::comparing::compared::Step;
-use crate::comparing::firmware::{any_limit, edge_limit};
 use crate::comparing::fit::Octets;
 use crate::comparing::frames::{any_header, any_untagged, arrival, arrival_of};
 use crate::comparing::random::Random;
@@ -46,12 +45,8 @@ pub enum Service {
 #[derive(Clone)]
 pub struct Manner {
     pub links: RangeInclusive<u32>,
-    /// The K of the Open; its F is any that is not above it.
-    pub delays: RangeInclusive<u32>,
     /// How many streams are reserved.
     pub streams: RangeInclusive<u32>,
-    /// How many of these in a hundred are reserved at once; the others later.
-    pub at_once: usize,
     /// How many streams in a hundred offer no more than P between ticks, and how many of these in a hundred begin at each tick to offer more.
     pub conforming: usize,
     pub ceasing: usize,
@@ -68,8 +63,6 @@ pub struct Manner {
     /// How often such a call is a best effort or a transmit, beside 10 for an arrival.
     pub best_effort: usize,
     pub transmit: usize,
-    /// How many best-effort frames in a hundred are of firmware.
-    pub firmware: usize,
     pub services: &'static [Service],
     pub ticks: RangeInclusive<u32>,
     /// How many reserved streams in a hundred are withdrawn in each stretch; what they leave free is most often granted again as soon as it can be.
@@ -100,8 +93,7 @@ struct Writer<'a> {
 /// Writes a list in a manner; before the first tick, where the link condition asks nothing, the link most often does not serve.
 pub fn write(random: &mut Random, play: Play, begin: &Octets, manner: &Manner) -> Vec<Event> {
     let link = random.between(manner.links.clone());
-    let delay = random.between(manner.delays.clone());
-    let mut writer = Writer::open(random, play, begin, [link, delay]);
+    let mut writer = Writer::open(random, play, begin, link);
     writer.plan(manner);
     for tick in 0..writer.random.between(manner.ticks.clone()) {
         let withheld = tick == 0 && writer.random.chance(75);
@@ -120,8 +112,7 @@ pub fn write(random: &mut Random, play: Play, begin: &Octets, manner: &Manner) -
 /// Writes a list of any calls; before a tick the link serves so many times in a hundred.
 pub fn write_any(random: &mut Random, play: Play, begin: &Octets, profile: &Profile, calls: usize, served: usize) -> Vec<Event> {
     let link = random.between(LINKS);
-    let delay = random.between(DELAYS);
-    let mut writer = Writer::open(random, play, begin, [link, delay]);
+    let mut writer = Writer::open(random, play, begin, link);
     for _ in 0..calls {
         match profile.step(writer.random, &writer.playing.octets().record) {
             Step::Call(call) => one_by_one(call).into_iter().for_each(|call| writer.any(call, served)),
@@ -133,10 +124,10 @@ pub fn write_any(random: &mut Random, play: Play, begin: &Octets, profile: &Prof
 }
 
 impl<'a> Writer<'a> {
-    /// Begins a list with an Open of this L and K, and any F.
-    fn open(random: &'a mut Random, play: Play, begin: &Octets, [link, delay]: [u32; 2]) -> Writer<'a> {
+    /// Begins a list with an Open.
+    fn open(random: &'a mut Random, play: Play, begin: &Octets, link: u32) -> Writer<'a> {
         let mut playing = Playing::new(play, begin);
-        playing.call(Call::Open { link, delay, firmware: any_limit(random, delay) });
+        playing.call(Call::Open { link, delay: random.between(DELAYS) });
         let (offered, conforming, was_granted) = ([0; STREAMS], [false; STREAMS], [false; STREAMS]);
         let (pressed, controlled) = (random.pick(&[100, 100, 75]), random.pick(&[0, 0, 30, 100]));
         Writer {
@@ -239,7 +230,7 @@ impl<'a> Writer<'a> {
             self.later.push((stream as u8, permitted));
         }
         for _ in 0..count {
-            if self.random.chance(manner.at_once) {
+            if self.random.chance(90) {
                 self.reserve_later();
             }
         }
@@ -329,7 +320,7 @@ impl<'a> Writer<'a> {
         for _ in 0..self.random.between(manner.turns.clone()) {
             match self.random.weighted(&[10, manner.best_effort, manner.transmit, 1, 1]) {
                 0 => self.offer_any(manner),
-                1 => self.best_effort(manner),
+                1 => self.best_effort(),
                 2 if self.may_send(service) => self.call(Call::Transmit),
                 3 => self.reserve_later(),
                 4 => self.refused_call(),
@@ -405,14 +396,11 @@ impl<'a> Writer<'a> {
         self.random.between(LEAST_CHARGE..=if exact { most.min(room - LEAST_CHARGE) } else { most })
     }
 
-    /// A best-effort frame of any caller, by its charge, any or near a limit of its caller, or by its octets.
-    fn best_effort(&mut self, manner: &Manner) {
-        let profile = Profile { firmware: manner.firmware, ..ORDINARY };
-        let (caller, any, tag) = (profile.any_caller(self.random), self.random.between(CHARGES), self.random.number());
-        let near = profile.any_best_effort(self.random, &self.playing.octets().record, caller);
-        let charge = self.random.pick(&[any, near]);
-        let framed = any_untagged(self.random).frame_of(self.random, caller, charge, tag);
-        let call = self.random.pick(&[Call::BestEffort { caller, charge, tag }, framed]);
+    /// A best-effort frame, by its charge or by its octets.
+    fn best_effort(&mut self) {
+        let (charge, tag) = (self.random.between(CHARGES), self.random.number());
+        let framed = any_untagged(self.random).frame(self.random, charge, tag);
+        let call = self.random.pick(&[Call::BestEffort { charge, tag }, framed]);
         self.call(call);
     }
 
@@ -423,10 +411,10 @@ impl<'a> Writer<'a> {
         let call = match self.random.below(8) {
             6 => any_read(self.random, false),
             7 => self.write_outside_control(),
-            0 => Call::Open { link: self.random.between(LINKS), delay: 1, firmware: edge_limit(self.random, 1) },
+            0 => Call::Open { link: self.random.between(LINKS), delay: 1 },
             4 => ORDINARY.bind(self.random, &self.playing.octets().record, true),
             5 => self.frame_outside(),
-            1 => Call::BestEffort { caller: QUERY, charge: number % LEAST_CHARGE, tag: number },
+            1 => Call::BestEffort { charge: number % LEAST_CHARGE, tag: number },
             2 if !reserved => Call::Arrive { stream, charge: LEAST_CHARGE, tag: number },
             _ => Call::Arrive { stream, charge: LARGEST_CHARGE + 1 + number % 100, tag: number },
         };
@@ -443,7 +431,7 @@ impl<'a> Writer<'a> {
     fn frame_outside(&mut self) -> Call {
         let header = any_header(self.random, &self.playing.octets().record);
         let length = self.random.pick(&[0, 59, 1_997]);
-        Call::Frame { caller: QUERY, octets: header.octets(self.random, length), tag: self.random.number() }
+        Call::Frame { octets: header.octets(self.random, length), tag: self.random.number() }
     }
 
     /// The charge of the frame that the next Transmit sends, if one waits in prior or current.

@@ -3,8 +3,7 @@
 use super::{is_draining, refuse, Record};
 use crate::call::{Reply, ADDRESS_OCTETS};
 use crate::layout::{entry, ADDRESS, BINDING_END, BOUND, OPEN, RESERVED, STREAM_ENTRY, VID};
-use crate::model::lookup::UNBOUND;
-use crate::model::port::{MARK_YES, STREAMS, VIDS};
+use crate::model::port::{BEST_EFFORT_STREAM, MARK_YES, STREAMS, VIDS};
 
 /// VID and address of a stream, as they stand in its entry.
 pub type Binding = [u8; BINDING_END - VID];
@@ -33,7 +32,7 @@ pub fn lookup(record: &Record, address: &[u8; ADDRESS_OCTETS], vid: u32) -> Repl
         Ok(vid) => found(record, &binding(address, vid)),
         Err(_) => (None, 0),
     };
-    Reply::granted(stream.map_or(UNBOUND, |stream| stream as u32), compared)
+    Reply::granted(stream.map_or(BEST_EFFORT_STREAM, |stream| stream as u32), compared)
 }
 
 /// VID and address as they stand in an entry.

@@ -1,8 +1,8 @@
 //! The quick calls as plain Rust in place, on the layout of the record and the memory: what the quick calls are held against on records of any
 //! content, and what the benchmark measures them beside. Written from their definition (`crates/port/specs/Quick.antt` and the steps below it), which
 //! is total: the queue in a role is (prior + role) modulo 4 for every prior, a ring's place is taken modulo 256 for every start, a place that
-//! is none of the three goes by the same sentences, a draining count of any size falls by one at a tick, W falls to no less than 0, and so do the firmware
-//! octets waiting and what L leaves beside R; of streams that are bound to one pair the first counts, reserved or not. What a call's reply does to the register block is
+//! is none of the three goes by the same sentences, a draining count of any size falls by one at a tick, W falls to no less than 0, and so does what
+//! L leaves beside R; of streams that are bound to one pair the first counts, reserved or not. What a call's reply does to the register block is
 //! written from document 02, "Register block" and "Counts per stream", and their reading; the lookup from "Compare the VLAN id first" and its reading.
 
 mod bindings;
@@ -11,9 +11,7 @@ mod registers;
 mod traffic;
 
 use crate::call::{Call, Given, Reply, ADDRESS_OCTETS};
-use crate::layout::{
-    self, entry, BOUND, DELAY, DRAINING, FIRMWARE, FIRMWARE_WAITS, LEFT, LINK, OPEN, PERMITTED, PLACE, PRIOR, RESERVED, WAITS,
-};
+use crate::layout::{self, entry, BOUND, DELAY, DRAINING, LEFT, LINK, OPEN, PERMITTED, PLACE, PRIOR, RESERVED, WAITS};
 use crate::model::octets::{MEMORY_OCTETS, PORT_OCTETS, RECORD_OCTETS};
 use crate::model::port::{BEST_EFFORT, CURRENT, DELAYS, DRAINING_TICKS, LEAST_PERMITTED, LINKS, MARK_NO, MARK_YES, NOT_DRAINING, STREAMS};
 use bindings::bind;
@@ -71,14 +69,14 @@ fn looked_up(port: &[u8], address: &[u8; ADDRESS_OCTETS], vid: u32) -> Result<Re
 #[inline(always)]
 fn on_port(call: &Given, record: &mut Record, memory: &mut Memory, block: &mut Block) -> Result<Reply, u8> {
     match *call {
-        Call::Open { link, delay, firmware } => open(record, link, delay, firmware),
+        Call::Open { link, delay } => open(record, link, delay),
         Call::Reserve { stream, permitted } => reserve(record, stream, permitted),
         Call::Arrive { stream, charge, tag } => arrive(record, memory, block, stream, charge, tag),
         Call::Tick => tick(record, memory),
         Call::Transmit => transmit(record, memory),
-        Call::BestEffort { caller, charge, tag } => best_effort(record, memory, caller, charge, tag),
+        Call::BestEffort { charge, tag } => best_effort(record, memory, charge, tag),
         Call::Bind { stream, address, vid } => bind(record, stream, address, vid),
-        Call::Frame { caller, octets, tag } => frame(record, memory, block, caller, octets, tag),
+        Call::Frame { octets, tag } => frame(record, memory, block, octets, tag),
         Call::Withdraw { stream } => withdraw(record, stream),
         Call::ReadRegister { .. } | Call::WriteRegister { .. } => unreachable!("an access to a register is played beside the record"),
         Call::Lookup { .. } | Call::StreamCounts { .. } => unreachable!("it is played without memory"),
@@ -94,19 +92,16 @@ fn refuse(number: u8, refused: bool) -> Result<(), u8> {
     Ok(())
 }
 
-/// Open(L, K, F): 2, 3, 4, 27, then the step.
-fn open(record: &mut Record, link: u32, delay: u32, firmware: u32) -> Result<Reply, u8> {
+/// Open(L, K): 2, 3, 4, then the step.
+fn open(record: &mut Record, link: u32, delay: u32) -> Result<Reply, u8> {
     refuse(2, record[OPEN] == MARK_YES)?;
     refuse(3, !LINKS.contains(&link))?;
     refuse(4, !DELAYS.contains(&delay))?;
-    refuse(27, firmware > delay)?;
     record[OPEN] = MARK_YES;
     record[PRIOR] = 0;
     record[DELAY] = delay as u8;
-    record[FIRMWARE] = firmware as u8;
     put_two(record, LINK, link as u16);
     put_four(record, WAITS, 0);
-    put_four(record, FIRMWARE_WAITS, 0);
     record[layout::start(0)..layout::start(BEST_EFFORT + 1)].fill(0);
     for at in (0..STREAMS).map(entry) {
         free(record, at);

@@ -6,10 +6,10 @@ use super::bindings::{found, Binding};
 use super::fields::{four, frame_at, permitted_sum, put_four, put_two, ring, role, two};
 use super::registers::{arrived, Block};
 use super::{free, is_draining, refuse, Memory, Record};
-use crate::call::{Reply, FIRMWARE, QUERY};
-use crate::layout::{self, entry, DELAY, DRAINING, FIRMWARE_WAITS, LEFT, LINK, OPEN, PERMITTED, PLACE, PRIOR, RESERVED, WAITS};
+use crate::call::Reply;
+use crate::layout::{self, entry, DELAY, DRAINING, LEFT, LINK, OPEN, PERMITTED, PLACE, PRIOR, RESERVED, WAITS};
 use crate::model::frame::{self, FRAME_LENGTHS};
-use crate::model::port::{BEST_EFFORT, CHARGES, CURRENT, LAST, MARK_YES, NOTHING, NOT_DRAINING, QUEUE_PLACES, STREAMS};
+use crate::model::port::{BEST_EFFORT, BEST_EFFORT_STREAM, CHARGES, CURRENT, LAST, MARK_YES, NOTHING, NOT_DRAINING, QUEUE_PLACES, STREAMS};
 
 /// Arrive(s, a, tag), with what its reply does to the counts of its stream.
 #[inline(always)]
@@ -109,20 +109,10 @@ pub fn transmit(record: &mut Record, memory: &mut Memory) -> Result<Reply, u8> {
     if count == 0 {
         return Ok(Reply::granted(NOTHING, 0));
     }
-    let frame = frame_at(BEST_EFFORT, start, 0);
-    let charge = two(memory, frame + layout::FRAME_CHARGE);
-    lower(record, WAITS, charge);
-    if two(memory, frame + layout::FRAME_STREAM) == FIRMWARE as u16 {
-        lower(record, FIRMWARE_WAITS, charge);
-    }
+    let charge = two(memory, frame_at(BEST_EFFORT, start, 0) + layout::FRAME_CHARGE);
+    let waits = four(record, WAITS).saturating_sub(charge as u32);
+    put_four(record, WAITS, waits);
     Ok(sent(record, memory, BEST_EFFORT))
-}
-
-/// Lowers a sum of the record by a charge, to no less than 0.
-#[inline(always)]
-fn lower(record: &mut Record, at: usize, charge: u16) {
-    let lowered = four(record, at).saturating_sub(charge as u32);
-    put_four(record, at, lowered);
 }
 
 /// Sends the oldest frame of a queue: its stream and tag.
@@ -136,29 +126,23 @@ fn sent(record: &mut Record, memory: &Memory, queue: usize) -> Reply {
     Reply::granted(stream as u32, tag)
 }
 
-/// Best effort(a, tag) of a caller: 1, 13, 15, 16, of firmware 28, then the step.
+/// Best effort(a, tag): 1, 13, 15, 16, then the step.
 #[inline(always)]
-pub fn best_effort(record: &mut Record, memory: &mut Memory, caller: u8, charge: u32, tag: u32) -> Result<Reply, u8> {
+pub fn best_effort(record: &mut Record, memory: &mut Memory, charge: u32, tag: u32) -> Result<Reply, u8> {
     refuse(1, record[OPEN] != MARK_YES)?;
     refuse(13, !CHARGES.contains(&charge))?;
     refuse(15, ring(record, BEST_EFFORT).1 as usize >= QUEUE_PLACES)?;
     let waits = four(record, WAITS) as u64 + charge as u64;
-    let unreserved = (two(record, LINK) as u32).saturating_sub(permitted_sum(record)) as u64;
-    refuse(16, waits > record[DELAY] as u64 * unreserved)?;
-    let stream = if caller == FIRMWARE { FIRMWARE } else { QUERY };
-    if stream == FIRMWARE {
-        let firmware_waits = four(record, FIRMWARE_WAITS) as u64 + charge as u64;
-        refuse(28, firmware_waits > record[layout::FIRMWARE] as u64 * unreserved)?;
-        put_four(record, FIRMWARE_WAITS, firmware_waits as u32);
-    }
-    join(record, memory, BEST_EFFORT, (stream, charge as u16, tag))?;
+    let unreserved = (two(record, LINK) as u32).saturating_sub(permitted_sum(record));
+    refuse(16, waits > record[DELAY] as u64 * unreserved as u64)?;
+    join(record, memory, BEST_EFFORT, (BEST_EFFORT_STREAM as u8, charge as u16, tag))?;
     put_four(record, WAITS, waits as u32);
     Ok(Reply::granted(waits as u32, 0))
 }
 
-/// Frame(octets, tag) of a caller: 1, 17, then Arrive on the first stream that is bound to the frame's pair, or Best effort of that caller.
+/// Frame(octets, tag): 1, 17, then Arrive on the first stream that is bound to the frame's pair, or Best effort.
 #[inline(always)]
-pub fn frame(record: &mut Record, memory: &mut Memory, block: &mut Block, caller: u8, octets: &[u8], tag: u32) -> Result<Reply, u8> {
+pub fn frame(record: &mut Record, memory: &mut Memory, block: &mut Block, octets: &[u8], tag: u32) -> Result<Reply, u8> {
     refuse(1, record[OPEN] != MARK_YES)?;
     refuse(17, !FRAME_LENGTHS.contains(&octets.len()))?;
     let charge = frame::charge(octets);
@@ -167,7 +151,7 @@ pub fn frame(record: &mut Record, memory: &mut Memory, block: &mut Block, caller
     black_box(compared);
     match stream {
         Some(stream) => arrive(record, memory, block, stream as u8, charge, tag),
-        None => best_effort(record, memory, caller, charge, tag),
+        None => best_effort(record, memory, charge, tag),
     }
 }
 

@@ -1,9 +1,9 @@
-//! Capture files: document 01, "Capture file" and "Kinds", with kind 7 of document 02, "Withdraw a stream", and the stream octets of "Firmware loads
-//! beside queries", and the capture writer's refusals, 21 to 24, in their order.
+//! Capture files: document 01, "Capture file" and "Kinds", with kind 7 of document 02, "Withdraw a stream", and the capture writer's refusals, 21 to
+//! 24, in their order.
 
 use super::octets::{number, FOUR, TWO};
 use super::refusal;
-use crate::call::{Call, FIRMWARE, QUERY};
+use crate::call::Call;
 
 /// "16-octet records".
 pub const RECORD_OCTETS: usize = 16;
@@ -32,7 +32,7 @@ pub const ZEROS_AT: usize = 12;
 /// "four zero octets".
 const ZEROS: [u8; 4] = [0; 4];
 
-/// "1 open (A = L, B = K)": "Kind 1 has F in its stream octet."
+/// "1 open (A = L, B = K)".
 pub const OPEN: u8 = 1;
 /// "2 reserve (A = P)".
 pub const RESERVE: u8 = 2;
@@ -47,9 +47,9 @@ pub const TRANSMIT: u8 = 6;
 /// A withdrawal: "in captures it is kind 7, with any stream octet and A and B 0".
 pub const WITHDRAW: u8 = 7;
 
-/// "Kind 4 has stream octet 255 for query, 253 for firmware".
-pub const CALLERS: [u8; 2] = [QUERY, FIRMWARE];
-/// "The stream octet is any value in 2 and 3, 255 in 4, else 0": that of the kinds that have neither stream, caller nor F.
+/// "The stream octet is any value in 2 and 3, 255 in 4, else 0": that of best effort.
+pub const STREAM_OF_BEST_EFFORT: u8 = 255;
+/// The stream octet of the kinds that have no stream.
 pub const NO_STREAM: u8 = 0;
 
 /// A file that is refused: the number, and "the record index (0 for the whole file or the header)".
@@ -114,10 +114,10 @@ pub fn event(record: &[u8]) -> Option<Call> {
     let a = number(record, NUMBER_A_AT, FOUR);
     let b = number(record, NUMBER_B_AT, FOUR);
     match record[KIND_AT] {
-        OPEN => Some(Call::Open { link: a, delay: b, firmware: u32::from(stream) }),
+        OPEN if stream == NO_STREAM => Some(Call::Open { link: a, delay: b }),
         RESERVE if b == 0 => Some(Call::Reserve { stream, permitted: a }),
         ARRIVE => Some(Call::Arrive { stream, charge: a, tag: b }),
-        BEST_EFFORT if CALLERS.contains(&stream) => Some(Call::BestEffort { caller: stream, charge: a, tag: b }),
+        BEST_EFFORT if stream == STREAM_OF_BEST_EFFORT => Some(Call::BestEffort { charge: a, tag: b }),
         TICK if stream == NO_STREAM && a == 0 && b == 0 => Some(Call::Tick),
         TRANSMIT if stream == NO_STREAM && a == 0 && b == 0 => Some(Call::Transmit),
         WITHDRAW if a == 0 && b == 0 => Some(Call::Withdraw { stream }),

@@ -1,16 +1,15 @@
 //! What a lent memory and a port record must be before any rule runs: refusals 18 and 19 of document 01, the latter with a clause
-//! of document 02, "Withdraw a stream", those of "Firmware loads beside queries", and the ranges of "Envelope frames". The register block has no
-//! clause in 19.
+//! of document 02, "Withdraw a stream", and the ranges of "Envelope frames". The register block has no clause in 19.
 
 use std::collections::VecDeque;
 
 use super::octets::{self, MEMORY_OCTETS, PORT_OCTETS};
 use super::port::{
-    is_best_effort, permitted_sum, share, Frame, Stream, BEST_EFFORT, CHARGES, CURRENT, DELAYS, DRAINING_TICKS, FIRMWARE_STREAM, LAST,
-    LEAST_PERMITTED, LINKS, MARK_YES, NEXT, QUEUES, QUEUE_PLACES, RESERVED_QUEUES, STREAMS, VIDS,
+    permitted_sum, share, Frame, Stream, BEST_EFFORT, BEST_EFFORT_STREAM, CHARGES, CURRENT, DELAYS, DRAINING_TICKS, LAST, LEAST_PERMITTED,
+    LINKS, MARK_YES, NEXT, QUEUES, QUEUE_PLACES, RESERVED_QUEUES, STREAMS, VIDS,
 };
 
-/// The clauses of 19, in document 01's order, each of document 02 beside the one that it is like.
+/// The clauses of 19, in document 01's order, that of document 02 beside the others on reserved streams.
 #[derive(Clone, Copy, Debug, PartialEq, Eq)]
 pub enum Clause {
     /// The lent port is too short to hold a record and a register block.
@@ -35,20 +34,16 @@ pub enum Clause {
     BindingVid,
     /// "a waiting frame's stream above 63".
     WaitingStream,
-    /// "(best effort: not 255)", nor 253: "24 follows, and 19".
+    /// "(best effort: not 255)".
     WaitingBestEffortStream,
     /// "or charge outside 84 to 2,020".
     WaitingCharge,
     /// "W not the sum of the charges waiting in best effort".
     Waits,
-    /// "19, which also tests" "the sum of firmware octets": like W, on closed ports too.
-    FirmwareWaits,
     /// "or, on an open port only, L" outside its range.
     Link,
     /// On an open port only, K outside its range.
     Delay,
-    /// "19, which also tests F (where it tests K)": on an open port only, "never above K".
-    Firmware,
     /// On an open port only, "a P outside its range".
     Permitted,
     /// On an open port only, "a P sum above the share".
@@ -70,10 +65,8 @@ const CLAUSES: &[Clause] = &[
     Clause::WaitingBestEffortStream,
     Clause::WaitingCharge,
     Clause::Waits,
-    Clause::FirmwareWaits,
     Clause::Link,
     Clause::Delay,
-    Clause::Firmware,
     Clause::Permitted,
     Clause::PermittedSum,
 ];
@@ -108,10 +101,8 @@ fn breaks(clause: Clause, record: &[u8], memory: &[u8]) -> bool {
         Clause::WaitingBestEffortStream => waiting_best_effort_stream(record, memory),
         Clause::WaitingCharge => waiting_charge(record, memory),
         Clause::Waits => waits_is_not_the_sum(record, memory),
-        Clause::FirmwareWaits => firmware_waits_is_not_the_sum(record, memory),
         Clause::Link => is_open(record) && !LINKS.contains(&octets::link(record)),
         Clause::Delay => is_open(record) && !DELAYS.contains(&octets::delay(record)),
-        Clause::Firmware => is_open(record) && octets::firmware(record) > octets::delay(record),
         Clause::Permitted => is_open(record) && reserved(record).iter().any(|stream| stream.permitted < LEAST_PERMITTED),
         Clause::PermittedSum => is_open(record) && permitted_sum_above_share(record),
     }
@@ -164,10 +155,10 @@ fn waiting_stream(record: &[u8], memory: &[u8]) -> bool {
     frames.any(|frame| frame.stream as usize >= STREAMS)
 }
 
-/// "(best effort: not 255)", nor 253: the caller's octet, which "the frame keeps" "as its stream".
+/// "(best effort: not 255)".
 fn waiting_best_effort_stream(record: &[u8], memory: &[u8]) -> bool {
     let frames = waiting(record, memory, BEST_EFFORT).unwrap_or_default();
-    frames.iter().any(|frame| !is_best_effort(frame.stream))
+    frames.iter().any(|frame| frame.stream != BEST_EFFORT_STREAM)
 }
 
 /// "or charge outside 84 to 2,020", in all five queues.
@@ -182,13 +173,6 @@ fn waits_is_not_the_sum(record: &[u8], memory: &[u8]) -> bool {
         Some(frames) => frames.iter().map(|frame| u64::from(frame.charge)).sum::<u64>() != u64::from(octets::waits(record)),
         None => false,
     }
-}
-
-/// "the sum of firmware octets" not that of the charges of the firmware frames that wait in best effort.
-fn firmware_waits_is_not_the_sum(record: &[u8], memory: &[u8]) -> bool {
-    let Some(frames) = waiting(record, memory, BEST_EFFORT) else { return false };
-    let firmware = frames.iter().filter(|frame| frame.stream == FIRMWARE_STREAM);
-    firmware.map(|frame| u64::from(frame.charge)).sum::<u64>() != u64::from(octets::firmware_waits(record))
 }
 
 /// "a P sum above the share"; an L outside its range has no share to judge by.

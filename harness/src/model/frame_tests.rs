@@ -2,7 +2,7 @@
 
 use super::frame::{charge, pair, Pair};
 use super::tests::{Lent, ENTRY, STREAM};
-use crate::call::{Call, QUERY};
+use crate::call::Call;
 
 /// An address, and another that differs in its last octet.
 pub const ADDRESS: [u8; 6] = [1, 2, 3, 4, 5, 6];
@@ -18,7 +18,7 @@ impl Lent {
 
     /// Plays a Frame of a length to the first address, with these octets 12 to 15.
     pub fn frame(&mut self, protocol: [u8; 2], control: [u8; 2], length: usize) -> (u8, u32, u32) {
-        self.play(Call::Frame { caller: QUERY, octets: octets(protocol, control, length).into(), tag: 0x0102_0304 })
+        self.play(Call::Frame { octets: octets(protocol, control, length).into(), tag: 0x0102_0304 })
     }
 
     /// Plays a tagged Frame.

@@ -5,9 +5,6 @@ use super::frame::Pair;
 use super::port::Stream;
 use crate::call::ADDRESS_OCTETS;
 
-/// What a lookup replies in the place of a stream where a frame of the pair is best effort.
-pub const UNBOUND: u32 = 255;
-
 /// What a lookup gives: "Beside the stream, the lookup gives exactly the number of address octets so compared."
 #[derive(Clone, Copy, Debug, PartialEq, Eq)]
 pub struct Found {

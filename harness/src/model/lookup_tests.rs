@@ -2,7 +2,7 @@
 //! reading, on ports that are fit and on others.
 
 use super::tests::{Lent, STREAM};
-use crate::call::{Call, QUERY};
+use crate::call::Call;
 
 /// The addresses of the reading, "Two bindings ending 66 and 67".
 const ENDING_66: [u8; 6] = [2, 0, 0x5e, 0x10, 0x20, 66];
@@ -176,6 +176,6 @@ fn callers_get_the_stream() {
     assert_eq!(lent.clone().bind(STREAM + 2, apart_in(0), VID), (0, 0, 0));
     let mut octets = [&ENDING_67[..], &[0; 6], &[0x81, 0x00, 0x00, VID as u8]].concat();
     octets.resize(60, 0);
-    assert_eq!(lent.play(Call::Frame { caller: QUERY, octets: octets.into(), tag: 3 }), (0, 1, 116));
+    assert_eq!(lent.play(Call::Frame { octets: octets.into(), tag: 3 }), (0, 1, 116));
     assert_eq!(lent.transmit(), (0, 6, 3));
 }

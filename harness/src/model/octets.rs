@@ -21,14 +21,10 @@ const OPEN_AT: usize = 0;
 const PRIOR_AT: usize = 1;
 /// Where K stands in the record, one octet.
 const DELAY_AT: usize = 2;
-/// Where F stands in the record, one octet.
-const FIRMWARE_AT: usize = 3;
 /// Where L stands in the record, two octets.
 const LINK_AT: usize = 6;
 /// Where W stands in the record, four octets.
 const WAITS_AT: usize = 8;
-/// Where the sum of the firmware octets that wait stands in the record, four octets.
-const FIRMWARE_WAITS_AT: usize = 12;
 
 /// Where the entry of queue 0 stands in the record.
 const QUEUE_ENTRIES_AT: usize = 16;
@@ -138,11 +134,6 @@ pub fn delay(record: &[u8]) -> u32 {
     u32::from(record[DELAY_AT])
 }
 
-/// F in the record.
-pub fn firmware(record: &[u8]) -> u32 {
-    u32::from(record[FIRMWARE_AT])
-}
-
 /// L in the record.
 pub fn link(record: &[u8]) -> u32 {
     number(record, LINK_AT, TWO)
@@ -151,11 +142,6 @@ pub fn link(record: &[u8]) -> u32 {
 /// W in the record.
 pub fn waits(record: &[u8]) -> u32 {
     number(record, WAITS_AT, FOUR)
-}
-
-/// The sum of the firmware octets that wait, in the record.
-pub fn firmware_waits(record: &[u8]) -> u32 {
-    number(record, FIRMWARE_WAITS_AT, FOUR)
 }
 
 /// The start of a queue in the record.
@@ -264,10 +250,8 @@ pub fn read(record: &[u8], memory: &[u8]) -> Port {
         open: open(record),
         prior: prior(record),
         delay: delay(record),
-        firmware: firmware(record),
         link: link(record),
         waits: waits(record),
-        firmware_waits: firmware_waits(record),
         queues: (0..QUEUES).map(queue).collect(),
         streams: streams(record),
         registers: registers(record),
@@ -279,10 +263,8 @@ pub fn write(port: &Port, record: &mut [u8], memory: &mut [u8]) {
     record[OPEN_AT] = port.open;
     record[PRIOR_AT] = port.prior as u8;
     record[DELAY_AT] = port.delay as u8;
-    record[FIRMWARE_AT] = port.firmware as u8;
     put_number(record, LINK_AT, TWO, port.link);
     put_number(record, WAITS_AT, FOUR, port.waits);
-    put_number(record, FIRMWARE_WAITS_AT, FOUR, port.firmware_waits);
     for (number, queue) in port.queues.iter().enumerate() {
         put_number(record, queue_entry(number) + START_IN_ENTRY, TWO, queue.start as u32);
         put_number(record, queue_entry(number) + COUNT_IN_ENTRY, TWO, queue.frames.len() as u32);

@@ -1,12 +1,11 @@
 //! The state of a port in plain form: document 01, "State of a port", with the draining of document 02, "Withdraw a stream", and the registers of
-//! "Register block" and "Counts per stream" and the limit of "Firmware loads beside queries", and its numbers, each named once, the largest charge
-//! that of "Envelope frames".
+//! "Register block" and "Counts per stream", and its numbers, each named once, the largest charge that of "Envelope frames".
 
 use std::collections::VecDeque;
 use std::ops::RangeInclusive;
 
 use super::registers::Registers;
-use crate::call::{ADDRESS_OCTETS, FIRMWARE, QUERY};
+use crate::call::ADDRESS_OCTETS;
 
 /// "Queues prior, current, next, last and best effort": five.
 pub const QUEUES: usize = 5;
@@ -23,10 +22,8 @@ pub const QUEUE_PLACES: usize = 256;
 /// "Streams 0 to 63."
 pub const STREAMS: usize = 64;
 
-/// "A frame is (stream, charge, tag), its stream 255 in best effort", where a query brought it.
-pub const QUERY_STREAM: u32 = QUERY as u32;
-/// "253 for firmware, the frame keeps it as its stream".
-pub const FIRMWARE_STREAM: u32 = FIRMWARE as u32;
+/// "A frame is (stream, charge, tag), its stream 255 in best effort."
+pub const BEST_EFFORT_STREAM: u32 = 255;
 /// Transmit replies "254 nothing" in the place of a stream.
 pub const NOTHING: u32 = 254;
 
@@ -95,14 +92,10 @@ pub struct Port {
     pub prior: usize,
     /// K.
     pub delay: u32,
-    /// F, "a limit F in epochs, given at opening and never above K".
-    pub firmware: u32,
     /// L.
     pub link: u32,
     /// W, "the sum of charges waiting" in best effort.
     pub waits: u32,
-    /// "the sum of firmware octets": the "firmware octets waiting" in best effort.
-    pub firmware_waits: u32,
     /// Queues 0 to 4, by their number.
     pub queues: Vec<Queue>,
     /// Streams 0 to 63, by their number.
@@ -189,10 +182,8 @@ impl Port {
             open: MARK_NO,
             prior: 0,
             delay: 0,
-            firmware: 0,
             link: 0,
             waits: 0,
-            firmware_waits: 0,
             queues: vec![queue; QUEUES],
             streams: vec![stream; STREAMS],
             registers: Registers::ZERO,
@@ -208,19 +199,6 @@ impl Port {
     pub fn queue_at(&self, place: u8) -> usize {
         (self.prior + usize::from(place)) % RESERVED_QUEUES
     }
-}
-
-/// The stream that a best-effort frame keeps of its caller: 253 is firmware, any other caller is query.
-pub fn kept_stream(caller: u8) -> u32 {
-    match caller {
-        FIRMWARE => FIRMWARE_STREAM,
-        _ => QUERY_STREAM,
-    }
-}
-
-/// Whether the stream of a frame is one that a best-effort frame keeps of its caller.
-pub fn is_best_effort(stream: u32) -> bool {
-    [QUERY_STREAM, FIRMWARE_STREAM].contains(&stream)
 }
 
 /// "the share is L − 2,020", for an L in its range.

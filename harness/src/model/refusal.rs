@@ -53,13 +53,9 @@ pub const CAPTURE_RECORD: u8 = 24;
 pub const DRAINING: u8 = 25;
 /// 26, "an offset that is no multiple of 4 or is above 60".
 pub const REGISTER_OFFSET: u8 = 26;
-/// 27, "an F above K".
-pub const FIRMWARE_ABOVE: u8 = 27;
-/// 28, "a firmware frame over its own limit".
-pub const FIRMWARE_EXCEEDED: u8 = 28;
 
 /// What the documents say of each refusal, in the order of the numbers, with the ends of a range that they name elsewhere.
-const WORDS: [(u8, &str); 28] = [
+const WORDS: [(u8, &str); 26] = [
     (PORT_CLOSED, "port closed"),
     (OPEN_ALREADY, "open already"),
     (LINK_OUTSIDE, "L outside its range, 2,104 to 23,524"),
@@ -86,8 +82,6 @@ const WORDS: [(u8, &str); 28] = [
     (CAPTURE_RECORD, "kind, stream octet, unused number or zero octets"),
     (DRAINING, "stream draining"),
     (REGISTER_OFFSET, "register offset that is no multiple of 4 or is above 60"),
-    (FIRMWARE_ABOVE, "F above K"),
-    (FIRMWARE_EXCEEDED, "firmware octets waiting + charge above F × (L − R)"),
 ];
 
 /// What the documents say of a refusal; of a number that is none, nothing.

@@ -4,7 +4,7 @@
 
 use super::frame_tests::ADDRESS;
 use super::tests::{Lent, BLOCK, COUNTS, ENTRY, STREAM};
-use crate::call::{Call, QUERY};
+use crate::call::Call;
 
 /// The offsets of the registers.
 const CONTROL: u32 = 0;
@@ -212,7 +212,7 @@ fn other_refusals_set_nothing() {
     lent.put(ENTRY + 20, 84);
     let before = lent.clone();
     let refused = [
-        (Call::Open { link: 2_620, delay: 1, firmware: 0 }, 2),
+        (Call::Open { link: 2_620, delay: 1 }, 2),
         (Call::Reserve { stream: 64, permitted: 84 }, 5),
         (Call::Reserve { stream: 6, permitted: 84 }, 25),
         (Call::Reserve { stream: STREAM, permitted: 84 }, 6),
@@ -222,10 +222,10 @@ fn other_refusals_set_nothing() {
         (Call::Arrive { stream: STREAM, charge: 83, tag: 0 }, 13),
         (Call::Arrive { stream: STREAM, charge: 84, tag: 0 }, 20),
         (Call::Arrive { stream: 6, charge: 84, tag: 0 }, 25),
-        (Call::BestEffort { caller: QUERY, charge: 83, tag: 0 }, 13),
-        (Call::BestEffort { caller: QUERY, charge: 84, tag: 0 }, 15),
-        (Call::Frame { caller: QUERY, octets: [0; 59].to_vec().into(), tag: 0 }, 17),
-        (Call::Frame { caller: QUERY, octets: [0; 60].to_vec().into(), tag: 0 }, 15),
+        (Call::BestEffort { charge: 83, tag: 0 }, 13),
+        (Call::BestEffort { charge: 84, tag: 0 }, 15),
+        (Call::Frame { octets: [0; 59].to_vec().into(), tag: 0 }, 17),
+        (Call::Frame { octets: [0; 60].to_vec().into(), tag: 0 }, 15),
         (Call::Bind { stream: STREAM, address: [0; 6], vid: 0 }, 9),
         (Call::Withdraw { stream: 7 }, 12),
         (Call::ReadRegister { offset: 2 }, 26),

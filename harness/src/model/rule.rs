@@ -1,10 +1,10 @@
-//! The steps of document 01, with Withdraw and the two callers of best effort of document 02, on a port that is fit: each call's checks in their order,
-//! then its rule in the documents' words, then what its reply does to the registers.
+//! The steps of document 01, and Withdraw of document 02, on a port that is fit: each call's checks in their order, then its rule in the documents'
+//! words, then what its reply does to the registers.
 
 use super::frame::{self, Pair, FRAME_LENGTHS};
 use super::lookup::lookup;
 use super::port::{
-    kept_stream, permitted_sum, share, Frame, Port, Stream, BEST_EFFORT, CHARGES, CURRENT, DELAYS, DRAINING_TICKS, FIRMWARE_STREAM, LAST,
+    permitted_sum, share, Frame, Port, Stream, BEST_EFFORT, BEST_EFFORT_STREAM, CHARGES, CURRENT, DELAYS, DRAINING_TICKS, LAST,
     LEAST_PERMITTED, LINKS, MARK_NO, MARK_YES, NEXT, NOTHING, NOT_DRAINING, QUEUE_PLACES, RESERVED_QUEUES, STREAMS, VIDS,
 };
 use super::refusal;
@@ -22,14 +22,14 @@ pub fn step(call: &Given, port: &mut Port) -> Reply {
 /// What a call does to all of the port but its registers; an access to a register does there what it does.
 fn on_record(call: &Given, port: &mut Port) -> Reply {
     match *call {
-        Call::Open { link, delay, firmware } => open(port, link, delay, firmware),
+        Call::Open { link, delay } => open(port, link, delay),
         Call::Reserve { stream, permitted } => reserve(port, usize::from(stream), permitted),
         Call::Arrive { stream, charge, tag } => arrive(port, usize::from(stream), charge, tag),
         Call::Tick => tick(port),
         Call::Transmit => transmit(port),
-        Call::BestEffort { caller, charge, tag } => best_effort(port, caller, charge, tag),
+        Call::BestEffort { charge, tag } => best_effort(port, charge, tag),
         Call::Bind { stream, address, vid } => bind(port, usize::from(stream), *address, vid),
-        Call::Frame { caller, octets, tag } => frame(port, caller, octets, tag),
+        Call::Frame { octets, tag } => frame(port, octets, tag),
         Call::Withdraw { stream } => withdraw(port, usize::from(stream)),
         Call::ReadRegister { offset } => port.registers.read(offset, port.is_open()),
         Call::WriteRegister { offset: CONTROL, value } => control(port, value),
@@ -51,9 +51,8 @@ fn control(port: &mut Port, value: u32) -> Reply {
     reply
 }
 
-/// "Open(L, K) empties all queues, drops all reservations and bindings and sets W to 0"; it "ends all draining", and replies the share. "Firmware has a
-/// limit F in epochs, given at opening and never above K", "27 an F above K, after 4".
-fn open(port: &mut Port, link: u32, delay: u32, firmware: u32) -> Reply {
+/// "Open(L, K) empties all queues, drops all reservations and bindings and sets W to 0"; it "ends all draining", and replies the share.
+fn open(port: &mut Port, link: u32, delay: u32) -> Reply {
     if port.is_open() {
         return Reply::refused(refusal::OPEN_ALREADY);
     }
@@ -63,16 +62,11 @@ fn open(port: &mut Port, link: u32, delay: u32, firmware: u32) -> Reply {
     if !DELAYS.contains(&delay) {
         return Reply::refused(refusal::DELAY_OUTSIDE);
     }
-    if firmware > delay {
-        return Reply::refused(refusal::FIRMWARE_ABOVE);
-    }
     port.open = MARK_YES;
     port.prior = 0;
     port.link = link;
     port.delay = delay;
-    port.firmware = firmware;
     port.waits = 0;
-    port.firmware_waits = 0;
     for queue in &mut port.queues {
         queue.empty();
     }
@@ -202,9 +196,6 @@ fn transmit(port: &mut Port) -> Reply {
         if let Some(frame) = port.queues[queue].send() {
             if queue == BEST_EFFORT {
                 port.waits -= frame.charge;
-                if frame.stream == FIRMWARE_STREAM {
-                    port.firmware_waits -= frame.charge;
-                }
             }
             return Reply::granted(frame.stream, frame.tag);
         }
@@ -212,9 +203,8 @@ fn transmit(port: &mut Port) -> Reply {
     Reply::granted(NOTHING, 0)
 }
 
-/// "Best effort(a, tag)": "The frame is accepted if W + a ≤ K × (L − R)", and joins best effort; the reply is W after. "A firmware frame must fit both
-/// the old limit on W and its own", which is asked "after 16".
-fn best_effort(port: &mut Port, caller: u8, charge: u32, tag: u32) -> Reply {
+/// "Best effort(a, tag)": "The frame is accepted if W + a ≤ K × (L − R)", and joins best effort; the reply is W after.
+fn best_effort(port: &mut Port, charge: u32, tag: u32) -> Reply {
     if !port.is_open() {
         return Reply::refused(refusal::PORT_CLOSED);
     }
@@ -231,17 +221,7 @@ fn best_effort(port: &mut Port, caller: u8, charge: u32, tag: u32) -> Reply {
     if u64::from(waits) > limit {
         return Reply::refused(refusal::BEST_EFFORT_EXCEEDED);
     }
-    let stream = kept_stream(caller);
-    if stream == FIRMWARE_STREAM {
-        // "firmware octets waiting plus a at most F × (L − R)"
-        let firmware_waits = port.firmware_waits + charge;
-        if u64::from(firmware_waits) > u64::from(port.firmware) * unreserved {
-            return Reply::refused(refusal::FIRMWARE_EXCEEDED);
-        }
-        port.firmware_waits = firmware_waits;
-    }
-    // "the frame keeps it as its stream"
-    port.queues[BEST_EFFORT].join(Frame { stream, charge, tag });
+    port.queues[BEST_EFFORT].join(Frame { stream: BEST_EFFORT_STREAM, charge, tag });
     port.waits = waits;
     Reply::granted(waits, 0)
 }
@@ -300,24 +280,23 @@ fn bound_to(port: &Port, pair: &Pair) -> Option<usize> {
 }
 
 /// "Frame(octets, tag)": "A bound pair is an Arrive on its stream; all else is best effort." A stream's own calls are "frames bound to it too", so the
-/// registers follow the call that it becomes. "The caller is named with each best-effort frame and each Frame call."
-fn frame(port: &mut Port, caller: u8, octets: &[u8], tag: u32) -> Reply {
+/// registers follow the call that it becomes.
+fn frame(port: &mut Port, octets: &[u8], tag: u32) -> Reply {
     if !port.is_open() {
         return Reply::refused(refusal::PORT_CLOSED);
     }
     if !FRAME_LENGTHS.contains(&octets.len()) {
         return Reply::refused(refusal::FRAME_LENGTH);
     }
-    step(&becomes(port, caller, octets, tag).given(), port)
+    step(&becomes(port, octets, tag).given(), port)
 }
 
-/// What a frame whose length is in its range becomes: "A bound pair is an Arrive on its stream; all else is best effort",
-/// of the caller that the frame names. A frame whose pair is bound is an Arrive whatever its caller.
-pub fn becomes(port: &Port, caller: u8, octets: &[u8], tag: u32) -> Call {
+/// What a frame whose length is in its range becomes: "A bound pair is an Arrive on its stream; all else is best effort."
+pub fn becomes(port: &Port, octets: &[u8], tag: u32) -> Call {
     let charge = frame::charge(octets);
     let bound = frame::pair(octets).and_then(|pair| bound_to(port, &pair));
     match bound {
         Some(number) => Call::Arrive { stream: number as u8, charge, tag },
-        None => Call::BestEffort { caller, charge, tag },
+        None => Call::BestEffort { charge, tag },
     }
 }

@@ -5,7 +5,7 @@
 
 use super::fitness::{unfit, Clause};
 use super::*;
-use crate::call::{Call, QUERY};
+use crate::call::Call;
 
 /// The octets of a lent port in these tests: a record and a register block.
 const PORT: usize = 1_616;
@@ -49,7 +49,7 @@ impl Lent {
 
     /// Plays an Open.
     pub fn open(&mut self, link: u32, delay: u32) -> (u8, u32, u32) {
-        self.play(Call::Open { link, delay, firmware: 0 })
+        self.play(Call::Open { link, delay })
     }
 
     /// Plays a Reserve.
@@ -74,7 +74,7 @@ impl Lent {
 
     /// Plays a Best effort.
     pub fn best_effort(&mut self, charge: u32, tag: u32) -> (u8, u32, u32) {
-        self.play(Call::BestEffort { caller: QUERY, charge, tag })
+        self.play(Call::BestEffort { charge, tag })
     }
 
     /// Writes a 16-bit number into the record.
@@ -110,7 +110,7 @@ impl Lent {
     }
 
     /// Writes W.
-    pub fn put_waits(&mut self, waits: u32) {
+    fn put_waits(&mut self, waits: u32) {
         self.record[8..12].copy_from_slice(&waits.to_be_bytes());
     }
 
@@ -132,7 +132,7 @@ impl Lent {
     }
 
     /// W.
-    pub fn waits(&self) -> u32 {
+    fn waits(&self) -> u32 {
         u32::from_be_bytes([self.record[8], self.record[9], self.record[10], self.record[11]])
     }
 
@@ -494,14 +494,15 @@ fn best_effort_counts_reserved_streams_alone() {
 fn open_writes_what_its_rule_names() {
     let mut lent = Lent { record: vec![0xEE; PORT + 3], memory: vec![0xEE; MEMORY + 3] };
     lent.record[1] = 3;
-    lent.record[8..36].fill(0);
+    lent.record[8..12].fill(0);
+    lent.record[16..36].fill(0);
     lent.fill(2, 40);
     lent.record[ENTRY] = 1;
     lent.record[ENTRY + 6] = 4;
     lent.put_place(2, 0);
     let mut after = lent.clone();
     assert_eq!(lent.open(2_620, 16), (0, 600, 0));
-    after.record[0..4].copy_from_slice(&[1, 0, 16, 0]);
+    after.record[0..3].copy_from_slice(&[1, 0, 16]);
     after.put(6, 2_620);
     after.record[16..36].fill(0);
     for stream in 0..64 {
@@ -646,11 +647,11 @@ fn draw(seed: &mut u64) -> u32 {
 fn any_call(seed: &mut u64) -> Call {
     let stream = (draw(seed) % 3) as u8 * 63;
     match draw(seed) % 19 {
-        0 => Call::Open { link: 2_000 + draw(seed) % 22_000, delay: draw(seed) % 18, firmware: 0 },
+        0 => Call::Open { link: 2_000 + draw(seed) % 22_000, delay: draw(seed) % 18 },
         1 => Call::Reserve { stream, permitted: draw(seed) % 2_500 },
         2 => Call::Tick,
         3 => Call::Transmit,
-        4 | 5 => Call::BestEffort { caller: QUERY, charge: draw(seed) % 2_100, tag: draw(seed) },
+        4 | 5 => Call::BestEffort { charge: draw(seed) % 2_100, tag: draw(seed) },
         6 => Call::Bind { stream, address: [0; 6], vid: draw(seed) % 3 },
         7..=9 => any_frame(seed),
         10 => Call::Withdraw { stream },
@@ -666,7 +667,7 @@ fn any_frame(seed: &mut u64) -> Call {
     if let [_, _, _, _, _, _, _, _, _, _, _, _, tagged, _, _, vid, ..] = &mut octets[..] {
         (*tagged, *vid) = (0x81 * (draw(seed) % 2) as u8, 1 + (draw(seed) % 2) as u8);
     }
-    Call::Frame { caller: QUERY, octets: octets.into(), tag: draw(seed) }
+    Call::Frame { octets: octets.into(), tag: draw(seed) }
 }
 
 /// From opening, no call meets 18, 19 or 20, and a refusal other than 14 keeps all contents.

@@ -4,7 +4,7 @@
 use super::fitness::Clause;
 use super::replay::replay;
 use super::tests::{Lent, COUNTS, ENTRY, STREAM};
-use crate::call::{Call, QUERY};
+use crate::call::Call;
 
 /// A destination, and octets 12 to 15 of a frame with VID 7.
 const ADDRESS: [u8; 6] = [1, 2, 3, 4, 5, 6];
@@ -27,7 +27,7 @@ impl Lent {
     fn frame_of_pair(&mut self) -> (u8, u32, u32) {
         let mut octets = [&ADDRESS[..], &[0; 6], &TAGGED].concat();
         octets.resize(60, 0);
-        self.play(Call::Frame { caller: QUERY, octets: octets.into(), tag: 3 })
+        self.play(Call::Frame { octets: octets.into(), tag: 3 })
     }
 
     /// Plays so many Ticks, which purge nothing.
@@ -238,7 +238,7 @@ fn open_ends_all_draining() {
 }
 
 /// A capture of one port with these records in a chain, each as kind, stream, A and B.
-pub fn capture(records: &[(u8, u8, u32, u32)]) -> Vec<u8> {
+fn capture(records: &[(u8, u8, u32, u32)]) -> Vec<u8> {
     let mut octets = b"EPCH\x00\x01\x00\x00\x00\x00\x00\x00\x00\x00\x00\x00".to_vec();
     for (before, (kind, stream, a, b)) in records.iter().enumerate() {
         let next = if before + 1 == records.len() { 0 } else { before as u16 + 2 };

@@ -54,11 +54,10 @@ impl Link {
         self.ticks
     }
 
-    /// The call that a frame becomes, that of a caller where it is best effort, so many nanoseconds after the first packet and not before the last
-    /// call; it is handed on.
-    pub fn bring(&mut self, nanoseconds: u64, caller: u8, octets: &[u8], tag: u32) -> Result<Call, Full> {
+    /// The call that a frame becomes, so many nanoseconds after the first packet and not before the last call; it is handed on.
+    pub fn bring(&mut self, nanoseconds: u64, octets: &[u8], tag: u32) -> Result<Call, Full> {
         self.go_on(nanoseconds)?;
-        let call = rule::becomes(&self.port, caller, octets, tag);
+        let call = rule::becomes(&self.port, octets, tag);
         self.play(&call)?;
         self.due.get_or_insert(Parts::from(nanoseconds) * self.link);
         Ok(call)

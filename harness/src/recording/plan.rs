@@ -1,5 +1,5 @@
-//! Reads a plan: the text that gives the epoch's length, L, K and F, the reservations, the bindings, when streams are withdrawn, and which packets
-//! firmware brings. What Open, Reserve, Bind or Withdraw would refuse is told with its line and number.
+//! Reads a plan: the text that gives the epoch's length, L and K, the reservations, the bindings, and when streams are withdrawn. What Open, Reserve,
+//! Bind or Withdraw would refuse is told with its line and number.
 
 use crate::call::{Call, Reply, ADDRESS_OCTETS};
 use crate::capture::lines::{self, BadText};
@@ -7,11 +7,10 @@ use crate::capture::words::Words;
 use crate::capture::writing::event;
 use crate::model::port::Port;
 use crate::model::{refusal, rule};
-use crate::recording::callers::Callers;
 
 /// Begins the line with the epoch's length.
 const EPOCH: &str = "epoch";
-/// Begins the line with L, K and F, as in the text form of captures.
+/// Begins the line with L and K, as in the text form of captures.
 const OPEN: &str = "open";
 /// Begins the line of a reservation, as in the text form of captures.
 const RESERVE: &str = "reserve";
@@ -19,10 +18,6 @@ const RESERVE: &str = "reserve";
 const BIND: &str = "bind";
 /// Begins the line of a withdrawal.
 const WITHDRAW: &str = "withdraw";
-/// Begins the line that says of some packets that firmware brings them.
-const FIRMWARE: &str = "firmware";
-/// Stands before the VID of such packets.
-const VID: &str = "vid";
 /// Stands between the octets of an address.
 const BETWEEN_OCTETS: char = ':';
 /// The base of an octet's digits, and how many it has.
@@ -40,8 +35,6 @@ pub struct Plan {
     pub port: Port,
     /// The withdrawals, by their times.
     pub withdrawals: Vec<Withdrawal>,
-    /// Which packets firmware brings.
-    pub callers: Callers,
 }
 
 /// That a stream is withdrawn, so many nanoseconds after the first packet.
@@ -57,13 +50,11 @@ struct Reading {
     calls: Vec<Call>,
     port: Port,
     withdrawals: Vec<Withdrawal>,
-    callers: Callers,
 }
 
 /// The plan of a text.
 pub fn read(text: &[u8]) -> Result<Plan, BadText> {
-    let mut reading =
-        Reading { epoch: None, calls: Vec::new(), port: Port::closed(), withdrawals: Vec::new(), callers: Callers::default() };
+    let mut reading = Reading { epoch: None, calls: Vec::new(), port: Port::closed(), withdrawals: Vec::new() };
     let last = lines::each(text, |words| reading.line(words))?;
     reading.ended().map_err(|what| BadText { line: last.max(1), what })
 }
@@ -77,7 +68,6 @@ impl Reading {
             OPEN | RESERVE => self.call(event(word, words)?)?,
             BIND => self.bind(words)?,
             WITHDRAW => self.withdraw(words)?,
-            FIRMWARE => self.firmware(words)?,
             other => return Err(format!("'{other}' begins no line of a plan")),
         }
         words.end()?;
@@ -124,15 +114,6 @@ impl Reading {
         Ok(())
     }
 
-    /// Packets that firmware brings, by their destination address or their VID.
-    fn firmware(&mut self, words: &mut Words) -> Result<(), String> {
-        match words.word() {
-            None => Err(String::from("an address or a VID is missing")),
-            Some(VID) => self.callers.add_vid(words.number("a VID", u32::MAX)?),
-            Some(word) => self.callers.add_address(address(word)?),
-        }
-    }
-
     /// Plays a call, which fails where it is refused.
     fn granted(&mut self, call: &Call) -> Result<(), String> {
         granted(rule::step(&call.given(), &mut self.port))
@@ -143,7 +124,7 @@ impl Reading {
         let epoch = self.epoch.ok_or("no line before the end gives the epoch's length")?;
         self.withdrawals.sort_by_key(|withdrawal| withdrawal.time);
         match self.port.is_open() {
-            true => Ok(Plan { epoch, calls: self.calls, port: self.port, withdrawals: self.withdrawals, callers: self.callers }),
+            true => Ok(Plan { epoch, calls: self.calls, port: self.port, withdrawals: self.withdrawals }),
             false => Err(String::from("no line before the end opens the port")),
         }
     }

@@ -23,8 +23,6 @@ pub struct Report {
     pub packets: u64,
     pub arrivals: u64,
     pub best_effort: u64,
-    /// Those of best effort that firmware brought.
-    pub firmware: u64,
     /// Those that Frame would refuse with 17.
     pub refused: Packets,
     /// Those for which the capture has no room.
@@ -71,8 +69,7 @@ impl fmt::Display for Packets {
 /// A line for each thing of which there is something to tell, and one that sums up.
 impl fmt::Display for Report {
     fn fmt(&self, f: &mut fmt::Formatter<'_>) -> fmt::Result {
-        let Report { packets, arrivals, best_effort, firmware, refused, left_out, padded, earlier, waiting, not_withdrawn, epochs, events } =
-            self;
+        let Report { packets, arrivals, best_effort, refused, left_out, padded, earlier, waiting, not_withdrawn, epochs, events } = self;
         let told = [
             (format!("padded to {} octets", FRAME_LENGTHS.start()), padded),
             (format!("{}, and not in the capture", refusal::told(FRAME_LENGTH)), refused),
@@ -91,8 +88,7 @@ impl fmt::Display for Report {
             let named: Vec<String> = not_withdrawn.iter().map(|stream| format!("stream {stream}")).collect();
             writeln!(f, "{} not withdrawn, since the capture ends before: {}", not_withdrawn.len(), named.join(", "))?;
         }
-        let of_firmware = if *firmware > 0 { format!(" (firmware {firmware})") } else { String::new() };
-        write!(f, "packets {packets}: arrivals {arrivals}, best effort {best_effort}{of_firmware}, refused {}, ", refused.count)?;
+        write!(f, "packets {packets}: arrivals {arrivals}, best effort {best_effort}, refused {}, ", refused.count)?;
         write!(f, "left out {}; padded {}, epochs {epochs}, events {events}", left_out.count, padded.count)
     }
 }

@@ -3,10 +3,9 @@
 use std::collections::VecDeque;
 use std::io::Read;
 
-use crate::call::{Call, FIRMWARE};
+use crate::call::Call;
 use crate::capture::file;
 use crate::model::capture::PORTS;
-use crate::recording::callers::Callers;
 use crate::recording::frames::{frame, Frame};
 use crate::recording::link::{Full, Link};
 use crate::recording::pcap::{BadRecording, Packet, Recording};
@@ -18,8 +17,8 @@ const STARTS: [bool; PORTS] = [true, false, false, false];
 
 /// The capture of a recording under a plan, and what became of the packets.
 pub fn capture<R: Read>(plan: Plan, recording: Recording<R>) -> Result<(Vec<u8>, Report), BadRecording> {
-    let (withdrawals, callers) = (plan.withdrawals.clone().into(), plan.callers.clone());
-    let mut turning = Turning { link: Link::of(plan), withdrawals, callers, times: None, full: false, report: Report::default() };
+    let withdrawals = plan.withdrawals.clone().into();
+    let mut turning = Turning { link: Link::of(plan), withdrawals, times: None, full: false, report: Report::default() };
     for packet in recording {
         turning.packet(&packet?);
     }
@@ -31,8 +30,6 @@ struct Turning {
     link: Link,
     /// The withdrawals that are still to come, by their times.
     withdrawals: VecDeque<Withdrawal>,
-    /// Which packets firmware brings.
-    callers: Callers,
     /// The time of the first packet, when epoch 0 begins, and the latest so far.
     times: Option<(u64, u64)>,
     /// Whether an event had no room.
@@ -67,18 +64,14 @@ impl Turning {
 
     /// Brings the frame of a packet to the port at its time; the tag is the packet's number, its low 32 bits.
     fn frame(&mut self, number: u64, time: u64, frame: &Frame) {
-        let caller = self.callers.of(&frame.octets);
-        let brought = self.withdraw_up_to(time).and_then(|()| self.link.bring(time, caller, &frame.octets, number as u32));
+        let brought = self.withdraw_up_to(time).and_then(|()| self.link.bring(time, &frame.octets, number as u32));
         match brought {
             Err(Full) => {
                 self.full = true;
                 return self.report.left_out.add(number);
             }
             Ok(Call::Arrive { .. }) => self.report.arrivals += 1,
-            Ok(_) => {
-                self.report.best_effort += 1;
-                self.report.firmware += u64::from(caller == FIRMWARE);
-            }
+            Ok(_) => self.report.best_effort += 1,
         }
         if frame.padded {
             self.report.padded.add(number);

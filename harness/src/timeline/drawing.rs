@@ -4,7 +4,7 @@
 use std::ops::Range;
 
 use crate::call::{Call, Reply};
-use crate::model::port::NOTHING;
+use crate::model::port::{BEST_EFFORT_STREAM, NOTHING};
 use crate::timeline::bands::{Band, Scene};
 use crate::timeline::look::{BESIDE_BOX, BESIDE_EPOCH, CROSSED, FAINT, HEADING_LINE, NAME, NONE, NOTE, RED, REFUSAL, SHADE, TICK};
 use crate::timeline::svg::{Area, Letters, Point, Side, Svg, FOOT};
@@ -115,7 +115,8 @@ fn put_two_lines(svg: &mut Svg, area: Area, upper: (&str, Letters), lower: (&str
 
 /// What a box on the link says.
 pub fn sent_words(stream: u32, tag: u32) -> [String; 2] {
-    [words::sort(stream), format!("tag {tag}")]
+    let stream = if stream == BEST_EFFORT_STREAM { String::from(words::BEST_EFFORT) } else { format!("stream {stream}") };
+    [stream, format!("tag {tag}")]
 }
 
 /// What is refused, in a red box that is crossed out: the frame, if the call brings one, or the call, and the number.

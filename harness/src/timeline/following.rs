@@ -5,7 +5,7 @@
 use std::{array, mem};
 
 use crate::call::{Call, Reply};
-use crate::model::port::{kept_stream, Frame, BEST_EFFORT, CURRENT, LAST, NEXT, NOTHING, QUEUES, RESERVED_QUEUES};
+use crate::model::port::{Frame, BEST_EFFORT, BEST_EFFORT_STREAM, CURRENT, LAST, NEXT, NOTHING, QUEUES, RESERVED_QUEUES};
 
 /// The role prior, before current.
 const PRIOR: usize = CURRENT as usize - 1;
@@ -83,9 +83,7 @@ impl Following {
             Call::Arrive { stream, charge, tag } if reply.first < RESERVED_QUEUES as u32 => {
                 self.join(event, reply.first as usize, Frame { stream: u32::from(stream), charge, tag });
             }
-            Call::BestEffort { caller, charge, tag } => {
-                self.join(event, BEST_EFFORT, Frame { stream: kept_stream(caller), charge, tag });
-            }
+            Call::BestEffort { charge, tag } => self.join(event, BEST_EFFORT, Frame { stream: BEST_EFFORT_STREAM, charge, tag }),
             Call::Tick => self.tick(event),
             Call::Transmit if reply.first != NOTHING => self.send(event, reply.first, reply.second),
             _ => {}

@@ -1,31 +1,32 @@
 //! Draws the frames that wait: a box where a frame joins a queue, a pale bar while it waits there, a way over each tick to the box in the next row,
 //! a way up to the link where it is sent, and a cross where it is purged.
 
-use crate::model::port::{is_best_effort, Frame};
+use crate::model::port::{Frame, BEST_EFFORT_STREAM};
 use crate::timeline::bands::{Band, Scene};
 use crate::timeline::following::{Stay, Went};
-use crate::timeline::look::{edge, Palette, BAR, BESIDE_BOX, LABEL, RED};
+use crate::timeline::look::{Palette, BAR, BESIDE_BOX, LABEL, RED};
 use crate::timeline::svg::{Area, Point, Svg};
 use crate::timeline::words;
 
 /// What a frame's box says: stream and tag; of a best-effort frame the tag alone.
 pub fn label(frame: &Frame) -> String {
     match frame.stream {
-        stream if is_best_effort(stream) => frame.tag.to_string(),
+        BEST_EFFORT_STREAM => frame.tag.to_string(),
         stream => format!("{stream}: {}", frame.tag),
     }
 }
 
-/// How a frame's box looks: in the colours of its stream, of best effort in those of its caller, with a broken edge or, of firmware, a dotted one.
+/// How a frame's box looks: in the colours of its stream, of best effort with a broken edge.
 pub fn look(palette: &Palette, stream: u32) -> String {
     let colours = palette.of(stream);
-    format!("rx=\"3\" fill=\"{}\" stroke=\"{}\" stroke-width=\"1.4\"{}", colours.pale, colours.dark, edge(stream))
+    let edge = if stream == BEST_EFFORT_STREAM { " stroke-dasharray=\"4 2\"" } else { "" };
+    format!("rx=\"3\" fill=\"{}\" stroke=\"{}\" stroke-width=\"1.4\"{edge}", colours.pale, colours.dark)
 }
 
 /// What is told of a stay.
 fn told(stay: &Stay) -> String {
     let Stay { frame: Frame { stream, charge, tag }, role, since, to, .. } = *stay;
-    let sort = words::sort(stream);
+    let sort = if stream == BEST_EFFORT_STREAM { String::from(words::BEST_EFFORT) } else { format!("stream {stream}") };
     let went = match stay.went {
         Went::Sent => format!(", sent at event {to}"),
         Went::Moved => format!(", moved on by the tick at event {to}"),

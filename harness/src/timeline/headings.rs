@@ -1,7 +1,6 @@
 //! What stands above an event's column: what the call asks, and what of its reply the rows do not show.
 
 use crate::call::{Call, Reply};
-use crate::model::port::kept_stream;
 use crate::timeline::look::{NOTE, WARNING};
 use crate::timeline::svg::Letters;
 use crate::timeline::words;
@@ -16,11 +15,10 @@ pub fn lines(call: &Call, reply: &Reply) -> Vec<(String, Letters)> {
 /// A call's name, and its arguments as notes; stream and tag of a frame stand in its box.
 pub fn asked(call: &Call) -> (&'static str, Vec<String>) {
     match *call {
-        Call::Open { link, delay, firmware: 0 } => ("open", vec![format!("L {link}"), format!("K {delay}")]),
-        Call::Open { link, delay, firmware } => ("open", vec![format!("L {link}"), format!("K {delay}"), format!("F {firmware}")]),
+        Call::Open { link, delay } => ("open", vec![format!("L {link}"), format!("K {delay}")]),
         Call::Reserve { stream, permitted } => ("reserve", vec![format!("{stream}: P {permitted}")]),
         Call::Arrive { charge, .. } => ("arrive", vec![format!("charge {charge}")]),
-        Call::BestEffort { caller, charge, .. } => (words::best_effort_sort(kept_stream(caller)), vec![format!("charge {charge}")]),
+        Call::BestEffort { charge, .. } => (words::BEST_EFFORT, vec![format!("charge {charge}")]),
         Call::Tick => ("tick", vec![]),
         Call::Transmit => ("transmit", vec![]),
         Call::Withdraw { stream } => ("withdraw", vec![format!("stream {stream}")]),

@@ -3,7 +3,7 @@
 use std::collections::BTreeSet;
 
 use crate::call::{Call, Reply};
-use crate::model::port::{Frame, FIRMWARE_STREAM, QUERY_STREAM};
+use crate::model::port::{Frame, BEST_EFFORT_STREAM};
 use crate::model::refusal;
 use crate::timeline::draining::{self, Drain};
 use crate::timeline::drawing::put_crossed;
@@ -16,10 +16,9 @@ use crate::timeline::svg::{Area, Point, Side, Svg, FOOT};
 const MARK: i32 = 42;
 
 /// What the notes in the headings mean, in the order in which it is told.
-const NOTES: [&str; 7] = [
+const NOTES: [&str; 6] = [
     "L: link octets in an epoch",
     "K: best-effort delay bound in epochs",
-    "F: limit of firmware in epochs, 0 where an open does not name it",
     "P: permitted octets of the stream per epoch",
     "R: sum of the reserved streams' P",
     "left: octets still free at the stream's place after the arrival",
@@ -27,26 +26,22 @@ const NOTES: [&str; 7] = [
 ];
 /// The places of L and K in them.
 const LINK_AND_DELAY: [usize; 2] = [0, 1];
-/// The place of F in them, of which refusals 27 and 28 speak.
-const FIRMWARE_LIMIT: usize = 2;
 /// The place of P in them.
-const PERMITTED: usize = 3;
-/// The place of R in them, of which refusals 16 and 28 speak.
-const PERMITTED_SUM: usize = 4;
+const PERMITTED: usize = 2;
+/// The place of R in them, of which refusal 16 speaks.
+const PERMITTED_SUM: usize = 3;
 /// The place of left in them.
-const LEFT: usize = 5;
+const LEFT: usize = 4;
 /// The place of W in them.
-const WAITS: usize = 6;
+const WAITS: usize = 5;
 
 /// The marks and notes that occur.
 #[derive(Clone, Debug, Default, PartialEq, Eq)]
 pub struct Marks {
     /// A frame of a stream.
     frame: Option<Frame>,
-    /// A best-effort frame of a query.
+    /// A best-effort frame.
     best_effort: Option<Frame>,
-    /// A best-effort frame of firmware.
-    firmware: Option<Frame>,
     ticks: bool,
     purges: bool,
     /// Whether a frame still waits where a bar ends.
@@ -74,13 +69,11 @@ impl Marks {
     /// Adds those of an event that is shown.
     pub fn add_event(&mut self, call: &Call, reply: &Reply) {
         match (call, reply.refusal) {
-            (Call::Open { firmware: 0, .. }, _) => self.notes.extend(LINK_AND_DELAY),
-            (Call::Open { .. }, _) => self.notes.extend(LINK_AND_DELAY.into_iter().chain([FIRMWARE_LIMIT])),
+            (Call::Open { .. }, _) => self.notes.extend(LINK_AND_DELAY),
             (Call::Reserve { .. }, _) => self.notes.extend([PERMITTED]),
             (Call::Arrive { .. }, 0) => self.notes.extend([LEFT]),
             (Call::BestEffort { .. }, 0) => self.notes.extend([WAITS]),
             (Call::BestEffort { .. }, refusal::BEST_EFFORT_EXCEEDED) => self.notes.extend([PERMITTED_SUM, WAITS]),
-            (Call::BestEffort { .. }, refusal::FIRMWARE_EXCEEDED) => self.notes.extend([FIRMWARE_LIMIT, PERMITTED_SUM]),
             (Call::Tick, 0) => self.ticks = true,
             _ => {}
         }
@@ -89,11 +82,7 @@ impl Marks {
 
     /// Adds those of a stay of which something is shown; whether its end is, is given.
     pub fn add_stay(&mut self, stay: &Stay, ends: bool) {
-        let frame = match stay.frame.stream {
-            QUERY_STREAM => &mut self.best_effort,
-            FIRMWARE_STREAM => &mut self.firmware,
-            _ => &mut self.frame,
-        };
+        let frame = if stay.frame.stream == BEST_EFFORT_STREAM { &mut self.best_effort } else { &mut self.frame };
         frame.get_or_insert(stay.frame);
         self.purges |= ends && stay.went == Went::Purged;
         self.waits |= !ends || stay.went == Went::Carried;
@@ -106,8 +95,8 @@ impl Marks {
 
     /// Each mark with what it means, and the notes.
     fn meanings(&self) -> Vec<(Mark, String)> {
-        let best_effort = [self.best_effort.map(of_best_effort), self.firmware.map(of_firmware)];
-        let mut meanings: Vec<(Mark, String)> = [self.frame.map(of_stream)].into_iter().chain(best_effort).flatten().collect();
+        let frames = [self.frame.map(of_stream), self.best_effort.map(of_best_effort)].into_iter().flatten();
+        let mut meanings: Vec<(Mark, String)> = frames.collect();
         if self.ticks {
             let what = "tick: an epoch ends, prior is purged, current becomes prior, next becomes current, last becomes next";
             meanings.push((Mark::Tick, String::from(what)));
@@ -138,11 +127,6 @@ fn of_best_effort(frame: Frame) -> (Mark, String) {
     (Mark::Frame(frame), format!("best-effort frame with tag {}, which no tick moves", frame.tag))
 }
 
-/// What the box of a firmware frame means.
-fn of_firmware(frame: Frame) -> (Mark, String) {
-    (Mark::Frame(frame), format!("best-effort frame of firmware with tag {}, in one queue with the queries'", frame.tag))
-}
-
 /// What the box of a withdrawn stream means.
 fn of_withdrawn(drain: Drain) -> (Mark, String) {
     let what = "it takes no more frames, those that wait are sent, and its P still counts; after so many ticks it is free";
@@ -161,7 +145,7 @@ fn refused(number: u8) -> String {
 
 /// Draws the legend below a height, as wide as the picture; the height below it.
 pub fn draw(svg: &mut Svg, palette: &Palette, marks: &Marks, top: i32, right: i32) -> i32 {
-    let frames = [marks.frame, marks.best_effort, marks.firmware].into_iter().flatten();
+    let frames = [marks.frame, marks.best_effort].into_iter().flatten();
     let labels = frames.map(|frame| label(&frame)).chain(marks.drain.as_ref().map(draining::label));
     let wide = labels.map(|label| width(&label, LABEL) + BESIDE_BOX).fold(MARK, i32::max);
     let left = MARGIN + wide + 3 * BESIDE_BOX;

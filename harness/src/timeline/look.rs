@@ -1,6 +1,6 @@
 //! How a picture looks: its sizes in pixels, its letters, its colours, and how wide a text is.
 
-use crate::model::port::{is_best_effort, FIRMWARE_STREAM};
+use crate::model::port::BEST_EFFORT_STREAM;
 use crate::timeline::svg::Letters;
 
 /// The widest that a picture is, so that it can be read on a page.
@@ -93,14 +93,8 @@ const STREAMS: [Colours; 8] = [
     Colours { pale: "#eeecbf", dark: "#6a6615" },
     Colours { pale: "#e5dcd3", dark: "#65523f" },
 ];
-/// The colours of best effort, where a query brought it.
+/// The colours of best effort.
 const BEST_EFFORT: Colours = Colours { pale: "#dedede", dark: "#4d4d4d" };
-/// The colours of best effort of firmware.
-const FIRMWARE: Colours = Colours { pale: "#b9c6d4", dark: "#263b52" };
-/// The broken edge of a query's box.
-const BROKEN: &str = " stroke-dasharray=\"4 2\"";
-/// The dotted edge of a firmware frame's box.
-const DOTTED: &str = " stroke-dasharray=\"1.4 2\"";
 
 /// The streams of a picture, in the order in which they are met.
 #[derive(Clone, Debug, Default)]
@@ -111,25 +105,15 @@ pub struct Palette {
 impl Palette {
     /// Meets a stream.
     pub fn meet(&mut self, stream: u32) {
-        if !is_best_effort(stream) && !self.met.contains(&stream) {
+        if stream != BEST_EFFORT_STREAM && !self.met.contains(&stream) {
             self.met.push(stream);
         }
     }
 
-    /// The colours of a stream that was met, or of a caller of best effort.
+    /// The colours of a stream that was met.
     pub fn of(&self, stream: u32) -> Colours {
         let place = self.met.iter().position(|&met| met == stream);
-        let caller = if stream == FIRMWARE_STREAM { FIRMWARE } else { BEST_EFFORT };
-        place.map_or(caller, |place| STREAMS[place % STREAMS.len()])
-    }
-}
-
-/// The edge of a frame's box beside its colour, as an attribute: a stream's is whole.
-pub fn edge(stream: u32) -> &'static str {
-    match stream {
-        FIRMWARE_STREAM => DOTTED,
-        stream if is_best_effort(stream) => BROKEN,
-        _ => "",
+        place.map_or(BEST_EFFORT, |place| STREAMS[place % STREAMS.len()])
     }
 }
 

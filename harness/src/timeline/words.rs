@@ -1,10 +1,9 @@
 //! A call and its reply in words, for a reader who does not know the numbers by heart: `arrive on stream 5, charge 100, tag 8: joins next, 100 left`.
 //! Replies may be anybody's: two that differ read differently, and one that no port can give to the call is told in its numbers.
 
-use crate::call::{hexadecimal, Call, Reply, ADDRESS_OCTETS, FIRMWARE};
+use crate::call::{hexadecimal, Call, Reply, ADDRESS_OCTETS};
 use crate::model::capture::Refused;
-use crate::model::lookup::UNBOUND;
-use crate::model::port::{is_best_effort, kept_stream, CURRENT, DRAINING_TICKS, FIRMWARE_STREAM, LAST, NOTHING, QUEUES, STREAMS};
+use crate::model::port::{BEST_EFFORT_STREAM, CURRENT, DRAINING_TICKS, LAST, NOTHING, QUEUES, STREAMS};
 use crate::model::refusal;
 
 /// The roles of the queues by name: those of the reserved queues by place, prior before current, then best effort.
@@ -12,35 +11,17 @@ pub const ROLES: [&str; QUEUES] = ["prior", "current", "next", "last", BEST_EFFO
 /// The role of best effort's queue, and the call.
 pub const BEST_EFFORT: &str = "best effort";
 
-/// A best-effort frame, by the stream that it keeps of its caller.
-pub fn best_effort_sort(stream: u32) -> &'static str {
-    match stream {
-        FIRMWARE_STREAM => "firmware",
-        _ => BEST_EFFORT,
-    }
-}
-
-/// A frame's sort: its stream, or its caller in best effort.
-pub fn sort(stream: u32) -> String {
-    match is_best_effort(stream) {
-        true => String::from(best_effort_sort(stream)),
-        false => format!("stream {stream}"),
-    }
-}
-
 /// What a call asks.
 pub fn call(call: &Call) -> String {
     match call {
-        Call::Open { link, delay, firmware: 0 } => format!("open with L {link} and K {delay}"),
-        Call::Open { link, delay, firmware } => format!("open with L {link}, K {delay} and F {firmware}"),
+        Call::Open { link, delay } => format!("open with L {link} and K {delay}"),
         Call::Reserve { stream, permitted } => format!("reserve for stream {stream}, P {permitted}"),
         Call::Arrive { stream, charge, tag } => format!("arrive on stream {stream}, charge {charge}, tag {tag}"),
         Call::Tick => String::from("tick"),
         Call::Transmit => String::from("transmit"),
-        Call::BestEffort { caller, charge, tag } => format!("{}, charge {charge}, tag {tag}", best_effort_sort(kept_stream(*caller))),
+        Call::BestEffort { charge, tag } => format!("{BEST_EFFORT}, charge {charge}, tag {tag}"),
         Call::Bind { stream, address, vid } => format!("bind stream {stream}, address {}, VID {vid}", hexadecimal(address)),
-        Call::Frame { caller: FIRMWARE, octets, tag } => format!("firmware frame of {} octets, tag {tag}", octets.len()),
-        Call::Frame { octets, tag, .. } => format!("frame of {} octets, tag {tag}", octets.len()),
+        Call::Frame { octets, tag } => format!("frame of {} octets, tag {tag}", octets.len()),
         Call::Withdraw { stream } => format!("withdraw stream {stream}"),
         Call::ReadRegister { offset } => format!("read the register at offset {offset}"),
         Call::WriteRegister { offset, value } => format!("write {value} to the register at offset {offset}"),
@@ -118,11 +99,12 @@ fn purged(frames: u32, octets: u32) -> String {
     }
 }
 
-/// "transmit: stream (255 best effort, 254 nothing), tag (0 for nothing)", and 253 firmware.
+/// "transmit: stream (255 best effort, 254 nothing), tag (0 for nothing)".
 fn sent(stream: u32, tag: u32) -> Option<String> {
     match (stream, tag) {
         (NOTHING, 0) => Some(String::from("sends nothing")),
-        (stream, tag) => (stream < STREAMS as u32 || is_best_effort(stream)).then(|| format!("sends {}, tag {tag}", sort(stream))),
+        (BEST_EFFORT_STREAM, tag) => Some(format!("sends {BEST_EFFORT}, tag {tag}")),
+        (stream, tag) => (stream < STREAMS as u32).then(|| format!("sends stream {stream}, tag {tag}")),
     }
 }
 
@@ -130,7 +112,7 @@ fn sent(stream: u32, tag: u32) -> Option<String> {
 fn found(stream: u32, compared: u32) -> Option<String> {
     let can_be = compared <= (STREAMS * ADDRESS_OCTETS) as u32;
     match stream {
-        UNBOUND => can_be.then(|| format!("finds no stream, {compared} address octets compared")),
+        BEST_EFFORT_STREAM => can_be.then(|| format!("finds no stream, {compared} address octets compared")),
         stream => (can_be && stream < STREAMS as u32).then(|| format!("finds stream {stream}, {compared} address octets compared")),
     }
 }
@@ -140,19 +122,18 @@ mod tests {
     use std::collections::HashSet;
 
     use super::*;
-    use crate::call::QUERY;
 
     /// A call of every sort.
     fn calls() -> Vec<Call> {
         vec![
-            Call::Open { link: 2_620, delay: 1, firmware: 0 },
+            Call::Open { link: 2_620, delay: 1 },
             Call::Reserve { stream: 5, permitted: 200 },
             Call::Arrive { stream: 5, charge: 100, tag: 8 },
             Call::Tick,
             Call::Transmit,
-            Call::BestEffort { caller: QUERY, charge: 400, tag: 9 },
+            Call::BestEffort { charge: 400, tag: 9 },
             Call::Bind { stream: 5, address: [1, 0, 0x5e, 0, 0, 5], vid: 10 },
-            Call::Frame { caller: QUERY, octets: vec![0; 96].into(), tag: 7 },
+            Call::Frame { octets: vec![0; 96].into(), tag: 7 },
             Call::Withdraw { stream: 5 },
             Call::ReadRegister { offset: 16 },
             Call::WriteRegister { offset: 12, value: 7 },
@@ -198,22 +179,6 @@ mod tests {
     }
 
     #[test]
-    fn firmware_is_told() {
-        let open = Call::Open { link: 2_620, delay: 2, firmware: 1 };
-        assert_eq!(said(&open, 0, 600, 0), "6 open with L 2620, K 2 and F 1: opens, with a share of 600");
-        let frame = Call::BestEffort { caller: FIRMWARE, charge: 400, tag: 9 };
-        assert_eq!(said(&frame, 0, 400, 0), "6 firmware, charge 400, tag 9: joins best effort, W 400");
-        let frame = Call::Frame { caller: FIRMWARE, octets: vec![0; 96].into(), tag: 7 };
-        assert_eq!(said(&frame, 0, 520, 0), "6 firmware frame of 96 octets, tag 7: joins best effort, W 520");
-        assert_eq!(said(&Call::Transmit, 0, 253, 7), "6 transmit: sends firmware, tag 7");
-        let open = Call::Open { link: 2_620, delay: 2, firmware: 3 };
-        assert_eq!(said(&open, 27, 0, 0), "6 open with L 2620, K 2 and F 3: refused with 27: F above K");
-        let frame = Call::BestEffort { caller: FIRMWARE, charge: 401, tag: 9 };
-        let over = "refused with 28: firmware octets waiting + charge above F × (L − R)";
-        assert_eq!(said(&frame, 28, 0, 0), format!("6 firmware, charge 401, tag 9: {over}"));
-    }
-
-    #[test]
     fn refusals_are_told_in_the_documents_words() {
         let arrival = &calls()[2];
         assert_eq!(said(arrival, 14, 0, 0), "6 arrive on stream 5, charge 100, tag 8: refused with 14: discard");
@@ -232,19 +197,19 @@ mod tests {
         assert_eq!(said(&Call::Tick, 21, 0, 0), "6 tick: replies 21 0 0, which no port replies to this call");
         assert!(odd(&calls[0], 3, 600, 0) && odd(&calls[0], 0, 600, 1) && odd(&calls[1], 0, 400, 1));
         assert!(odd(&calls[2], 0, 0, 80) && odd(&calls[2], 0, 4, 80) && odd(&calls[5], 0, 400, 1) && odd(&calls[6], 0, 1, 0));
-        assert!(odd(&calls[4], 0, 64, 7) && odd(&calls[4], 0, 252, 7) && odd(&calls[4], 0, 254, 1) && odd(&calls[7], 0, 4, 1));
-        assert!(odd(&calls[8], 0, 400, 0) && odd(&calls[8], 0, 0, 1) && odd(&calls[8], 25, 1, 0) && odd(&calls[8], 29, 0, 0));
+        assert!(odd(&calls[4], 0, 64, 7) && odd(&calls[4], 0, 254, 1) && odd(&calls[7], 0, 4, 1));
+        assert!(odd(&calls[8], 0, 400, 0) && odd(&calls[8], 0, 0, 1) && odd(&calls[8], 25, 1, 0) && odd(&calls[8], 27, 0, 0));
         assert!(odd(&calls[9], 0, 3, 1) && odd(&calls[10], 0, 1, 0) && odd(&calls[12], 0, 64, 0));
         assert!(odd(&calls[13], 0, 64, 6) && odd(&calls[13], 0, 254, 0) && odd(&calls[13], 0, 5, 385) && odd(&calls[13], 0, 255, 385));
     }
 
     #[test]
     fn replies_that_differ_read_differently() {
-        let numbers = [0, 1, 2, 3, 4, 63, 64, 84, 252, 253, 254, 255, 256, 600, u32::MAX];
+        let numbers = [0, 1, 2, 3, 4, 63, 64, 84, 254, 255, 256, 600, u32::MAX];
         for call in calls() {
             let mut told = HashSet::new();
             for (refusal, first, second) in
-                (0..=29).flat_map(|refusal| numbers.map(|first| numbers.map(|second| (refusal, first, second)))).flatten()
+                (0..=27).flat_map(|refusal| numbers.map(|first| numbers.map(|second| (refusal, first, second)))).flatten()
             {
                 assert!(told.insert(reply(&call, &Reply { refusal, first, second })), "{call}: {refusal} {first} {second}");
             }

@@ -1,10 +1,9 @@
 //! Random lists of calls through a port, held against the independent model: each reply in the rule's numbers, and after each call every octet of
 //! record, register block and memory.
 
-use std::ops::RangeInclusive;
 use std::path::Path;
 
-use harness::call::{Call, Reply, ADDRESS_OCTETS, FIRMWARE, QUERY};
+use harness::call::{Call, Reply, ADDRESS_OCTETS};
 use harness::comparing::calls::{Charges, Profile, Weights, NEVER, ORDINARY};
 use harness::comparing::compared::Step;
 use harness::comparing::counts::{questions, Counting};
@@ -20,31 +19,25 @@ use harness::comparing::registers::{Held, EVERY_COUNT, EVERY_FLAG};
 use harness::comparing::sides::Sides;
 use harness::comparing::test::Run;
 use harness::comparing::tests::lists::at_each_place;
-use harness::layout::{firmware_limit, firmware_waits_with};
 use harness::model;
 
 use super::Port;
-use crate::{Caller, Control, Controlled, Flags, Framed, Joined, Lookup, Queue, Refusal, Register, Sent, StreamCounts};
+use crate::{Control, Controlled, Flags, Framed, Joined, Lookup, Queue, Refusal, Register, Sent, StreamCounts};
 
 /// The seed of the lists.
 const SEED: u64 = 1;
 /// The refusals that no port meets once it is open.
 const NEVER_MET: [u8; 5] = [1, 2, 18, 19, 20];
 
-/// The least and the largest charge.
-const CHARGES: RangeInclusive<u32> = 84..=2_020;
-
-/// L, K and F at the ends of their ranges and outside them.
+/// L and K at the ends of their ranges and outside them.
 #[test]
 fn opened_at_the_ends() -> Result<(), String> {
     let mut run = run("opened_at_the_ends");
     let mut random = run.next_list();
-    for _ in 0..800 {
-        let Call::Open { link, delay, .. } = ORDINARY.open(&mut random, true) else { unreachable!("it is an Open") };
-        let firmware = random.pick(&[0, delay, delay, delay.wrapping_add(1), 256, 1 << 16, u32::MAX]);
-        Both::open(&mut run, &Call::Open { link, delay, firmware });
+    for _ in 0..400 {
+        Both::open(&mut run, &ORDINARY.open(&mut random, true));
     }
-    run.demand(&[(Seen::Opened, 100), (Seen::Refused(3), 50), (Seen::Refused(4), 50), (Seen::Refused(27), 50)])
+    run.demand(&[(Seen::Opened, 100), (Seen::Refused(3), 50), (Seen::Refused(4), 50)])
 }
 
 /// Few streams, which arrivals press at every place.
@@ -60,13 +53,13 @@ fn few_streams_pressed() -> Result<(), String> {
 #[test]
 fn many_streams_pressed_to_the_share() -> Result<(), String> {
     let run = play("many_streams_pressed_to_the_share", 8, 500, |_| MANY_STREAMS)?;
-    run.demand(&[(Seen::Refused(8), 25), (Seen::ShareFilled, 1), (Seen::AllReserved, 1), (Seen::Reserved, 100), (Seen::Bound, 100)])
+    run.demand(&[(Seen::Refused(8), 100), (Seen::ShareFilled, 1), (Seen::AllReserved, 1), (Seen::Reserved, 100), (Seen::Bound, 100)])
 }
 
 /// Queues of 256 frames.
 #[test]
 fn full_queues() -> Result<(), String> {
-    let run = play("full_queues", 4, 3_000, profiles::full_queues)?;
+    let run = play("full_queues", 2, 2_500, profiles::full_queues)?;
     run.demand(&[(Seen::QueueFilled, 1), (Seen::Refused(14), 100), (Seen::PurgedFrame, 200)])
 }
 
@@ -84,74 +77,6 @@ fn best_effort_filled() -> Result<(), String> {
     let profile = Profile { weights, links: FULL_LINK..=FULL_LINK, charges: Charges::Least, ..ORDINARY };
     let run = play("best_effort_filled", 2, 700, |_| profile.clone())?;
     run.demand(&[(Seen::BestEffortFilled, 20), (Seen::Refused(15), 200), (Seen::FrameRefused(15), 10), (Seen::SentFromBestEffort, 100)])
-}
-
-/// Firmware beside queries, with any F up to K: frames that meet its limit exactly and that are one octet above, and queries that go on past it.
-#[test]
-fn firmware_beside_queries() -> Result<(), String> {
-    let weights = Weights { reserve: 3, tick: 4, transmit: 30, best_effort: 60, frame: 20, withdraw: 1, ..NEVER };
-    let profile = Profile { weights, links: 2_104..=6_000, ..ORDINARY };
-    let (mut run, mut met) = (run("firmware_beside_queries"), AtLimit::default());
-    for _ in 0..24 {
-        let mut random = run.next_list();
-        let opening = profile.open(&mut random, false);
-        let opening = of_both_callers(&mut random, &[], opening);
-        let mut both = Both::open(&mut run, &opening).expect("L, K and F are in their ranges");
-        for _ in 0..250 {
-            let Step::Call(call) = profile.step(&mut random, &both.octets.record) else { unreachable!("the host writes no octet") };
-            let call = of_both_callers(&mut random, &both.octets.record, call);
-            let before = both.octets.record.clone();
-            both.play(&mut run, &call);
-            met.follow(&call, &before, &both.octets.record);
-        }
-    }
-    run.demand(&[(Seen::Refused(16), 100), (Seen::Refused(28), 100), (Seen::FrameRefused(28), 25), (Seen::SentFromBestEffort, 200)])?;
-    assert!(met.exactly > 20 && met.one_above > 20 && met.by_queries > 100, "{met:?}");
-    NEVER_MET.iter().try_for_each(|&refusal| run.demand_none(Seen::Refused(refusal)))
-}
-
-/// The call with any F up to K where it is an Open, and of either caller where it is a best-effort frame, most often with a charge near that limit.
-fn of_both_callers(random: &mut Random, record: &[u8], call: Call) -> Call {
-    let caller = random.pick(&[FIRMWARE, FIRMWARE, QUERY, 0, 252, 254]);
-    match call {
-        Call::Open { link, delay, .. } => {
-            let any = random.between(0..=delay);
-            Call::Open { link, delay, firmware: random.pick(&[any, any, 1, delay]) }
-        }
-        Call::BestEffort { charge, tag, .. } => {
-            let free = firmware_limit(record).saturating_sub(firmware_waits_with(record, 0));
-            let near = |above: u64| u32::try_from(free + above).ok().filter(|near| CHARGES.contains(near)).unwrap_or(charge);
-            Call::BestEffort { caller, charge: random.pick(&[charge, near(0), near(0), near(1)]), tag }
-        }
-        Call::Frame { octets, tag, .. } => Call::Frame { caller, octets, tag },
-        call => call,
-    }
-}
-
-/// How often frames came to the firmware's limit.
-#[derive(Debug, Default)]
-struct AtLimit {
-    /// Firmware frames that were accepted and met it exactly.
-    exactly: u32,
-    /// Firmware frames that were refused, one octet above it.
-    one_above: u32,
-    /// Queries that were accepted, with charges that would have been above it.
-    by_queries: u32,
-}
-
-impl AtLimit {
-    /// Counts a best-effort frame by the record before and after it.
-    fn follow(&mut self, call: &Call, before: &[u8], after: &[u8]) {
-        let Call::BestEffort { caller, charge, .. } = *call else { return };
-        let (limit, waits, accepted) = (firmware_limit(before), firmware_waits_with(before, charge), before != after);
-        match caller {
-            FIRMWARE if accepted && waits == limit => self.exactly += 1,
-            FIRMWARE if !accepted && waits == limit + 1 => self.one_above += 1,
-            FIRMWARE => (),
-            _ if accepted && waits > limit => self.by_queries += 1,
-            _ => (),
-        }
-    }
 }
 
 /// Streams that are withdrawn again and again, drain and are reserved again, also right after the tick that frees them.
@@ -179,7 +104,7 @@ fn pairs_looked_up() -> Result<(), String> {
 #[test]
 fn counts_asked_for() -> Result<(), String> {
     let weights = Weights { read_register: 40, write_register: 50, ..WITHDRAWING.weights };
-    let run = play_asking("counts_asked_for", 12, 400, Profile { weights, ..WITHDRAWING }, questions);
+    let run = play_asking("counts_asked_for", 8, 400, Profile { weights, ..WITHDRAWING }, questions);
     let met = [Counting::Shown, Counting::OfUnchosen, Counting::Zeroed, Counting::ChosenAbove];
     run.demand(&met.map(|counting| (Seen::Counting(counting), 10)))?;
     let asked = [Counting::Asked, Counting::AskedUnchosen, Counting::RefusedAbove, Counting::Chosen];
@@ -211,7 +136,7 @@ fn arguments_out_of_range() -> Result<(), String> {
 /// Everything, with other weights in each list.
 #[test]
 fn mixture() -> Result<(), String> {
-    let run = play("mixture", 28, 250, any_profile)?;
+    let run = play("mixture", 20, 250, any_profile)?;
     run.demand(&[Seen::SentFromPrior, Seen::SentFromCurrent, Seen::SentFromBestEffort, Seen::SentNothing].map(|seen| (seen, 25)))?;
     run.demand(&[(Seen::Ticked, 200), (Seen::PurgedFrame, 200), (Seen::Bound, 25), (Seen::FrameArrived, 75), (Seen::FrameBestEffort, 200)])
 }
@@ -227,7 +152,7 @@ fn play(test: &'static str, lists: usize, calls: usize, profile: impl Fn(&mut Ra
     for _ in 0..lists {
         let mut random = run.next_list();
         let profile = once_opened(profile(&mut random));
-        let mut both = Both::open(&mut run, &profile.open(&mut random, false)).expect("L, K and F are in their ranges");
+        let mut both = Both::open(&mut run, &profile.open(&mut random, false)).expect("L and K are in their ranges");
         both.play_list(&mut run, &mut random, &profile, calls);
     }
     NEVER_MET.iter().try_for_each(|&refusal| run.demand_none(Seen::Refused(refusal)))?;
@@ -245,7 +170,7 @@ fn play_asking(
     let (mut run, profile) = (run(test), once_opened(profile));
     for _ in 0..lists {
         let mut random = run.next_list();
-        let mut both = Both::open(&mut run, &profile.open(&mut random, false)).expect("L, K and F are in their ranges");
+        let mut both = Both::open(&mut run, &profile.open(&mut random, false)).expect("L and K are in their ranges");
         for _ in 0..calls {
             both.play_list(&mut run, &mut random, &profile, 1);
             asked(&mut random, &both.octets.record).iter().for_each(|call| both.play(&mut run, call));
@@ -269,11 +194,11 @@ struct Both {
 impl Both {
     /// Opens both, the model's on octets of zeros, which must do the same; nothing where the Open is refused.
     fn open(run: &mut Run, call: &Call) -> Option<Both> {
-        let Call::Open { link, delay, firmware } = *call else { unreachable!("a list begins with an Open") };
+        let Call::Open { link, delay } = *call else { unreachable!("a list begins with an Open") };
         let mut octets = Octets::zero();
         let reply = model::call(&call.given(), &mut octets.record, &mut octets.memory);
         run.count_call(call, &reply, &octets.record, false);
-        let opened = Port::open(link, delay, firmware);
+        let opened = Port::open(link, delay);
         let share = opened.as_ref().map(Port::share).map_err(|refusal| *refusal);
         assert_eq!(numbers(share, |share| (share, 0)), reply, "{}: {call}", run.place);
         let both = Both { port: opened.ok()?, octets, freed: Freed::default() };
@@ -322,11 +247,9 @@ fn through(port: &mut Port, call: &Call) -> Reply {
         Call::Arrive { stream, charge, tag } => numbers(port.arrive(stream, charge, tag), of_arrival),
         Call::Tick => numbers(port.tick(), |purged| (purged.frames, purged.octets)),
         Call::Transmit => numbers(port.transmit(), of_sent),
-        Call::BestEffort { caller, charge, tag } => {
-            numbers(port.best_effort(Caller::from_octet(caller), charge, tag), |waiting| (waiting.octets, 0))
-        }
+        Call::BestEffort { charge, tag } => numbers(port.best_effort(charge, tag), |waiting| (waiting.octets, 0)),
         Call::Bind { stream, ref address, vid } => numbers(port.bind(stream, address, vid), |()| (0, 0)),
-        Call::Frame { caller, ref octets, tag } => numbers(port.frame(Caller::from_octet(caller), octets, tag), |framed| match framed {
+        Call::Frame { ref octets, tag } => numbers(port.frame(octets, tag), |framed| match framed {
             Framed::Arrived(joined) => of_arrival(joined),
             Framed::BestEffort(waiting) => (waiting.octets, 0),
         }),
@@ -415,12 +338,11 @@ fn of_lookup(lookup: Lookup) -> (u32, u32) {
     (lookup.stream.map_or(NONE, u32::from), lookup.compared)
 }
 
-/// "stream (255 best effort, 254 nothing), tag (0 for nothing)", and of best effort "255 for query, 253 for firmware".
+/// "stream (255 best effort, 254 nothing), tag (0 for nothing)".
 fn of_sent(sent: Sent) -> (u32, u32) {
     match sent {
         Sent::Reserved { stream, tag } => (u32::from(stream), tag),
-        Sent::BestEffort { caller: Caller::Query, tag } => (255, tag),
-        Sent::BestEffort { caller: Caller::Firmware, tag } => (253, tag),
+        Sent::BestEffort { tag } => (255, tag),
         Sent::Nothing => (254, 0),
     }
 }

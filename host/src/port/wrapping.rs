@@ -4,7 +4,7 @@
 use harness::layout;
 
 use super::Port;
-use crate::{Caller, Control, Controlled, Refusal, Sent, StreamCounts};
+use crate::{Control, Controlled, Refusal, Sent, StreamCounts};
 
 /// The streams of these tests, each with P 200: those at both ends, and one between them.
 const WITH_FRAMES: [u8; 3] = [0, 5, 63];
@@ -13,7 +13,7 @@ const COUNT_OCTETS: usize = 4;
 
 /// A port with these streams, whose count at a place of the register block is at its end.
 fn at_the_end(count: usize) -> Port {
-    let mut port = Port::open(2_620, 1, 1).expect("L, K and F are in their ranges");
+    let mut port = Port::open(2_620, 1).expect("L and K are in their ranges");
     WITH_FRAMES.iter().for_each(|&stream| assert!(port.reserve(stream, 200).is_ok()));
     port.octets[layout::in_block(count)..][..COUNT_OCTETS].fill(u8::MAX);
     port
@@ -38,7 +38,7 @@ fn alone_has(port: &mut Port, stream: u8, accepted: u32, discarded: u32) {
 #[test]
 fn accepted_frames() {
     for (mut port, stream) in of_each_stream(layout::ACCEPTED) {
-        assert!(port.best_effort(Caller::Query, 84, 1).is_ok());
+        assert!(port.best_effort(84, 1).is_ok());
         alone_has(&mut port, stream, u32::MAX, 0);
         assert!(port.arrive(stream, 84, 2).is_ok());
         alone_has(&mut port, stream, 0, 0);
@@ -76,11 +76,11 @@ fn withdrawn_streams() {
 fn sent_frames() {
     let mut port = at_the_end(layout::SENT);
     assert!(port.arrive(5, 84, 1).is_ok());
-    assert!(port.best_effort(Caller::Firmware, 84, 2).is_ok());
+    assert!(port.best_effort(84, 2).is_ok());
     assert_eq!(port.frames_sent(), u32::MAX);
     assert_eq!(port.transmit(), Ok(Sent::Reserved { stream: 5, tag: 1 }));
     assert_eq!(port.frames_sent(), 0);
-    let sent = Controlled::Transmitted(Sent::BestEffort { caller: Caller::Firmware, tag: 2 });
+    let sent = Controlled::Transmitted(Sent::BestEffort { tag: 2 });
     assert_eq!(port.control(Control { tick: false, transmit: true }), Ok(sent));
     assert_eq!(port.frames_sent(), 1);
     alone_has(&mut port, 5, 1, 0);

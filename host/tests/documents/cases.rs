@@ -1,12 +1,12 @@
 //! Cases C1 to C12, and the sample output.
 
-use bunnysolder::{Caller, Port, Purged, Queue, Refusal, Reserved, Sent};
+use bunnysolder::{Port, Purged, Queue, Refusal, Reserved, Sent};
 
 use crate::{joined, opened, reserved, waiting, STREAM};
 
 /// What Open replies for an L, with K = 1.
 fn share(link: u32) -> Result<u32, Refusal> {
-    Port::open(link, 1, 0).map(|port| port.share())
+    Port::open(link, 1).map(|port| port.share())
 }
 
 /// "C1 L 2,103: 3; 2,104: share 84."
@@ -117,9 +117,9 @@ fn c11_charges_outside() {
 #[test]
 fn c12_best_effort_to_its_limit() {
     let mut port = reserved();
-    assert_eq!(port.best_effort(Caller::Query, 2_020, 1), waiting(2_020));
-    assert_eq!(port.best_effort(Caller::Query, 400, 2), waiting(2_420));
-    assert_eq!(port.best_effort(Caller::Query, 84, 3), Err(Refusal::LimitExceeded));
+    assert_eq!(port.best_effort(2_020, 1), waiting(2_020));
+    assert_eq!(port.best_effort(400, 2), waiting(2_420));
+    assert_eq!(port.best_effort(84, 3), Err(Refusal::LimitExceeded));
 }
 
 /// Frames of 116 and 84 octets, which fill current and are not sent, are purged by the second tick after them; best effort is not.
@@ -128,9 +128,9 @@ fn a_tick_purges_what_was_not_sent() {
     let mut port = reserved();
     assert_eq!(port.arrive(STREAM, 116, 1), joined(Queue::Current, 84));
     assert_eq!(port.arrive(STREAM, 84, 2), joined(Queue::Current, 200));
-    assert_eq!(port.best_effort(Caller::Query, 84, 3), waiting(84));
+    assert_eq!(port.best_effort(84, 3), waiting(84));
     assert_eq!(port.tick(), Ok(Purged { frames: 0, octets: 0 }));
     assert_eq!(port.tick(), Ok(Purged { frames: 2, octets: 200 }));
-    assert_eq!(port.transmit(), Ok(Sent::BestEffort { caller: Caller::Query, tag: 3 }));
+    assert_eq!(port.transmit(), Ok(Sent::BestEffort { tag: 3 }));
     assert_eq!(port.transmit(), Ok(Sent::Nothing));
 }

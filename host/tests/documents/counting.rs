@@ -2,7 +2,7 @@
 //! of the streams. A closed port and one that is too short are met by `harness/header.c`; the wrap of the counts by the tests of `src/port`.
 
 use bunnysolder::{
-    Caller, Control, Flags, Framed, Port, Purged, Queue, Refusal, Reserved, Sent, StreamCounts, LONGEST_FRAME, SHORTEST_FRAME, STREAMS,
+    Control, Flags, Framed, Port, Purged, Queue, Refusal, Reserved, Sent, StreamCounts, LONGEST_FRAME, SHORTEST_FRAME, STREAMS,
 };
 
 use crate::{frame, joined, opened, refused, reserved, waiting, ADDRESS, STREAM};
@@ -59,7 +59,7 @@ fn counted() -> Port {
 
 /// A port with all 64 streams, P 84 each. Of stream s, s mod 4 frames were accepted and s / 4 discarded, so no two streams have the same counts.
 fn all_different() -> Port {
-    let mut port = Port::open(23_524, 1, 0).expect("L, K and F are in their ranges");
+    let mut port = Port::open(23_524, 1).expect("L and K are in their ranges");
     for stream in 0..=LAST {
         assert!(port.reserve(stream, 84).is_ok());
         for tag in 0..u32::from(stream % 4) {
@@ -174,11 +174,11 @@ fn reading_counts_changes_nothing() {
 #[test]
 fn frames_count_for_their_stream() {
     let mut port = both_ends();
-    assert_eq!(port.frame(Caller::Query, &frame(1)[..SHORTEST_FRAME], 1), joined(Queue::Current, 116).map(Framed::Arrived));
+    assert_eq!(port.frame(&frame(1)[..SHORTEST_FRAME], 1), joined(Queue::Current, 116).map(Framed::Arrived));
     assert_eq!(port.stream_counts(), none_but([(LAST, counts(1, 0))]));
-    refused(port.frame(Caller::Query, &frame(1)[..LONGEST_FRAME], 2), Refusal::Discard, 14);
+    refused(port.frame(&frame(1)[..LONGEST_FRAME], 2), Refusal::Discard, 14);
     assert_eq!(port.stream_counts(), none_but([(LAST, counts(1, 1))]));
-    refused(port.frame(Caller::Query, &frame(1)[..LONGEST_FRAME + 1], 3), Refusal::FrameLength, 17);
+    refused(port.frame(&frame(1)[..LONGEST_FRAME + 1], 3), Refusal::FrameLength, 17);
     assert_eq!(port.stream_counts(), none_but([(LAST, counts(1, 1))]));
 }
 
@@ -186,12 +186,12 @@ fn frames_count_for_their_stream() {
 #[test]
 fn best_effort_is_counted_where_it_is_sent() {
     let mut port = both_ends();
-    assert_eq!(port.best_effort(Caller::Query, 84, 1), waiting(84));
-    assert_eq!(port.frame(Caller::Query, &frame(2)[..SHORTEST_FRAME], 2), waiting(168).map(Framed::BestEffort));
+    assert_eq!(port.best_effort(84, 1), waiting(84));
+    assert_eq!(port.frame(&frame(2)[..SHORTEST_FRAME], 2), waiting(168).map(Framed::BestEffort));
     assert_eq!((port.stream_counts(), port.frames_sent()), (none_but([]), 0));
     assert_eq!(port.arrive(FIRST, 84, 3), joined(Queue::Current, 116));
-    let of_query = |tag: u32| Sent::BestEffort { caller: Caller::Query, tag };
-    for (sent, reply) in [(1, Sent::Reserved { stream: FIRST, tag: 3 }), (2, of_query(1)), (3, of_query(2))] {
+    for (sent, reply) in [(1, Sent::Reserved { stream: FIRST, tag: 3 }), (2, Sent::BestEffort { tag: 1 }), (3, Sent::BestEffort { tag: 2 })]
+    {
         assert_eq!(port.transmit(), Ok(reply));
         assert_eq!((port.stream_counts(), port.frames_sent()), (none_but([(FIRST, counts(1, 0))]), sent));
     }
@@ -244,7 +244,7 @@ fn draining_counts_nothing() {
     }
     for tick in 0..4 {
         refused(port.arrive(LAST, 84, 5), Refusal::Draining, 25);
-        refused(port.frame(Caller::Query, &frame(1)[..SHORTEST_FRAME], 6), Refusal::Draining, 25);
+        refused(port.frame(&frame(1)[..SHORTEST_FRAME], 6), Refusal::Draining, 25);
         let purged = u32::from(tick == 2); // frame 3, which nobody sends
         assert_eq!(port.tick(), Ok(Purged { frames: purged, octets: 100 * purged }));
         assert_eq!(port.stream_counts(), none_but([(FIRST, counts(1, 0))]));
@@ -271,7 +271,7 @@ fn a_number_granted_again_counts_from_zero() {
 #[test]
 fn each_port_has_its_own_counts() {
     let (port, other) = (counted(), both_ends());
-    refused(Port::open(2_103, 1, 0), Refusal::LinkRange, 3);
+    refused(Port::open(2_103, 1), Refusal::LinkRange, 3);
     assert_eq!(other.stream_counts(), none_but([]));
     assert_eq!(port.counts_of(LAST), Ok(counts(2, 1)));
 }
@@ -326,8 +326,8 @@ fn the_third_example_of_the_rule() {
     assert_eq!((port.reserve(FIRST, 84), port.reserve(LAST, 200)), (Ok(Reserved { free: 516 }), Ok(Reserved { free: 316 })));
     assert_eq!(port.bind(LAST, &ADDRESS, 1), Ok(()));
     assert_eq!(port.arrive(FIRST, 84, 1), joined(Queue::Current, 84));
-    assert_eq!(port.frame(Caller::Query, &frame(1)[..SHORTEST_FRAME], 2), joined(Queue::Current, 116).map(Framed::Arrived));
-    assert_eq!(port.best_effort(Caller::Query, 84, 3), waiting(84));
+    assert_eq!(port.frame(&frame(1)[..SHORTEST_FRAME], 2), joined(Queue::Current, 116).map(Framed::Arrived));
+    assert_eq!(port.best_effort(84, 3), waiting(84));
     refused(port.arrive(LAST, 201, 4), Refusal::Discard, 14);
     assert_eq!((port.choice(), port.chosen_counts()), (0, counts(1, 0)));
     for (choice, accepted, discarded) in [(63, 1, 1), (64, 0, 0), (u32::MAX, 0, 0)] {
@@ -342,7 +342,7 @@ fn own_call(port: &mut Port, turn: u32) -> bool {
         1 => port.bind(LAST, &ADDRESS, 1).is_ok(),
         4 | 9 | 13 | 17 | 21 => port.tick().is_ok(),
         11 => turn > 200 && port.withdraw(LAST).is_ok(),
-        part if part % 3 == 0 => port.frame(Caller::Query, &frame(1)[..SHORTEST_FRAME + turn as usize % 120], turn).is_ok(),
+        part if part % 3 == 0 => port.frame(&frame(1)[..SHORTEST_FRAME + turn as usize % 120], turn).is_ok(),
         _ => port.arrive(LAST, 84 + 7 * (turn % 19), turn).is_ok(),
     }
 }
@@ -352,7 +352,7 @@ fn others_call(port: &mut Port, turn: u32) -> bool {
     match turn % 7 {
         0 => port.reserve(FIRST, 300).is_ok(),
         1 | 2 => port.arrive(FIRST, 84 + 31 * (turn % 11), turn).is_ok(),
-        3 => port.best_effort(Caller::Query, 84 + turn, turn).is_ok(),
+        3 => port.best_effort(84 + turn, turn).is_ok(),
         4 => port.transmit().is_ok(),
         5 => port.withdraw(FIRST).is_ok(),
         _ => port.write_register(CHOICE, turn).is_ok(),

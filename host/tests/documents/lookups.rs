@@ -1,7 +1,7 @@
 //! Request 4 of document 02, "Compare the VLAN id first": which stream a lookup finds, and "exactly the number of address octets so compared", with
 //! numbers derived by hand. A closed port and one that is too short are met by `harness/header.c`.
 
-use bunnysolder::{Address, Caller, Framed, Lookup, Port, Purged, Queue, Refusal, Sent, SHORTEST_FRAME};
+use bunnysolder::{Address, Framed, Lookup, Port, Purged, Queue, Refusal, Sent, SHORTEST_FRAME};
 
 use crate::{frame, joined, ADDRESS, STREAM};
 
@@ -32,7 +32,7 @@ fn none(compared: u32) -> Lookup {
 
 /// A port with the three streams, none of them bound.
 fn unbound() -> Port {
-    let mut port = Port::open(2_620, 1, 0).expect("L, K and F are in their ranges");
+    let mut port = Port::open(2_620, 1).expect("L and K are in their ranges");
     for stream in [STREAM, LATER, UNBOUND] {
         assert!(port.reserve(stream, 200).is_ok());
     }
@@ -134,10 +134,10 @@ fn a_frame_has_the_stream_of_its_lookup() {
         assert_eq!(port.bind(LATER, &ending(67), 2), Ok(()));
         let mut octets = frame(vid);
         octets[..6].copy_from_slice(&ending(last));
-        assert!(port.frame(Caller::Query, &octets[..SHORTEST_FRAME], 9).is_ok());
+        assert!(port.frame(&octets[..SHORTEST_FRAME], 9).is_ok());
         let sent = match port.lookup(&ending(last), u32::from(vid)).stream {
             Some(stream) => Sent::Reserved { stream, tag: 9 },
-            None => Sent::BestEffort { caller: Caller::Query, tag: 9 },
+            None => Sent::BestEffort { tag: 9 },
         };
         assert_eq!(port.transmit(), Ok(sent), "VID {vid}, address ending {last}");
     }
@@ -164,7 +164,7 @@ fn a_lookup_changes_nothing() {
     octets[..6].copy_from_slice(&ending(67));
     assert_eq!(asked.lookup(&ending(67), VID), found(LATER, 1 + OCTETS));
     for port in [&mut asked, &mut other] {
-        assert_eq!(port.frame(Caller::Query, &octets[..SHORTEST_FRAME], 9), joined(Queue::Current, 116).map(Framed::Arrived));
+        assert_eq!(port.frame(&octets[..SHORTEST_FRAME], 9), joined(Queue::Current, 116).map(Framed::Arrived));
     }
     assert_eq!(asked.lookup(&ending(68), VID), none(2));
     let registers = |port: &Port| (port.status(), port.flags(), port.mask(), port.stream_counts(), port.frames_sent(), port.choice());
@@ -184,7 +184,7 @@ fn by_thirds(stream: u8) -> u32 {
 
 /// A port with all 64 streams, each bound to its address and its VID.
 fn all_bound(address: impl Fn(u8) -> Address, vid: impl Fn(u8) -> u32) -> Port {
-    let mut port = Port::open(23_524, 1, 0).expect("L, K and F are in their ranges");
+    let mut port = Port::open(23_524, 1).expect("L and K are in their ranges");
     for stream in 0..64 {
         assert!(port.reserve(stream, 84).is_ok());
         assert_eq!(port.bind(stream, &address(stream), vid(stream)), Ok(()));

@@ -3,7 +3,6 @@
 mod cases;
 mod counting;
 mod envelope;
-mod firmware;
 mod lookups;
 mod names;
 mod refusals;
@@ -20,9 +19,9 @@ const STREAM: u8 = 5;
 /// An address to bind to.
 const ADDRESS: [u8; 6] = [0x01, 0x80, 0xC2, 0x00, 0x00, 0x0E];
 
-/// An open port without reservations: "L = 2,620, K = 1, unless said otherwise", and without epochs for firmware.
+/// An open port without reservations: "L = 2,620, K = 1, unless said otherwise".
 fn opened() -> Port {
-    let port = Port::open(2_620, 1, 0).expect("L, K and F are in their ranges");
+    let port = Port::open(2_620, 1).expect("L and K are in their ranges");
     assert_eq!(port.share(), 600);
     port
 }

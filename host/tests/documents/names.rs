@@ -1,6 +1,6 @@
 //! The names, numbers and words of the refusals, also of those that no port meets, and the numbers and registers that the header defines too.
 
-use bunnysolder::{Caller, Control, Flags, Refusal, Register, Status, EDITION, LONGEST_FRAME, SHORTEST_FRAME, STREAMS};
+use bunnysolder::{Control, Flags, Refusal, Register, Status, EDITION, LONGEST_FRAME, SHORTEST_FRAME, STREAMS};
 
 /// The header for C.
 const HEADER: &str = include_str!("../../../include/bunnysolder.h");
@@ -19,13 +19,6 @@ fn registers_are_those_of_the_header() {
     let registers = (0..=u32::from(u8::MAX)).filter_map(Register::from_offset);
     let names: Vec<(u32, String)> = registers.map(|register| (register.offset(), format!("{register:?}"))).collect();
     assert_eq!(names, of_header("register", "REGISTER_"));
-}
-
-/// The callers of best effort are those of the header, with its names and octets.
-#[test]
-fn callers_are_those_of_the_header() {
-    let callers = [Caller::Firmware, Caller::Query].map(|caller| (u32::from(caller.octet()), format!("{caller:?}")));
-    assert_eq!(of_header("caller", ""), callers);
 }
 
 /// The bits of control, status and flags are those of the header.
@@ -70,11 +63,10 @@ fn said_by_header(number: u8) -> Option<&'static str> {
     line.split_once("/* ")?.1.strip_suffix(" */")
 }
 
-/// The header says of L, K, F, a VID, a charge and an offset the same ranges as these words.
+/// The header says of L, K, a VID, a charge and an offset the same ranges as these words.
 #[test]
 fn ranges_are_those_of_the_header() {
-    let at_opening = [Refusal::LinkRange, Refusal::DelayRange, Refusal::FirmwareRange];
-    for refusal in at_opening.into_iter().chain([Refusal::VidRange, Refusal::ChargeRange, Refusal::OffsetRange]) {
+    for refusal in [Refusal::LinkRange, Refusal::DelayRange, Refusal::VidRange, Refusal::ChargeRange, Refusal::OffsetRange] {
         assert_eq!(said_by_header(refusal.number()), Some(refusal.words()));
     }
 }
@@ -105,7 +97,7 @@ fn the_lengths_of_frames_are_those_of_the_header() {
 }
 
 /// Words of documents 01 and 02 for each refusal of a call, by its number.
-const WORDS: [(u8, &str); 24] = [
+const WORDS: [(u8, &str); 22] = [
     (1, "port is closed"),
     (2, "open already"),
     (3, "L is outside 2,104 to 23,524"),
@@ -128,14 +120,11 @@ const WORDS: [(u8, &str); 24] = [
     (20, "queue holds 256"),
     (25, "withdrawn"),
     (26, "no multiple of 4, or above 60"),
-    (27, "F is above K"),
-    (28, "above F × (L − R)"),
 ];
 
 /// Each refusal is told by its number and its words.
 #[test]
 fn refusals_are_told_in_words() {
-    assert_eq!((0..=u8::MAX).filter_map(Refusal::from_number).count(), WORDS.len());
     for (number, words) in WORDS {
         let told = Refusal::from_number(number).expect("it is a refusal").to_string();
         assert!(told.starts_with(&format!("{number}: ")) && told.contains(words), "{told}");

@@ -1,18 +1,16 @@
-//! Every refusal of document 01 that a port can meet, by name and number, and the order in which they are asked, with those of document 02 at their
-//! places.
+//! Every refusal of document 01 that a port can meet, by name and number, and the order in which they are asked.
 
-use bunnysolder::{Caller, Framed, Port, Queue, Refusal};
+use bunnysolder::{Framed, Port, Queue, Refusal};
 
 use crate::{frame, joined, refused, reserved, waiting, ADDRESS, STREAM};
 
-/// 3 where L is outside, before 4; 4 where K is, before 27; 27 where F is above K.
+/// 3 where L is outside, before 4; 4 where K is.
 #[test]
 fn open_is_refused() {
-    refused(Port::open(2_103, 0, 0), Refusal::LinkRange, 3);
-    refused(Port::open(u32::MAX, 17, 0), Refusal::LinkRange, 3);
-    refused(Port::open(2_620, 0, 0), Refusal::DelayRange, 4);
-    refused(Port::open(2_620, 17, 18), Refusal::DelayRange, 4);
-    refused(Port::open(2_620, 16, 17), Refusal::FirmwareRange, 27);
+    refused(Port::open(2_103, 0), Refusal::LinkRange, 3);
+    refused(Port::open(u32::MAX, 17), Refusal::LinkRange, 3);
+    refused(Port::open(2_620, 0), Refusal::DelayRange, 4);
+    refused(Port::open(2_620, 17), Refusal::DelayRange, 4);
 }
 
 /// 5, 6, 7, 8 in this order.
@@ -39,21 +37,17 @@ fn arrive_is_refused() {
     refused(port.arrive(STREAM, 84, 3), Refusal::Discard, 14);
 }
 
-/// 13, 15, 16 in this order; of a firmware frame then 28, since F is 0 here.
+/// 13, 15, 16 in this order.
 #[test]
 fn best_effort_is_refused() {
     let mut port = of_256_frames();
     for frames in 1..=255 {
-        assert_eq!(port.best_effort(Caller::Query, 84, frames), waiting(84 * frames));
+        assert_eq!(port.best_effort(84, frames), waiting(84 * frames));
     }
-    refused(port.best_effort(Caller::Query, 85, 256), Refusal::LimitExceeded, 16);
-    refused(port.best_effort(Caller::Firmware, 85, 256), Refusal::LimitExceeded, 16);
-    refused(port.best_effort(Caller::Firmware, 84, 256), Refusal::FirmwareExceeded, 28);
-    assert_eq!(port.best_effort(Caller::Query, 84, 256), waiting(21_504));
-    refused(port.best_effort(Caller::Query, 83, 257), Refusal::ChargeRange, 13);
-    for caller in [Caller::Query, Caller::Firmware] {
-        refused(port.best_effort(caller, 84, 257), Refusal::BestEffortFull, 15);
-    }
+    refused(port.best_effort(85, 256), Refusal::LimitExceeded, 16);
+    assert_eq!(port.best_effort(84, 256), waiting(21_504));
+    refused(port.best_effort(83, 257), Refusal::ChargeRange, 13);
+    refused(port.best_effort(84, 257), Refusal::BestEffortFull, 15);
 }
 
 /// 5, 12, 9, 10, 11 in this order.
@@ -77,11 +71,11 @@ fn a_frame_that_arrives_is_refused() {
     assert_eq!(port.bind(STREAM, &ADDRESS, 1), Ok(()));
     let bound = frame(1);
     for length in [0, 59, 1_997] {
-        refused(port.frame(Caller::Query, &bound[..length], 1), Refusal::FrameLength, 17);
+        refused(port.frame(&bound[..length], 1), Refusal::FrameLength, 17);
     }
-    refused(port.frame(Caller::Query, &bound[..1_996], 1), Refusal::Discard, 14);
-    refused(port.frame(Caller::Query, &bound[..1_997], 1), Refusal::FrameLength, 17);
-    refused(port.frame(Caller::Query, &bound[..60], 1), Refusal::Discard, 14);
+    refused(port.frame(&bound[..1_996], 1), Refusal::Discard, 14);
+    refused(port.frame(&bound[..1_997], 1), Refusal::FrameLength, 17);
+    refused(port.frame(&bound[..60], 1), Refusal::Discard, 14);
 }
 
 /// 17 before 15 and 16, where it is not: frames of 60 octets, a charge of 84 each, on the port of 256 such frames.
@@ -90,17 +84,17 @@ fn a_frame_of_best_effort_is_refused() {
     let mut port = of_256_frames();
     let unbound = frame(2);
     for frames in 1..=255 {
-        assert_eq!(port.frame(Caller::Query, &unbound[..60], frames), waiting(84 * frames).map(Framed::BestEffort));
+        assert_eq!(port.frame(&unbound[..60], frames), waiting(84 * frames).map(Framed::BestEffort));
     }
-    refused(port.frame(Caller::Query, &unbound[..61], 256), Refusal::LimitExceeded, 16);
-    assert_eq!(port.frame(Caller::Query, &unbound[..60], 256), waiting(21_504).map(Framed::BestEffort));
-    refused(port.frame(Caller::Query, &unbound[..59], 257), Refusal::FrameLength, 17);
-    refused(port.frame(Caller::Query, &unbound[..60], 257), Refusal::BestEffortFull, 15);
+    refused(port.frame(&unbound[..61], 256), Refusal::LimitExceeded, 16);
+    assert_eq!(port.frame(&unbound[..60], 256), waiting(21_504).map(Framed::BestEffort));
+    refused(port.frame(&unbound[..59], 257), Refusal::FrameLength, 17);
+    refused(port.frame(&unbound[..60], 257), Refusal::BestEffortFull, 15);
 }
 
 /// A port on which 256 best-effort frames of 84 octets make W just K × (L − R): 1 × (21,588 − 84) = 21,504 = 256 × 84.
 fn of_256_frames() -> Port {
-    let mut port = Port::open(21_588, 1, 0).expect("L, K and F are in their ranges");
+    let mut port = Port::open(21_588, 1).expect("L and K are in their ranges");
     assert!(port.reserve(STREAM, 84).is_ok());
     port
 }

@@ -3,8 +3,8 @@
 //! tests of `src/port`.
 
 use bunnysolder::{
-    Caller, Control, Controlled, Flags, Framed, Mask, Port, Purged, Queue, Refusal, Register, Reserved, Sent, Status, StreamCounts,
-    SHORTEST_FRAME, STREAMS,
+    Control, Controlled, Flags, Framed, Mask, Port, Purged, Queue, Refusal, Register, Reserved, Sent, Status, StreamCounts, SHORTEST_FRAME,
+    STREAMS,
 };
 
 use crate::{frame, joined, opened, refused, reserved, waiting, ADDRESS, STREAM};
@@ -111,8 +111,8 @@ fn registers_stand_at_their_offsets() {
     let mut port = all_flags();
     assert_eq!(all(&port), [0, 0b01, 0b111, 0, 1, 1, 0, 5, 0, 0, 0, 0, 0, 0, 0, 0]);
     port.set_mask(Mask(1 << 31 | 0b100));
-    assert_eq!(port.best_effort(Caller::Query, 84, 3), waiting(84));
-    assert_eq!(port.transmit(), Ok(Sent::BestEffort { caller: Caller::Query, tag: 3 }));
+    assert_eq!(port.best_effort(84, 3), waiting(84));
+    assert_eq!(port.transmit(), Ok(Sent::BestEffort { tag: 3 }));
     refused(port.arrive(STREAM, 201, 4), Refusal::Discard, 14);
     assert_eq!(all(&port), [0, 0b11, 0b111, 1 << 31 | 0b100, 1, 2, 1, 5, 0, 0, 0, 0, 0, 0, 0, 0]);
 }
@@ -127,8 +127,8 @@ fn each_flag_has_its_event() {
     assert_eq!(port.tick(), Ok(Purged { frames: 1, octets: 120 }));
     assert_eq!((port.flags(), port.read_register(8)), (PURGE, Ok(0b010)));
     port.clear(PURGE);
-    assert_eq!(port.best_effort(Caller::Query, 84, 2), waiting(84));
-    assert_eq!(port.transmit(), Ok(Sent::BestEffort { caller: Caller::Query, tag: 2 }));
+    assert_eq!(port.best_effort(84, 2), waiting(84));
+    assert_eq!(port.transmit(), Ok(Sent::BestEffort { tag: 2 }));
     assert_eq!(port.flags(), NONE); // a transmit that sends
     assert_eq!(port.transmit(), Ok(Sent::Nothing));
     assert_eq!((port.flags(), port.read_register(8)), (NOTHING, Ok(0b100)));
@@ -199,16 +199,16 @@ fn both_sorts_are_counted_where_they_are_sent() {
     let mut port = reserved();
     assert_eq!(port.bind(STREAM, &ADDRESS, 1), Ok(()));
     assert_eq!(port.arrive(STREAM, 84, 1), joined(Queue::Current, 116));
-    assert_eq!(port.best_effort(Caller::Query, 84, 2), waiting(84));
-    assert_eq!(port.frame(Caller::Query, &frame(1)[..SHORTEST_FRAME], 3), joined(Queue::Current, 32).map(Framed::Arrived));
-    assert_eq!(port.frame(Caller::Query, &frame(2)[..SHORTEST_FRAME], 4), waiting(168).map(Framed::BestEffort));
+    assert_eq!(port.best_effort(84, 2), waiting(84));
+    assert_eq!(port.frame(&frame(1)[..SHORTEST_FRAME], 3), joined(Queue::Current, 32).map(Framed::Arrived));
+    assert_eq!(port.frame(&frame(2)[..SHORTEST_FRAME], 4), waiting(168).map(Framed::BestEffort));
     assert_eq!(counts(&port), (2, 0, 0));
     for (sent, tag) in [(1, 1), (2, 3)] {
         assert_eq!(port.transmit(), Ok(Sent::Reserved { stream: STREAM, tag }));
         assert_eq!(counts(&port), (2, 0, sent));
     }
     for (sent, tag) in [(3, 2), (4, 4)] {
-        assert_eq!(port.transmit(), Ok(Sent::BestEffort { caller: Caller::Query, tag }));
+        assert_eq!(port.transmit(), Ok(Sent::BestEffort { tag }));
         assert_eq!(counts(&port), (2, 0, sent));
     }
     assert_eq!(port.transmit(), Ok(Sent::Nothing));
@@ -222,7 +222,7 @@ fn discards_are_counted() {
     assert_eq!(port.bind(STREAM, &ADDRESS, 1), Ok(()));
     assert_eq!(port.arrive(STREAM, 84, 1), joined(Queue::Current, 116));
     refused(port.arrive(STREAM, 201, 2), Refusal::Discard, 14);
-    refused(port.frame(Caller::Query, &frame(1)[..SHORTEST_FRAME], 3), Refusal::Discard, 14);
+    refused(port.frame(&frame(1)[..SHORTEST_FRAME], 3), Refusal::Discard, 14);
     assert_eq!((counts(&port), port.flags()), ((1, 2, 0), DISCARD));
     port.clear(DISCARD);
     assert_eq!(port.tick(), Ok(Purged { frames: 0, octets: 0 }));
@@ -250,10 +250,8 @@ fn other_refusals_set_nothing() {
     refused(port.bind(6, &ADDRESS, 1), Refusal::PairBoundAlready, 11);
     refused(port.arrive(8, 84, 1), Refusal::NotReserved, 12);
     refused(port.arrive(STREAM, 2_021, 1), Refusal::ChargeRange, 13);
-    refused(port.best_effort(Caller::Query, 83, 1), Refusal::ChargeRange, 13);
-    refused(port.best_effort(Caller::Firmware, 84, 1), Refusal::FirmwareExceeded, 28);
-    refused(port.frame(Caller::Firmware, &frame(2)[..SHORTEST_FRAME], 1), Refusal::FirmwareExceeded, 28);
-    refused(port.frame(Caller::Query, &frame(1)[..SHORTEST_FRAME - 1], 1), Refusal::FrameLength, 17);
+    refused(port.best_effort(83, 1), Refusal::ChargeRange, 13);
+    refused(port.frame(&frame(1)[..SHORTEST_FRAME - 1], 1), Refusal::FrameLength, 17);
     refused(port.arrive(7, 84, 1), Refusal::Draining, 25);
     refused(port.withdraw(7), Refusal::Draining, 25);
     assert_eq!((all(&port), port.stream_counts()), before);
@@ -262,16 +260,16 @@ fn other_refusals_set_nothing() {
 /// The same of 15 and 16, by Best effort and by Frame: 256 frames wait, and none is counted before it is sent.
 #[test]
 fn refusals_of_best_effort_set_nothing() {
-    let mut port = Port::open(21_588, 1, 0).expect("L, K and F are in their ranges");
+    let mut port = Port::open(21_588, 1).expect("L and K are in their ranges");
     assert!(port.reserve(STREAM, 84).is_ok());
     for frames in 1..=255 {
-        assert_eq!(port.best_effort(Caller::Query, 84, frames), waiting(84 * frames));
+        assert_eq!(port.best_effort(84, frames), waiting(84 * frames));
     }
-    refused(port.best_effort(Caller::Query, 85, 256), Refusal::LimitExceeded, 16);
-    refused(port.frame(Caller::Query, &frame(2)[..SHORTEST_FRAME + 1], 256), Refusal::LimitExceeded, 16);
-    assert_eq!(port.best_effort(Caller::Query, 84, 256), waiting(21_504));
-    refused(port.best_effort(Caller::Query, 84, 257), Refusal::BestEffortFull, 15);
-    refused(port.frame(Caller::Query, &frame(2)[..SHORTEST_FRAME], 257), Refusal::BestEffortFull, 15);
+    refused(port.best_effort(85, 256), Refusal::LimitExceeded, 16);
+    refused(port.frame(&frame(2)[..SHORTEST_FRAME + 1], 256), Refusal::LimitExceeded, 16);
+    assert_eq!(port.best_effort(84, 256), waiting(21_504));
+    refused(port.best_effort(84, 257), Refusal::BestEffortFull, 15);
+    refused(port.frame(&frame(2)[..SHORTEST_FRAME], 257), Refusal::BestEffortFull, 15);
     assert_eq!((port.stream_counts(), port.frames_sent(), port.flags()), ([StreamCounts::default(); STREAMS], 0, NONE));
 }
 
@@ -301,7 +299,7 @@ fn control_writes_do_what_the_calls_do() {
     for tag in 0..40 {
         for port in [&mut controlled, &mut called] {
             let _ = port.arrive(STREAM, 84 + 10 * (tag % 12), tag);
-            let _ = port.best_effort(Caller::Query, 84, 100 + tag);
+            let _ = port.best_effort(84, 100 + tag);
         }
         let asked = [TICK, TRANSMIT, BOTH, TRANSMIT, NEITHER, TICK, TICK][tag as usize % 7];
         let ticked = asked.tick.then(|| called.tick().map(Controlled::Ticked));

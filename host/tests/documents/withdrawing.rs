@@ -1,6 +1,6 @@
 //! Request 1 of document 02, "Withdraw a stream": what a withdrawn stream is refused, what it still has, and when it is free.
 
-use bunnysolder::{Caller, Framed, Port, Purged, Queue, Refusal, Reserved, Sent};
+use bunnysolder::{Framed, Port, Purged, Queue, Refusal, Reserved, Sent};
 
 use crate::{frame, joined, opened, refused, reserved, waiting, ADDRESS, STREAM};
 
@@ -55,11 +55,11 @@ fn frames_of_a_draining_stream_are_refused() {
     let mut port = reserved();
     assert_eq!(port.bind(STREAM, &ADDRESS, 1), Ok(()));
     assert_eq!(port.withdraw(STREAM), Ok(()));
-    refused(port.frame(Caller::Query, &frame(1)[..59], 1), Refusal::FrameLength, 17);
-    refused(port.frame(Caller::Query, &frame(1)[..60], 1), Refusal::Draining, 25);
-    refused(port.frame(Caller::Query, &frame(1)[..1_996], 1), Refusal::Draining, 25);
-    refused(port.frame(Caller::Query, &frame(1)[..1_997], 1), Refusal::FrameLength, 17);
-    assert_eq!(port.frame(Caller::Query, &frame(2)[..60], 1), waiting(84).map(Framed::BestEffort));
+    refused(port.frame(&frame(1)[..59], 1), Refusal::FrameLength, 17);
+    refused(port.frame(&frame(1)[..60], 1), Refusal::Draining, 25);
+    refused(port.frame(&frame(1)[..1_996], 1), Refusal::Draining, 25);
+    refused(port.frame(&frame(1)[..1_997], 1), Refusal::FrameLength, 17);
+    assert_eq!(port.frame(&frame(2)[..60], 1), waiting(84).map(Framed::BestEffort));
 }
 
 /// "then number and share are free": the number at the fourth tick, and not before it.
@@ -92,12 +92,12 @@ fn the_share_is_free_after_the_last_tick() {
 #[test]
 fn best_effort_has_the_share_after_the_last_tick() {
     let mut port = withdrawn();
-    assert_eq!(port.best_effort(Caller::Query, 2_020, 1), waiting(2_020));
+    assert_eq!(port.best_effort(2_020, 1), waiting(2_020));
     for _ in 0..DRAINING_TICKS {
-        refused(port.best_effort(Caller::Query, 401, 2), Refusal::LimitExceeded, 16);
+        refused(port.best_effort(401, 2), Refusal::LimitExceeded, 16);
         ticks(&mut port, 1);
     }
-    assert_eq!(port.best_effort(Caller::Query, 600, 2), waiting(2_620));
+    assert_eq!(port.best_effort(600, 2), waiting(2_620));
 }
 
 /// "its binding is gone": until the fourth tick its pair is refused to others (11), and then a frame with it is best effort.
@@ -111,9 +111,9 @@ fn the_binding_is_gone_after_the_last_tick() {
         refused(port.bind(6, &ADDRESS, 1), Refusal::PairBoundAlready, 11);
         ticks(&mut port, 1);
     }
-    assert_eq!(port.frame(Caller::Query, &frame(1)[..60], 1), waiting(84).map(Framed::BestEffort));
+    assert_eq!(port.frame(&frame(1)[..60], 1), waiting(84).map(Framed::BestEffort));
     assert_eq!(port.bind(6, &ADDRESS, 1), Ok(()));
-    assert_eq!(port.frame(Caller::Query, &frame(1)[..60], 2), joined(Queue::Current, 116).map(Framed::Arrived));
+    assert_eq!(port.frame(&frame(1)[..60], 2), joined(Queue::Current, 116).map(Framed::Arrived));
 }
 
 /// "its frames already queued stay queued": those of current, next and last are sent in their epochs.

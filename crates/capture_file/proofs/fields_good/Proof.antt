@@ -13,11 +13,8 @@ returns_2 c = simp (ne_eqb _ _ c.before.if1.false, eq-eqb _ _ c.if2.true)
 returns_3 : tie.Need-returns-3
 returns_3 c = simp (ne_eqb _ _ c.before.before.if1.false, ne_eqb _ _ c.before.if2.false, eq-eqb _ _ c.if3.true)
 
-caller-good-requires : tie.Need-caller-good-requires
-caller-good-requires c κs = search rules
-
 returns_4 : tie.Need-returns-4
-returns_4 c = simp (ne_eqb _ _ c.before.before.before.before.if1.false, ne_eqb _ _ c.before.before.before.if2.false, ne_eqb _ _ c.before.before.if3.false, eq-eqb _ _ c.before.if4.true, c.caller-good.ensures)
+returns_4 c = simp (ne_eqb _ _ c.before.before.before.if1.false, ne_eqb _ _ c.before.before.if2.false, ne_eqb _ _ c.before.if3.false, eq-eqb _ _ c.if4.true)
 
 all-zero-requires : tie.Need-all-zero-requires
 all-zero-requires c κs = search rules
@@ -47,7 +44,6 @@ fields-good-spec =
     returns
     returns_2
     returns_3
-    caller-good-requires
     returns_4
     all-zero-requires
     returns_5

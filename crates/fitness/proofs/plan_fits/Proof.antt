@@ -8,13 +8,13 @@ use Rattle.lists.specs.Turns.{all_to}
 use Rattle.record.specs.Entry.{stream_at}
 use Rattle.record.specs.Head.{delay_at, link_at}
 use Rattle.record.specs.Layout.{stream_count}
-use Rattle.fitness.specs.Clauses.{delays_fit, reservation_fits}
-use Rattle.ranges.specs.Ranges.{share_of, link_fits}
+use Rattle.fitness.specs.Clauses.{reservation_fits}
+use Rattle.ranges.specs.Ranges.{share_of, link_fits, delay_fits}
 use Rattle.fitness.proofs.plan_fits.Statement.{statement}
 use Rattle.fitness.proofs.plan_fits.Tie as tie
 
-link-requires : tie.Need-link-requires
-link-requires c κs = search rules
+link_requires : tie.Need-link-requires
+link_requires c κs = search rules
 
 cast-link-fits : tie.Need-cast-link-fits
 cast-link-fits c = search rules
@@ -32,15 +32,18 @@ returns c =
 delay_requires : tie.Need-delay-requires
 delay_requires c κs = search rules
 
-delays-fit-requires : tie.Need-delays-fit-requires
-delays-fit-requires c κs = search rules
+cast-delay-fits : tie.Need-cast-delay-fits
+cast-delay-fits c = search rules
+
+delay-fits-requires : tie.Need-delay-fits-requires
+delay-fits-requires c κs = search rules
 
 returns_2 : tie.Need-returns-2
 returns_2 c =
     let a = c.before.before.before.before.before.before.before.args in
     let p = a.port.now in
     let link : link_fits (link_at p) ≡ true = ap link_fits (sym c.before.before.before.before.before.link.ensures) ∙ sym c.before.before.before.before.link_fits.ensures ∙ not-false _ c.before.before.before.if1.left in
-    let delay : delays_fit (delay_at p) ≡ false = ap delays_fit (sym c.before.before.delay.ensures) ∙ sym c.before.delays-fit.ensures ∙ not-true _ c.if2.taken in
+    let delay : delay_fits (delay_at p) ≡ false = ap delay_fits (sym c.before.before.delay.ensures) ∙ sym c.before.delay_fits_lem.ensures ∙ not-true _ c.if2.taken in
     simp (link, delay)
 
 reservations-fit-requires : tie.Need-reservations-fit-requires
@@ -51,12 +54,12 @@ returns_3 c =
     let a = c.before.before.before.before.before.before.before.before.before.args in
     let p = a.port.now in
     let link : link_fits (link_at p) ≡ true = ap link_fits (sym c.before.before.before.before.before.before.before.link.ensures) ∙ sym c.before.before.before.before.before.before.link_fits.ensures ∙ not-false _ c.before.before.before.before.before.if1.left in
-    let delay : delays_fit (delay_at p) ≡ true = ap delays_fit (sym c.before.before.before.before.delay.ensures) ∙ sym c.before.before.before.delays-fit.ensures ∙ not-false _ c.before.before.if2.left in
+    let delay : delay_fits (delay_at p) ≡ true = ap delay_fits (sym c.before.before.before.before.delay.ensures) ∙ sym c.before.before.before.delay_fits_lem.ensures ∙ not-false _ c.before.before.if2.left in
     let streams : all_to (λ s. reservation_fits (stream_at p s)) stream_count ≡ false = sym c.before.reservations-fit.ensures ∙ not-true _ c.if3.taken in
     simp (link, delay, streams)
 
-permitted-sum-requires : tie.Need-permitted-sum-requires
-permitted-sum-requires c κs = search rules
+permitted_sum_requires : tie.Need-permitted-sum-requires
+permitted_sum_requires c κs = search rules
 
 link-requires-2 : tie.Need-link-requires-2
 link-requires-2 c κs = search rules
@@ -69,7 +72,7 @@ returns_4 c =
     let a = c.before.before.before.before.before.before.before.before.before.before.before.before.args in
     let p = a.port.now in
     let link : link_fits (link_at p) ≡ true = ap link_fits (sym c.before.before.before.before.before.before.before.before.before.before.link.ensures) ∙ sym c.before.before.before.before.before.before.before.before.before.link_fits.ensures ∙ not-false _ c.before.before.before.before.before.before.before.before.if1.left in
-    let delay : delays_fit (delay_at p) ≡ true = ap delays_fit (sym c.before.before.before.before.before.before.before.delay.ensures) ∙ sym c.before.before.before.before.before.before.delays-fit.ensures ∙ not-false _ c.before.before.before.before.before.if2.left in
+    let delay : delay_fits (delay_at p) ≡ true = ap delay_fits (sym c.before.before.before.before.before.before.before.delay.ensures) ∙ sym c.before.before.before.before.before.before.delay_fits_lem.ensures ∙ not-false _ c.before.before.before.before.before.if2.left in
     let streams : all_to (λ s. reservation_fits (stream_at p s)) stream_count ≡ true = sym c.before.before.before.before.reservations-fit.ensures ∙ not-false _ c.before.before.before.if3.left in
     simp (link, delay, streams) (ap₂ leb c.before.before.permitted-sum.ensures (c.share.ensures ∙ ap share_of c.before.link2.ensures))
 
@@ -77,16 +80,17 @@ pub plan-fits-spec : {M : Type 1} → statement M
 plan-fits-spec =
     tie.close
     (tie.spec
-    link-requires
+    link_requires
     cast-link-fits
     link-fits-requires
     returns
     delay_requires
-    delays-fit-requires
+    cast-delay-fits
+    delay-fits-requires
     returns_2
     reservations-fit-requires
     returns_3
-    permitted-sum-requires
+    permitted_sum_requires
     link-requires-2
     share-requires
     returns_4)

@@ -13,7 +13,6 @@ open_port_spec =
     (λ c. search gates)
     (λ c. search gates)
     (λ c. search gates)
-    (λ c. search gates)
     (λ c κs. search gates)
     (λ c. search gates)
     (λ c. search gates))

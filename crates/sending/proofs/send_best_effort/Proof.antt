@@ -1,25 +1,25 @@
 -- `sending::send_best_effort` meets its contract. Reply and record, each by the callee's contract. Assumes nothing.
+use Prim.Native.Nat.{◌-◌}
 use mathlib.Core.Path.{refl, ◌∙◌, ap, ap₂}
+use borrow.Author.Rules.{rules}
 use Rattle.queue.specs.declared.Frame.{Frame}
-use Rattle.queue.specs.Waiting.{sent_waits}
 use Rattle.record.specs.Head.{with_waits, with_queue}
 use Rattle.stream.specs.Replies.{granted}
 use Rattle.steps.proofs.OutcomeLaws.{same_outcome}
-use borrow.Author.Rules.{rules}
 use Rattle.sending.proofs.send_best_effort.Statement.{statement}
 use Rattle.sending.proofs.send_best_effort.Tie as tie
 
 front-at-requires : tie.Need-front-at-requires
 front-at-requires c κs = search rules
 
-waits_requires : tie.Need-waits-requires
-waits_requires c κs = search rules
+waits-requires : tie.Need-waits-requires
+waits-requires c κs = search rules
+
+less-requires : tie.Need-less-requires
+less-requires c κs = search rules
 
 sent-requires : tie.Need-sent-requires
 sent-requires c κs = search rules
-
-sent-requires-2 : tie.Need-sent-requires-2
-sent-requires-2 c κs = search rules
 
 put-queue-requires : tie.Need-put-queue-requires
 put-queue-requires c κs = search rules
@@ -43,7 +43,7 @@ returns c =
     same_outcome _ _ _ _ _ _
     (c.granted.ensures ∙ ap (λ (x : Frame). granted x.stream x.tag) f)
     (c.before.before.before.before.put-waits.ensures
-    ∙ ap₂ with_waits (c.before.before.before.before.before.before.before.before.put-queue.ensures ∙ ap (with_queue a.port.now a.number) c.before.before.before.before.before.before.before.before.before.sent2.ensures) (c.before.before.before.before.before.before.before.before.before.before.before.sent.ensures ∙ ap₂ sent_waits c.before.before.before.before.before.before.before.before.before.before.before.before.waits.ensures f))
+    ∙ ap₂ with_waits (c.before.before.before.before.before.before.before.before.put-queue.ensures ∙ ap (with_queue a.port.now a.number) c.before.before.before.before.before.before.before.before.before.sent.ensures) (c.before.before.before.before.before.before.before.before.before.before.before.less.ensures ∙ ap₂ ◌-◌ c.before.before.before.before.before.before.before.before.before.before.before.before.waits.ensures (ap (λ (x : Frame). x.charge) f)))
     refl
 
 pub send-best-effort-spec : {M : Type 1} → statement M
@@ -51,9 +51,9 @@ send-best-effort-spec =
     tie.close
     (tie.spec
     front-at-requires
-    waits_requires
+    waits-requires
+    less-requires
     sent-requires
-    sent-requires-2
     put-queue-requires
     put-waits-requires
     cast_granted

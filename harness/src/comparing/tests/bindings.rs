@@ -168,7 +168,7 @@ fn open_drops_bindings(run: &mut Run) -> Result<(), String> {
             list.bound(stream, (ONE, 100 + u32::from(stream)))?;
         }
         list.close();
-        list.call(Call::Open { link: 23_524, delay: 1, firmware: 0 }, Reply::granted(21_504, 0))?;
+        list.call(Call::Open { link: 23_524, delay: 1 }, Reply::granted(21_504, 0))?;
         for stream in 0..64 {
             list.bind(stream, (ONE, 100 + u32::from(stream)), Reply::refused(NOT_RESERVED))?;
             list.frame_of(&Header::tagged(ONE, 100 + u16::from(stream)), None)?;

@@ -7,9 +7,8 @@ use crate::capture::stored::{self, Stored};
 use crate::comparing::calls::{Charges, Profile, Weights, NEVER, ORDINARY};
 use crate::comparing::chains::{any_shape, capture, shape_in_turn};
 use crate::comparing::coverage::{Asked, Seen};
-use crate::comparing::firmware::Loading;
 use crate::comparing::profiles::{
-    any_profile, full_queues, FEW_STREAMS, FULL_LINK, HARDLY_ANY_TRANSMITS, LOADING, MANY_STREAMS, WITHDRAWING, WRONG_ARGUMENTS,
+    any_profile, full_queues, FEW_STREAMS, FULL_LINK, HARDLY_ANY_TRANSMITS, MANY_STREAMS, WITHDRAWING, WRONG_ARGUMENTS,
 };
 use crate::comparing::random::Random;
 use crate::comparing::replayed::refusal_of;
@@ -19,7 +18,7 @@ use crate::model::capture::RECORD_OCTETS;
 use crate::model::refusal::*;
 
 /// The tests of this file.
-pub const TESTS: [Test; 17] = [
+pub const TESTS: [Test; 16] = [
     test("stored_captures", stored_captures),
     test("reading_reset_to_current", |run| stored_capture(run, "reading_reset_to_current")),
     test("reading_three_epochs", |run| stored_capture(run, "reading_three_epochs")),
@@ -32,7 +31,6 @@ pub const TESTS: [Test; 17] = [
     test("captures_of_full_queues", captures_of_full_queues),
     test("captures_with_purges", captures_with_purges),
     test("captures_of_best_effort", captures_of_best_effort),
-    test("captures_of_firmware", captures_of_firmware),
     test("captures_of_withdrawals", captures_of_withdrawals),
     test("captures_of_wrong_arguments", captures_of_wrong_arguments),
     test("captures_of_any_events", captures_of_any_events),
@@ -116,13 +114,6 @@ fn captures_of_best_effort(run: &mut Run) -> Result<(), String> {
     run.demand(&[(Seen::Refused(BEST_EFFORT_FULL), 2_000), (Seen::BestEffortOneAbove, 200)])
 }
 
-/// Firmware loads beside queries, each to its limit.
-fn captures_of_firmware(run: &mut Run) -> Result<(), String> {
-    play(run, 300, 50..=600, |_| LOADING)?;
-    run.demand(&[Loading::Joined, Loading::Sent, Loading::QuerySent, Loading::QueryPast].map(|loading| (Seen::Loading(loading), 3_000)))?;
-    run.demand(&[(Seen::Loading(Loading::AtLimit), 200), (Seen::Loading(Loading::OneAbove), 50), (Seen::Refused(FIRMWARE_EXCEEDED), 5_000)])
-}
-
 /// Streams that are withdrawn, drain and are granted again.
 fn captures_of_withdrawals(run: &mut Run) -> Result<(), String> {
     play(run, 400, 50..=600, |_| WITHDRAWING)?;
@@ -134,7 +125,6 @@ fn captures_of_withdrawals(run: &mut Run) -> Result<(), String> {
 fn captures_of_wrong_arguments(run: &mut Run) -> Result<(), String> {
     play(run, 500, 10..=400, |_| WRONG_ARGUMENTS)?;
     run.demand(&OF_PLANNER.map(|refusal| (Seen::Refused(refusal), 80)))?;
-    run.demand(&[(Seen::Refused(FIRMWARE_ABOVE), 40)])?;
     run.demand(&OF_SENDER.map(|refusal| (Seen::Refused(refusal), 500)))
 }
 

@@ -1,7 +1,7 @@
 //! The kind `counts`: the counts of each stream, the choice that shows them and the call that asks for them, with the replies and octets that document
 //! 02, "Counts per stream", and its reading give: in lists, on ports of any content and length, at both ends of streams, choices and counts.
 
-use crate::call::{Call, Reply, QUERY};
+use crate::call::{Call, Reply};
 use crate::comparing::calls::{Profile, Weights, NEVER, ORDINARY};
 use crate::comparing::compared::Compared;
 use crate::comparing::counts::{questions, Counting, CHOICES_ABOVE, STREAMS_ABOVE};
@@ -76,7 +76,7 @@ const LIST: [(Call, Reply); 38] = [
     (arrive(63, 84), Reply::refused(14)),
     (arrive(5, 120), Reply::granted(1, 80)),
     (arrive(5, 83), Reply::refused(13)),
-    (Call::BestEffort { caller: QUERY, charge: 2_020, tag: 9 }, Reply::granted(2_020, 0)),
+    (Call::BestEffort { charge: 2_020, tag: 9 }, Reply::granted(2_020, 0)),
     (read(ACCEPTED), value(1)),
     (read(DISCARDED), ZEROS),
     (write(CHOICE, 63), ZEROS),
@@ -145,9 +145,9 @@ fn counts_of_a_list(run: &mut Run) -> Result<(), String> {
         list.call(read(ACCEPTED), value(1))?;
         list.call(asked(5), Reply::granted(2, 0))?;
         list.call(Call::Withdraw { stream: 63 }, Reply::refused(1))?;
-        list.call(Call::Open { link: 2_620, delay: 0, firmware: 0 }, Reply::refused(4))?;
+        list.call(Call::Open { link: 2_620, delay: 0 }, Reply::refused(4))?;
         list.call(asked(63), Reply::granted(1, 0))?;
-        list.call(Call::Open { link: 2_620, delay: 1, firmware: 0 }, Reply::granted(600, 0))?;
+        list.call(Call::Open { link: 2_620, delay: 1 }, Reply::granted(600, 0))?;
         list.call(read(CHOICE), ZEROS)?;
         [0, 5, 63].into_iter().try_for_each(|stream| list.call(asked(stream), ZEROS))?;
     }
@@ -169,7 +169,7 @@ fn counts_of_frames_and_best_effort(run: &mut Run) -> Result<(), String> {
     let frame = |vid: u8, length: usize| {
         let mut octets = [&[2; 6][..], &[0; 6], &[0x81, 0x00, 0x00, vid]].concat();
         octets.resize(length, 0);
-        Call::Frame { caller: QUERY, octets: octets.into(), tag: 3 }
+        Call::Frame { octets: octets.into(), tag: 3 }
     };
     for sides in BOTH_SORTS {
         for (choice, stream) in [(0, 63), (63, 63), (64, 63), (63, 0), (0, 0), (255, 31), (1, 31)] {
@@ -178,7 +178,7 @@ fn counts_of_frames_and_best_effort(run: &mut Run) -> Result<(), String> {
             list.call(write(CHOICE, choice), ZEROS)?;
             list.call(frame(7, 60), Reply::granted(1, 116))?;
             list.call(frame(8, 60), Reply::granted(84, 0))?;
-            list.call(Call::BestEffort { caller: QUERY, charge: 400, tag: 1 }, Reply::granted(484, 0))?;
+            list.call(Call::BestEffort { charge: 400, tag: 1 }, Reply::granted(484, 0))?;
             counted(&mut list, &[(stream, 1, 0)])?;
             list.call(frame(7, 177), Reply::refused(14))?;
             list.call(arrive(stream, 84), Reply::refused(14))?;

@@ -4,7 +4,6 @@
 use crate::comparing::calls::each_call;
 use crate::comparing::compared::Compared;
 use crate::comparing::coverage::{is_envelope, Seen};
-use crate::comparing::firmware::Loading;
 use crate::comparing::fit::Octets;
 use crate::comparing::random::Random;
 use crate::comparing::shapes::{each_shape_and_lengths, with_lengths, Shape};
@@ -12,7 +11,7 @@ use crate::comparing::sides::Side;
 use crate::comparing::test::Run;
 use crate::model::fitness::{memory_short, unfit};
 use crate::model::octets::frames;
-use crate::model::port::{BEST_EFFORT, FIRMWARE_STREAM, QUEUES};
+use crate::model::port::QUEUES;
 
 /// Tries each call on so many records of a shape.
 pub fn try_shape(run: &mut Run, sides: [Side; 2], shape: (&str, Shape), records: usize) -> Result<(), String> {
@@ -40,9 +39,7 @@ pub fn try_lengths(run: &mut Run, times: usize, lend: impl Fn(&Run, &mut Random,
 pub fn try_each_call(run: &mut Run, random: &mut Random, mut compared: Compared, octets: &Octets) -> Result<(), String> {
     let fit = unfit(&octets.record, &octets.memory).is_empty();
     run.coverage.count(if fit { Seen::FitRecord } else { Seen::UnfitRecord });
-    let judged = fit && !memory_short(&octets.memory);
-    run.coverage.add(Seen::EnvelopeWaits, u64::from(judged && envelope_waits(octets)));
-    run.coverage.add_loading(Loading::Waits, judged && firmware_waits(octets));
+    run.coverage.add(Seen::EnvelopeWaits, u64::from(fit && !memory_short(&octets.memory) && envelope_waits(octets)));
     for call in each_call(random, &octets.record) {
         compared.lend_again(&octets.record, &octets.memory);
         compared.call(run, &call)?;
@@ -53,9 +50,4 @@ pub fn try_each_call(run: &mut Run, random: &mut Random, mut compared: Compared,
 /// Whether an envelope frame waits in a queue of a fit record whose memory is long enough.
 fn envelope_waits(octets: &Octets) -> bool {
     (0..QUEUES).flat_map(|queue| frames(&octets.record, &octets.memory, queue)).any(|frame| is_envelope(frame.charge))
-}
-
-/// Whether a firmware frame waits in best effort of a fit record whose memory is long enough.
-fn firmware_waits(octets: &Octets) -> bool {
-    frames(&octets.record, &octets.memory, BEST_EFFORT).iter().any(|frame| frame.stream == FIRMWARE_STREAM)
 }

@@ -1,7 +1,7 @@
 //! Every charge, length and L about the ends of their ranges, with the replies that documents 01 and 02 give: frames of more than 1,518 octets as
 //! arrivals, as best effort and by their octets, and the share that is left where one of them is kept free.
 
-use crate::call::{Call, Reply, QUERY};
+use crate::call::{Call, Reply};
 use crate::comparing::coverage::Seen;
 use crate::comparing::fit::Octets;
 use crate::comparing::frames::Header;
@@ -32,7 +32,7 @@ fn charges_of_every_size(run: &mut Run) -> Result<(), String> {
             let of = |reply: Reply| if taken { reply } else { Reply::refused(CHARGE_OUTSIDE) };
             list.lend_again(&before);
             list.call(Call::Arrive { stream: 5, charge, tag: 1 }, of(Reply::granted(1, 3_000_u32.saturating_sub(charge))))?;
-            list.call(Call::BestEffort { caller: QUERY, charge, tag: 2 }, of(Reply::granted(charge, 0)))?;
+            list.call(Call::BestEffort { charge, tag: 2 }, of(Reply::granted(charge, 0)))?;
         }
     }
     run.demand(&[(Seen::EnvelopeJoined, 956), (Seen::EnvelopeBestEffort, 956), (Seen::Refused(CHARGE_OUTSIDE), 668)])
@@ -47,7 +47,7 @@ fn links_about_the_ends(run: &mut Run) -> Result<(), String> {
             list.lend_again(&Octets::zero());
             match (2_104..=23_524).contains(&link) {
                 true => filled_to_the_share(&mut list, link)?,
-                false => list.call(Call::Open { link, delay: 1, firmware: 0 }, Reply::refused(LINK_OUTSIDE))?,
+                false => list.call(Call::Open { link, delay: 1 }, Reply::refused(LINK_OUTSIDE))?,
             }
         }
     }
@@ -57,11 +57,11 @@ fn links_about_the_ends(run: &mut Run) -> Result<(), String> {
 /// An L in its range: the share is 2,020 less, all of it and no octet more can be reserved, and one frame of 2,020 fits beside it.
 fn filled_to_the_share(list: &mut Stated, link: u32) -> Result<(), String> {
     let share = link - 2_020;
-    list.call(Call::Open { link, delay: 1, firmware: 0 }, Reply::granted(share, 0))?;
+    list.call(Call::Open { link, delay: 1 }, Reply::granted(share, 0))?;
     list.call(Call::Reserve { stream: 5, permitted: share + 1 }, Reply::refused(SHARE_EXCEEDED))?;
     list.call(Call::Reserve { stream: 5, permitted: share }, Reply::granted(0, 0))?;
-    list.call(Call::BestEffort { caller: QUERY, charge: 2_020, tag: 1 }, Reply::granted(2_020, 0))?;
-    list.call(Call::BestEffort { caller: QUERY, charge: 84, tag: 1 }, Reply::refused(BEST_EFFORT_EXCEEDED))
+    list.call(Call::BestEffort { charge: 2_020, tag: 1 }, Reply::granted(2_020, 0))?;
+    list.call(Call::BestEffort { charge: 84, tag: 1 }, Reply::refused(BEST_EFFORT_EXCEEDED))
 }
 
 /// Envelope frames at current, next and last, as exact fits and one octet above, sent and purged whole.

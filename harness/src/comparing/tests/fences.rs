@@ -1,7 +1,7 @@
 //! The tests of the kind `quick` between fences: the proved calls, quick or not, touch no octet outside the slices that were lent, and write none of a
 //! slice that was lent to be read.
 
-use crate::call::{Call, QUERY};
+use crate::call::Call;
 use crate::comparing::calls::each_call;
 use crate::comparing::compared::Compared;
 use crate::comparing::counts::Counting;
@@ -97,7 +97,7 @@ fn slices_lent_to_be_read(run: &mut Run) -> Result<(), String> {
                     return Err(format!("{}, {side}: {call} writes a slice that it is lent to be read", run.place));
                 }
             }
-            let arrival = Call::BestEffort { caller: QUERY, charge: 84, tag: 1 };
+            let arrival = Call::BestEffort { charge: 84, tag: 1 };
             let noticed = !kept_by(run, side, &arrival, &octets, [false, true]);
             run.coverage.add(Seen::WriteNoticed, u64::from(noticed));
         }

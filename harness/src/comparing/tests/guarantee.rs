@@ -17,7 +17,7 @@ use crate::guarantee::found::{Alike, Broken, Found, Prompt};
 use crate::guarantee::list::{Event, Playing};
 use crate::guarantee::writing::{write, write_any, Manner, Service};
 use crate::guarantee::{alike, becoming};
-use crate::model::port::{DELAYS, LINKS, STREAMS};
+use crate::model::port::{LINKS, STREAMS};
 use crate::model::refusal::NOT_RESERVED;
 use crate::{exports, layout};
 
@@ -40,7 +40,7 @@ pub const TESTS: [Test; 14] = [
 ];
 
 /// The proved calls and quick calls, on which lists are played in turn.
-pub const PROVED: [Side; 2] = [Side::Exports, Side::Quick];
+const PROVED: [Side; 2] = [Side::Exports, Side::Quick];
 
 /// How many events before a broken claim its report tells.
 const TOLD: usize = 12;
@@ -53,11 +53,9 @@ const fn test(name: &'static str, body: fn(&mut Run) -> Result<(), String>) -> T
 }
 
 /// Streams that overfill beside streams that offer all they may and no more, with the share filled and the link serving either way.
-pub const OVERFILLED: Manner = Manner {
+const OVERFILLED: Manner = Manner {
     links: 2_620..=12_478,
-    delays: DELAYS,
     streams: 2..=12,
-    at_once: 90,
     conforming: 50,
     ceasing: 0,
     least: false,
@@ -67,7 +65,6 @@ pub const OVERFILLED: Manner = Manner {
     turns: 0..=30,
     best_effort: 3,
     transmit: 8,
-    firmware: 30,
     services: &[Service::Share, Service::Share, Service::Share, Service::Idle],
     ticks: 4..=14,
     withdrawn: 0,
@@ -145,7 +142,6 @@ fn lists_of_any_calls(run: &mut Run) -> Result<(), String> {
     demand(run, &[(FrameArrival, 30_000), (FrameBestEffort, 60_000), (FrameCompared, 40_000)])?;
     demand(run, &[(Withdrawal, 3_000), (RefusedDraining, 10_000), (RefusedFree, 500), (GrantedAgain, 1_000), (WithdrawalCompared, 500)])?;
     demand(run, &[(CountAsked, 25_000), (CountShown, 7_000), (CountOfNone, 1_000), (DiscardsTold, 15_000), (CountedAnew, 1_500)])?;
-    demand(run, &[(QueryBeside, 3_000), (QueryRefused, 6_000), (QueryRefusedAfterReservation, 200), (LoadStopped, 5_000)])?;
     demand(run, &[(ControlTick, 10_000), (ControlTransmit, 20_000), (CountCompared, 12_000)])
 }
 
@@ -287,7 +283,7 @@ fn of_counts_where_withdrawals_are_refused(run: &mut Run) -> Result<(), String> 
 }
 
 /// Fails if lists showed a thing less often than is asked at full size.
-pub fn demand(run: &Run, demands: &[(Shown, u64)]) -> Result<(), String> {
+fn demand(run: &Run, demands: &[(Shown, u64)]) -> Result<(), String> {
     let demands: Vec<(Seen, u64)> = demands.iter().map(|&(shown, times)| (Seen::Shown(shown), times)).collect();
     run.demand(&demands)
 }
@@ -302,12 +298,12 @@ fn any_list(random: &mut Random, play: Play, begin: &Octets) -> Vec<Event> {
 }
 
 /// Writes lists in a manner.
-pub fn in_manner(manner: &Manner) -> impl Fn(&mut Random, Play, &Octets) -> Vec<Event> + '_ {
+fn in_manner(manner: &Manner) -> impl Fn(&mut Random, Play, &Octets) -> Vec<Event> + '_ {
     |random, play, begin| write(random, play, begin, manner)
 }
 
 /// What a list's Open is given: closed and fit, or, for the quick calls, closed and any octets.
-pub fn a_port_to_open(random: &mut Random, side: Side) -> Octets {
+fn a_port_to_open(random: &mut Random, side: Side) -> Octets {
     let mut octets = if side == Side::Quick { Octets::any(random) } else { a_closed_port(random) };
     if octets.is_open() {
         octets.record[layout::OPEN] = no_mark(random);
@@ -316,7 +312,7 @@ pub fn a_port_to_open(random: &mut Random, side: Side) -> Octets {
 }
 
 /// Holds so many lists against the demand, played on the sides in turn, each alone and beside lists that are alike in one stream's own calls.
-pub fn hold(run: &mut Run, sides: &[Side], lists: usize, write: impl Fn(&mut Random, Play, &Octets) -> Vec<Event>) -> Result<(), String> {
+fn hold(run: &mut Run, sides: &[Side], lists: usize, write: impl Fn(&mut Random, Play, &Octets) -> Vec<Event>) -> Result<(), String> {
     for number in 0..run.scaled(lists) {
         let side = sides[number % sides.len()];
         let mut random = run.next_list();
@@ -336,8 +332,7 @@ fn hold_one(run: &mut Run, side: Side, events: &[Event]) -> Result<Found, String
     run.calls += events.len() as u64;
     let numbers = (run.sides.numbers)(events).map_err(|broken| report(run, side, events, &broken))?;
     let counts = (run.sides.counts)(events).map_err(|broken| report(run, side, events, &broken))?;
-    let queries = (run.sides.queries)(events).map_err(|broken| report(run, side, events, &broken))?;
-    for (shown, times) in found.shown().into_iter().chain(numbers.shown()).chain(counts.shown()).chain(queries.shown()) {
+    for (shown, times) in found.shown().into_iter().chain(numbers.shown()).chain(counts.shown()) {
         run.coverage.add(Seen::Shown(shown), times);
     }
     Ok(found)
@@ -351,7 +346,6 @@ fn hold_pair(run: &mut Run, random: &mut Random, side: Side, events: &[Event]) -
     (run.sides.check)(&other).map_err(|broken| report(run, side, &other, &broken))?;
     (run.sides.numbers)(&other).map_err(|broken| report(run, side, &other, &broken))?;
     (run.sides.counts)(&other).map_err(|broken| report(run, side, &other, &broken))?;
-    (run.sides.queries)(&other).map_err(|broken| report(run, side, &other, &broken))?;
     run.calls += other.len() as u64;
     match (run.sides.pair)(events, &other, stream).map_err(|words| format!("{}, {side}: {words}", run.place))? {
         Some(Alike { arrivals, frames, withdrawals, counts }) => {
@@ -381,7 +375,7 @@ fn a_stream_of(random: &mut Random, events: &[Event]) -> u8 {
 }
 
 /// All that a person needs to see a broken claim again.
-pub fn report(run: &Run, side: Side, events: &[Event], broken: &Broken) -> String {
+fn report(run: &Run, side: Side, events: &[Event], broken: &Broken) -> String {
     let shown = broken.call.saturating_sub(TOLD)..=broken.call;
     let told: Vec<String> = events.iter().enumerate().filter(|(number, _)| shown.contains(number)).map(told).collect();
     format!("{}, {side}: call {}: {}\n    {}\n    {}", run.place, broken.call, broken.words, events[0].call, told.join("; "))
@@ -394,7 +388,7 @@ fn told((number, event): (usize, &Event)) -> String {
 
 /// L 2,620, with a share of 600, and stream 5, which may have all of it and offers it three times over before the first tick.
 const THREE_TIMES_THE_SHARE: [Call; 8] = [
-    Call::Open { link: 2_620, delay: 1, firmware: 0 },
+    Call::Open { link: 2_620, delay: 1 },
     Call::Reserve { stream: 5, permitted: 600 },
     Call::Arrive { stream: 5, charge: 300, tag: 0 },
     Call::Arrive { stream: 5, charge: 300, tag: 0 },
@@ -423,7 +417,7 @@ fn is_tight(run: &mut Run) -> Result<(), String> {
     let epoch = [Call::Tick, Call::Transmit, Call::Transmit];
     let just_served = [&THREE_TIMES_THE_SHARE[..], &epoch, &epoch, &epoch, &[Call::Tick]].concat();
     let one_too_few = [&THREE_TIMES_THE_SHARE[..], &epoch, &epoch, &epoch[..2], &[Call::Tick]].concat();
-    let one_octet_too_few = [&[Call::Open { link: 2_621, delay: 1, firmware: 0 }], &just_served[1..]].concat();
+    let one_octet_too_few = [&[Call::Open { link: 2_621, delay: 1 }], &just_served[1..]].concat();
     let conforming = [&THREE_TIMES_THE_SHARE[..4], &epoch, &[Call::Transmit, Call::Tick]].concat();
     let late = Prompt { current: 2, sent: 2, after_first: 2 };
     let granted_again =

@@ -1,10 +1,9 @@
 //! The kind `lists`: long lists of calls, the proved calls against the model, each test with one profile of steps.
 
-use crate::call::{Call, Reply, QUERY};
+use crate::call::{Call, Reply};
 use crate::comparing::calls::{Charges, Permitted, Profile, Weights, NEVER, ORDINARY};
 use crate::comparing::compared::{Compared, Step};
 use crate::comparing::coverage::Seen;
-use crate::comparing::firmware::Loading;
 use crate::comparing::fit::Octets;
 use crate::comparing::profiles::{
     self, any_profile, few_ticks, FEW_STREAMS, FULL_LINK, HARDLY_ANY_TRANSMITS, MANY_STREAMS, WRONG_ARGUMENTS,
@@ -125,18 +124,13 @@ fn to_the_limit(run: &mut Run, delay: u32) -> Result<(), String> {
     let link = random.between(LINKS);
     let permitted = random.between(LEAST_PERMITTED..=link - LARGEST_CHARGE);
     let reserved = if random.chance(80) { permitted } else { 0 };
-    compared.expect(run, &Call::Open { link, delay, firmware: 0 }, |reply| reply.refusal == 0, "a granted open")?;
+    compared.expect(run, &Call::Open { link, delay }, |reply| reply.refusal == 0, "a granted open")?;
     if reserved > 0 {
         compared.expect(run, &Call::Reserve { stream: 63, permitted }, |reply| reply.refusal == 0, "a granted reserve")?;
     }
     let (limit, mut waits) = (delay * (link - reserved), 0);
     let mut offer = |run: &mut Run, charge: u32, reply: Reply| {
-        compared.expect(
-            run,
-            &Call::BestEffort { caller: QUERY, charge, tag: charge },
-            |got| *got == reply,
-            &format!("{reply}, with limit {limit}"),
-        )
+        compared.expect(run, &Call::BestEffort { charge, tag: charge }, |got| *got == reply, &format!("{reply}, with limit {limit}"))
     };
     while limit - waits > LARGEST_CHARGE - 1 {
         let charge = LARGEST_CHARGE.min(limit - waits - LEAST_CHARGE);
@@ -188,7 +182,6 @@ fn arguments_out_of_range(run: &mut Run) -> Result<(), String> {
     run.demand(&[(Seen::Refused(VID_OUTSIDE), 400), (Seen::Refused(BOUND_ALREADY), 30), (Seen::Refused(PAIR_BOUND_ALREADY), 200)])?;
     run.demand(&[(Seen::FrameRefused(FRAME_LENGTH), 2_000), (Seen::FrameRefused(PORT_CLOSED), 200)])?;
     run.demand(&[(Seen::Withdrawn, 300), (Seen::Refused(DRAINING), 1_000)])?;
-    run.demand(&[(Seen::Refused(FIRMWARE_ABOVE), 100), (Seen::Loading(Loading::AboveAndOpen), 500)])?;
     run.demand(&[(Seen::ReadRefused(REGISTER_OFFSET), 1_000), (Seen::WriteRefused(REGISTER_OFFSET), 1_000)])
 }
 
@@ -201,7 +194,6 @@ fn mixture(run: &mut Run) -> Result<(), String> {
     run.demand(&[(Seen::Opened, 500), (Seen::Reserved, 1_500), (Seen::Ticked, 5_000), (Seen::Refused(DISCARD), 1_000)])?;
     run.demand(&[(Seen::BestEffort, 3_000), (Seen::SentFromBestEffort, 1_000), (Seen::Refused(BEST_EFFORT_EXCEEDED), 1_000)])?;
     run.demand(&[(Seen::Bound, 1_000), (Seen::FrameArrived, 2_000), (Seen::FrameBestEffort, 5_000)])?;
-    run.demand(&[Loading::Joined, Loading::Sent, Loading::QuerySent].map(|loading| (Seen::Loading(loading), 800)))?;
     run.demand(&[(Seen::Withdrawn, 800), (Seen::Freed, 600), (Seen::GrantedAgain, 60), (Seen::Refused(DRAINING), 2_000)])?;
     demand_registers(run, 60)
 }

@@ -1,7 +1,7 @@
 //! The kind `lookups`: the proved lookup against the outside program's, with the numbers that document 02, "Compare the VLAN id first", and its
 //! reading give, in lists with Binds and Withdraws, on records of any content and on ports of any length; and Frame and Bind against the lookup.
 
-use crate::call::{Call, Reply, QUERY};
+use crate::call::{Call, Reply};
 use crate::comparing::calls::{Permitted, Profile, Weights, NEVER, ORDINARY};
 use crate::comparing::compared::{Compared, Step};
 use crate::comparing::coverage::Seen;
@@ -264,7 +264,7 @@ fn by_the_lookup(run: &mut Run, random: &mut Random, play: Play, octets: &Octets
         let (found, _) = played(play, &lookup, octets);
         let tag = random.number();
         let becomes = match found.first {
-            NONE => Call::BestEffort { caller: QUERY, charge: 84, tag },
+            NONE => Call::BestEffort { charge: 84, tag },
             stream => Call::Arrive { stream: stream as u8, charge: 84, tag },
         };
         if of_a_frame < 4_096 {

@@ -1,10 +1,9 @@
 //! The tests of each kind: `streams` holds the rule of one stream by itself against the model; `lists` and `sample` hold the calls against the model
 //! on lists of calls, `records` on records of any content, and `quick` and `fences` are about the quick calls and about octets outside the lent ones;
-//! `bindings` and `frames` are about Bind and Frame, `withdrawals` about Withdraw and draining streams, `firmware` about the callers of best effort,
-//! `registers` and `register_lists` about the registers, `counts` about the counts of each stream, `lookups` about the binding lookup, `envelopes`
-//! about charges, lengths and L at the ends of their ranges; `guarantee` holds lists of calls against demand 3, and `loads` against what firmware
-//! leaves to queries; `captures` and `damaged` hold the program `replay` against the outside program's, and `failing` is about its input and output
-//! themselves.
+//! `bindings` and `frames` are about Bind and Frame, `withdrawals` about Withdraw and draining streams, `registers` and `register_lists` about the
+//! registers, `counts` about the counts of each stream, `lookups` about the binding lookup, `envelopes` about charges, lengths and L at the ends of
+//! their ranges; `guarantee` holds lists of calls against demand 3; `captures` and `damaged` hold the program `replay` against the outside program's,
+//! and `failing` is about its input and output themselves.
 
 pub mod bindings;
 pub mod captures;
@@ -14,11 +13,9 @@ pub mod each_call;
 pub mod envelopes;
 pub mod failing;
 pub mod fences;
-pub mod firmware;
 pub mod frames;
 pub mod guarantee;
 pub mod lists;
-pub mod loads;
 pub mod lookups;
 pub mod quick;
 pub mod records;
@@ -33,9 +30,8 @@ use crate::comparing::test::Test;
 /// All tests, in the order in which they are run.
 pub fn all() -> Vec<Test> {
     let of_calls = [&streams::TESTS[..], &sample::TESTS, &envelopes::TESTS, &lists::TESTS, &records::TESTS, &quick::TESTS, &fences::TESTS];
-    let of_frames = [&bindings::TESTS[..], &frames::TESTS, &withdrawals::TESTS, &firmware::TESTS];
+    let of_frames = [&bindings::TESTS[..], &frames::TESTS, &withdrawals::TESTS];
     let of_registers = [&registers::TESTS[..], &register_lists::TESTS, &counts::TESTS, &lookups::TESTS];
     let of_captures = [&captures::TESTS[..], &damaged::TESTS, &failing::TESTS];
-    let of_lists = [&guarantee::TESTS[..], &loads::TESTS];
-    [of_calls.concat(), of_frames.concat(), of_registers.concat(), of_lists.concat(), of_captures.concat()].concat()
+    [of_calls.concat(), of_frames.concat(), of_registers.concat(), guarantee::TESTS.to_vec(), of_captures.concat()].concat()
 }

@@ -4,7 +4,6 @@ use crate::comparing::broken;
 use crate::comparing::compared::Compared;
 use crate::comparing::counts::Counting;
 use crate::comparing::coverage::Seen;
-use crate::comparing::firmware::Loading;
 use crate::comparing::profiles::{any_profile, few_ticks};
 use crate::comparing::registers::EVERY_COUNT;
 use crate::comparing::shapes::{any_fit, any_open, bindings_of_every_sort, extreme, SHAPES};
@@ -47,12 +46,6 @@ fn as_the_call_on_fit_records(run: &mut Run) -> Result<(), String> {
     run.demand(&[BEST_EFFORT_FULL, BEST_EFFORT_EXCEEDED].map(|refusal| (Seen::Refused(refusal), 1_000)))?;
     run.demand(&[(Seen::BestEffort, 5_000), (Seen::BestEffortAtLimit, 200)])?;
     run.demand(&[VID_OUTSIDE, BOUND_ALREADY, PAIR_BOUND_ALREADY].map(|refusal| (Seen::Refused(refusal), 300)))?;
-    run.demand(&[
-        (Seen::Refused(FIRMWARE_ABOVE), 300),
-        (Seen::Refused(FIRMWARE_EXCEEDED), 3_000),
-        (Seen::Loading(Loading::Joined), 5_000),
-    ])?;
-    run.demand(&[(Seen::Loading(Loading::Waits), 3_000), (Seen::Loading(Loading::AboveBoth), 3_000), (Seen::Loading(Loading::Sent), 100)])?;
     run.demand(
         &[DISCARD, BEST_EFFORT_FULL, BEST_EFFORT_EXCEEDED, FRAME_LENGTH, QUEUE_FULL].map(|refusal| (Seen::FrameRefused(refusal), 300)),
     )?;
@@ -86,8 +79,6 @@ fn as_defined_on_every_shape(run: &mut Run) -> Result<(), String> {
     run.demand(&[BEST_EFFORT_FULL, BEST_EFFORT_EXCEEDED].map(|refusal| (Seen::Refused(refusal), 1_000)))?;
     run.demand(&[(Seen::BestEffort, 5_000), (Seen::BestEffortAtLimit, 200), (Seen::BestEffortWrapped, 500)])?;
     run.demand(&[(Seen::FrameRefused(NOT_RESERVED), 2_000), (Seen::Refused(PAIR_BOUND_ALREADY), 500), (Seen::AllBound, 5)])?;
-    run.demand(&[Loading::Joined, Loading::AboveAndFull, Loading::AboveBoth].map(|loading| (Seen::Loading(loading), 5_000)))?;
-    run.demand(&[(Seen::Loading(Loading::Sent), 200), (Seen::Refused(FIRMWARE_EXCEEDED), 3_000), (Seen::Refused(FIRMWARE_ABOVE), 1_000)])?;
     run.demand(&[(Seen::Bound, 5_000), (Seen::FrameArrived, 3_000), (Seen::FrameBestEffort, 5_000)])?;
     run.demand(&[(Seen::Withdrawn, 5_000), (Seen::Freed, 3_000), (Seen::FrameRefused(DRAINING), 500)])?;
     run.demand(&OF_DRAINING.map(|seen| (seen, 500)))?;
@@ -100,7 +91,6 @@ fn as_defined_in_lists(run: &mut Run) -> Result<(), String> {
     play(run, WITH_DEFINITION, &Plan { lists: 500, calls: 300, begin: any_open }, any_profile)?;
     play(run, WITH_DEFINITION, &Plan { lists: 300, calls: 150, begin: bindings_of_every_sort }, any_profile)?;
     run.demand(&[(Seen::JoinedElsewhere, 500), (Seen::SentFromBestEffort, 500), (Seen::Refused(QUEUE_FULL), 500)])?;
-    run.demand(&[Loading::Joined, Loading::Sent, Loading::QuerySent].map(|loading| (Seen::Loading(loading), 1_000)))?;
     run.demand(&[(Seen::BestEffort, 1_000), (Seen::Refused(BEST_EFFORT_FULL), 500), (Seen::Refused(BEST_EFFORT_EXCEEDED), 1_000)])?;
     run.demand(&[(Seen::Bound, 2_000), (Seen::FrameArrived, 4_000), (Seen::FrameRefused(NOT_RESERVED), 500)])?;
     run.demand(&[(Seen::Withdrawn, 2_000), (Seen::Freed, 2_000), (Seen::GrantedAgain, 200), (Seen::Refused(DRAINING), 5_000)])?;

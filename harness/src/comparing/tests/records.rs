@@ -6,7 +6,6 @@ use crate::comparing::calls::each_call;
 use crate::comparing::compared::Compared;
 use crate::comparing::counts::Counting;
 use crate::comparing::coverage::Seen;
-use crate::comparing::firmware::Loading;
 use crate::comparing::fit::Octets;
 use crate::comparing::registers::{is_outside, EVERY_COUNT};
 use crate::comparing::shapes::{any_fit, any_open, bindings_of_every_sort, near_fit, sparse, zeros_and_ones};
@@ -60,16 +59,6 @@ fn fit_records(run: &mut Run) -> Result<(), String> {
         (Seen::BestEffortWrapped, 50),
     ])?;
     run.demand(&[VID_OUTSIDE, BOUND_ALREADY, PAIR_BOUND_ALREADY].map(|refusal| (Seen::Refused(refusal), 50)))?;
-    run.demand(&[
-        (Seen::Refused(FIRMWARE_ABOVE), 50),
-        (Seen::Refused(FIRMWARE_EXCEEDED), 500),
-        (Seen::FrameRefused(FIRMWARE_EXCEEDED), 100),
-    ])?;
-    run.demand(
-        &[Loading::Joined, Loading::AboveBoth, Loading::AboveAndFull, Loading::QueryPast, Loading::OfOther]
-            .map(|met| (Seen::Loading(met), 400)),
-    )?;
-    run.demand(&[Loading::Waits, Loading::JoinedByOctets, Loading::Arrived, Loading::AboveAndOpen].map(|met| (Seen::Loading(met), 200)))?;
     run.demand(
         &[DISCARD, BEST_EFFORT_FULL, BEST_EFFORT_EXCEEDED, FRAME_LENGTH, QUEUE_FULL].map(|refusal| (Seen::FrameRefused(refusal), 50)),
     )?;
@@ -138,12 +127,12 @@ fn clauses_of_bindings(run: &mut Run) -> Result<(), String> {
     break_each(run, &OF_BINDINGS)
 }
 
-/// 19 for waiting frames, for W and for the firmware octets that wait.
+/// 19 for waiting frames and for W.
 fn clauses_of_frames(run: &mut Run) -> Result<(), String> {
     break_each(run, &OF_FRAMES)
 }
 
-/// 19 for L, K, F and P, on an open port alone.
+/// 19 for L, K and P, on an open port alone.
 fn clauses_of_open_ports(run: &mut Run) -> Result<(), String> {
     break_each(run, &OF_OPEN_PORTS)
 }

@@ -1,7 +1,7 @@
 //! The kind `registers`, reads and writes with the replies and octets that document 02 gives, on ports of any content and length; lists with them are
 //! in `register_lists`, and what is said of the counts of each stream in `counts`: here stream 5 is chosen, where counts are read.
 
-use crate::call::{Call, Reply, QUERY};
+use crate::call::{Call, Reply};
 use crate::comparing::compared::Compared;
 use crate::comparing::coverage::Seen;
 use crate::comparing::fit::Octets;
@@ -75,7 +75,7 @@ const LIST: [(Call, Reply); 53] = [
     (read(STATUS), value(1)),
     (arrive(120, 7), Reply::granted(1, 80)),
     (read(ACCEPTED), value(1)),
-    (Call::BestEffort { caller: QUERY, charge: 2_020, tag: 9 }, Reply::granted(2_020, 0)),
+    (Call::BestEffort { charge: 2_020, tag: 9 }, Reply::granted(2_020, 0)),
     (read(ACCEPTED), value(1)),
     (arrive(201, 1), Reply::refused(14)),
     (read(FLAGS), value(1)),
@@ -115,7 +115,7 @@ const LIST: [(Call, Reply); 53] = [
     (read(ACCEPTED), value(2)),
     (read(DISCARDED), value(1)),
     (read(SENT), value(2)),
-    (Call::Open { link: 2_620, delay: 1, firmware: 0 }, Reply::refused(2)),
+    (Call::Open { link: 2_620, delay: 1 }, Reply::refused(2)),
     (read(FLAGS), value(6)),
 ];
 
@@ -136,10 +136,10 @@ const CLOSED: [(Call, Reply); 26] = [
     (write(FLAGS, 5), ZEROS),
     (read(FLAGS), ZEROS),
     (read(SENT), value(2)),
-    (Call::Open { link: 2_103, delay: 1, firmware: 0 }, Reply::refused(3)),
+    (Call::Open { link: 2_103, delay: 1 }, Reply::refused(3)),
     (read(MASK), value(3)),
     (read(CHOICE), value(5)),
-    (Call::Open { link: 2_620, delay: 1, firmware: 0 }, Reply::granted(600, 0)),
+    (Call::Open { link: 2_620, delay: 1 }, Reply::granted(600, 0)),
     (read(STATUS), value(1)),
     (read(FLAGS), ZEROS),
     (read(MASK), ZEROS),
@@ -179,7 +179,7 @@ fn registers_of_frames_and_refusals(run: &mut Run) -> Result<(), String> {
         let octets = |vid: u8, length: usize| {
             let mut octets = [&[2; 6][..], &[0; 6], &[0x81, 0x00, 0x00, vid]].concat();
             octets.resize(length, 0);
-            Call::Frame { caller: QUERY, octets: octets.into(), tag: 3 }
+            Call::Frame { octets: octets.into(), tag: 3 }
         };
         list.call(octets(7, 60), Reply::granted(1, 116))?;
         list.call(octets(8, 60), Reply::granted(84, 0))?;
@@ -194,10 +194,8 @@ fn registers_of_frames_and_refusals(run: &mut Run) -> Result<(), String> {
         counted(&mut list, 1, [1, 2, 0])?;
         let of_stream = |stream: u8, charge: u32| Call::Arrive { stream, charge, tag: 1 };
         let refused = [(of_stream(6, 84), 25), (of_stream(7, 84), 12), (of_stream(64, 84), 5), (of_stream(5, 83), 13)];
-        let refused = refused.into_iter().chain([
-            (Call::BestEffort { caller: QUERY, charge: 83, tag: 1 }, 13),
-            (Call::BestEffort { caller: QUERY, charge: 500, tag: 1 }, 16),
-        ]);
+        let refused =
+            refused.into_iter().chain([(Call::BestEffort { charge: 83, tag: 1 }, 13), (Call::BestEffort { charge: 500, tag: 1 }, 16)]);
         for (call, refusal) in refused {
             list.call(call, Reply::refused(refusal))?;
         }
@@ -226,11 +224,9 @@ fn full_queues_count_nothing(list: &mut Stated) -> Result<(), String> {
     let frame = |vid: u8| {
         let mut octets = [&[2; 6][..], &[0; 6], &[0x81, 0x00, 0x00, vid]].concat();
         octets.resize(60, 0);
-        Call::Frame { caller: QUERY, octets: octets.into(), tag: 3 }
+        Call::Frame { octets: octets.into(), tag: 3 }
     };
-    for (call, refusal) in
-        [(frame(7), 20), (arrive(84, 1), 20), (frame(8), 15), (Call::BestEffort { caller: QUERY, charge: 84, tag: 1 }, 15)]
-    {
+    for (call, refusal) in [(frame(7), 20), (arrive(84, 1), 20), (frame(8), 15), (Call::BestEffort { charge: 84, tag: 1 }, 15)] {
         list.call(call, Reply::refused(refusal))?;
     }
     counted(list, 1, [1, 2, 0])
@@ -441,7 +437,7 @@ fn counts_wrap_and_marks_of_any_content(run: &mut Run) -> Result<(), String> {
 
 /// A granted Open writes zeros to the whole block and nothing past it, whatever stood there; a refused one nothing. Its emptying is no purge.
 fn opening_zeroes_the_block(run: &mut Run) -> Result<(), String> {
-    let refused = [(Call::Open { link: 2_103, delay: 1, firmware: 0 }, 3), (Call::Open { link: 2_620, delay: 17, firmware: 0 }, 4)];
+    let refused = [(Call::Open { link: 2_103, delay: 1 }, 3), (Call::Open { link: 2_620, delay: 17 }, 4)];
     for _ in 0..run.scaled(100) {
         for sides in BOTH_SORTS {
             let mut random = run.next_record("blocks that an opening zeroes");
@@ -452,12 +448,7 @@ fn opening_zeroes_the_block(run: &mut Run) -> Result<(), String> {
                 compared.expect(run, call, |reply| reply.refusal == *refusal, "a refusal")?;
             }
             let kept = compared.record() == octets.record;
-            compared.expect(
-                run,
-                &Call::Open { link: 2_620, delay: 1, firmware: 0 },
-                |reply| *reply == Reply::granted(600, 0),
-                "0 600 0",
-            )?;
+            compared.expect(run, &Call::Open { link: 2_620, delay: 1 }, |reply| *reply == Reply::granted(600, 0), "0 600 0")?;
             let after = compared.record();
             if !kept || after[RECORD..PORT] != [0; PORT - RECORD] || after[PORT..] != octets.record[PORT..] {
                 return Err(format!("{}: an opening leaves the block other than it is to", run.place));

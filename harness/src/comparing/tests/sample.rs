@@ -1,6 +1,6 @@
 //! Document 01's sample and its cases C1 to C12, with the replies that the document states, through the proved calls and the model.
 
-use crate::call::{Call, Reply, QUERY};
+use crate::call::{Call, Reply};
 use crate::comparing::compared::Compared;
 use crate::comparing::fit::Octets;
 use crate::comparing::sides::Side;
@@ -18,7 +18,7 @@ type Stated = (Call, Reply);
 
 /// Open(L, 1).
 const fn open(link: u32, reply: Reply) -> Stated {
-    (Call::Open { link, delay: 1, firmware: 0 }, reply)
+    (Call::Open { link, delay: 1 }, reply)
 }
 
 /// A Reserve.
@@ -33,7 +33,7 @@ const fn arrive(charge: u32, tag: u32, reply: Reply) -> Stated {
 
 /// A Best effort.
 const fn best_effort(charge: u32, tag: u32, reply: Reply) -> Stated {
-    (Call::BestEffort { caller: QUERY, charge, tag }, reply)
+    (Call::BestEffort { charge, tag }, reply)
 }
 
 /// Open of the cases: L 2,620.

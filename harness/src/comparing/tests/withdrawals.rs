@@ -1,7 +1,7 @@
 //! The kind `withdrawals`: Withdraw and draining streams, with the replies and octets that document 02 gives, on records of any content, and in lists
 //! in which streams drain and their numbers are granted again.
 
-use crate::call::{Call, Reply, QUERY};
+use crate::call::{Call, Reply};
 use crate::comparing::calls::{Profile, Weights};
 use crate::comparing::compared::Compared;
 use crate::comparing::coverage::{Asked, Seen};
@@ -172,7 +172,7 @@ const WHILE_DRAINING: [(Call, u8); 8] = [
     (bind(5, UNBOUND, VID), 25),
     (bind(6, ONE, VID), 11),
     (reserve(7, 101), 8),
-    (Call::BestEffort { caller: QUERY, charge: 101, tag: 1 }, 16),
+    (Call::BestEffort { charge: 101, tag: 1 }, 16),
     (withdraw(7), 12),
 ];
 
@@ -184,7 +184,7 @@ fn withdrawn_and_asked_at_every_tick(run: &mut Run) -> Result<(), String> {
         for (place, left) in [(1, 200), (2, 200), (3, 0)] {
             list.call(Call::Arrive { stream: 5, charge: 200, tag: place }, Reply::granted(place, left))?;
         }
-        list.call(Call::BestEffort { caller: QUERY, charge: 2_020, tag: 7 }, Reply::granted(2_020, 0))?;
+        list.call(Call::BestEffort { charge: 2_020, tag: 7 }, Reply::granted(2_020, 0))?;
         list.withdrawn(5)?;
         for sent in [Some(1), Some(2), Some(3), None] {
             for (call, refusal) in WHILE_DRAINING {
@@ -207,8 +207,8 @@ fn free_after_draining(list: &mut Stated) -> Result<(), String> {
         list.call(call, Reply::refused(refusal))?;
     }
     list.frame(&Header::tagged(ONE, VID as u16), 60, 1, Reply::granted(2_104, 0))?;
-    list.call(Call::BestEffort { caller: QUERY, charge: 217, tag: 1 }, Reply::refused(16))?;
-    list.call(Call::BestEffort { caller: QUERY, charge: 216, tag: 1 }, Reply::granted(2_320, 0))?;
+    list.call(Call::BestEffort { charge: 217, tag: 1 }, Reply::refused(16))?;
+    list.call(Call::BestEffort { charge: 216, tag: 1 }, Reply::granted(2_320, 0))?;
     list.call(reserve(5, 300), ZEROS)?;
     list.bound(6, (ONE, VID))?;
     list.call(bind(5, ONE, VID), Reply::refused(11))?;
@@ -346,7 +346,7 @@ fn open_ends_all_draining(run: &mut Run) -> Result<(), String> {
             octets.record[layout::entry(stream) + 6] = 1 + stream as u8 * 4;
         }
         let mut list = Stated::on(run, sides, &octets);
-        list.call(Call::Open { link: 2_620, delay: 1, firmware: 0 }, Reply::granted(600, 0))?;
+        list.call(Call::Open { link: 2_620, delay: 1 }, Reply::granted(600, 0))?;
         let record = list.record();
         if (0..64).any(|stream| [0, 6, 7].map(|octet| record[layout::entry(stream) + octet]) != [0; 3]) {
             return Err(String::from("a granted Open leaves a mark or a draining count in an entry"));

@@ -5,7 +5,7 @@ use crate::call::Call;
 use crate::comparing::random::Random;
 use crate::conformance::groups::numbers;
 use crate::conformance::groups::played::Played;
-use crate::model::port::{DELAYS, LEAST_PERMITTED};
+use crate::model::port::{CHARGES, DELAYS, LARGEST_CHARGE, LEAST_CHARGE, LEAST_PERMITTED};
 
 /// How many values K has: each is tried with the same random numbers.
 pub const DELAY_COUNT: usize = (*DELAYS.end() - *DELAYS.start() + 1) as usize;
@@ -28,10 +28,14 @@ pub fn events(random: &mut Random, delay: usize) -> Vec<Call> {
     played.events()
 }
 
-/// A best-effort frame near what the limit still takes.
+/// A best-effort frame near what the limit still takes; far from it most often a large one.
 fn offer(random: &mut Random, played: &mut Played) {
-    let charge = numbers::charge_near_limit(random, played.room());
-    played.best_effort(charge);
+    let room = played.room();
+    let near = [room, room, room, room + 1, room + 1, room.saturating_sub(1), room.saturating_sub(LEAST_CHARGE), LEAST_CHARGE];
+    let chosen = random.pick(&near);
+    let any = random.between(CHARGES);
+    let far = random.pick(&[LARGEST_CHARGE, LARGEST_CHARGE, any]);
+    played.best_effort(if CHARGES.contains(&chosen) { chosen } else { far });
 }
 
 /// A reservation of one of the streams, which lowers the limit.

@@ -1,7 +1,7 @@
 //! The group `damaged`: files that are no good captures, at each thing of which refusals 21 to 24 speak; files of which two things are wrong, so that
 //! the order of the checks decides; and files whose faults nobody looks at.
 
-use crate::call::{Call, QUERY};
+use crate::call::Call;
 use crate::comparing::random::Random;
 use crate::conformance::groups::chains::{among_each_other, Chains, NO_PORT};
 use crate::conformance::groups::mixed;
@@ -48,8 +48,8 @@ const DAMAGES: [Damage; 36] = [
     |random, file| file.put(file.any(random), KIND_AT, 0),
     |random, file| file.put(file.any(random), KIND_AT, 7),
     |random, file| file.put(file.any(random), KIND_AT, random.pick(&[9, 0x81, 255])),
-    stream_octet_without_stream,
-    |random, file| file.put(file.of_kind(random, &[BEST_EFFORT]), STREAM_AT, random.pick(&[0, 63, 252, 254])),
+    |random, file| file.put(file.of_kind(random, &[OPEN, TICK, TRANSMIT]), STREAM_AT, random.pick(&[1, 255])),
+    |random, file| file.put(file.of_kind(random, &[BEST_EFFORT]), STREAM_AT, random.pick(&[0, 63, 253, 254])),
     |random, file| file.put(file.of_kind(random, &[RESERVE]), NUMBER_B_AT + random.below(4), 1),
     |random, file| file.put(file.of_kind(random, &[TICK, TRANSMIT]), NUMBER_A_AT + random.below(4), 1),
     |random, file| file.put(file.of_kind(random, &[TICK, TRANSMIT]), NUMBER_B_AT + random.below(4), 128),
@@ -83,10 +83,10 @@ pub fn capture(random: &mut Random, way: usize) -> Vec<u8> {
 /// An event of each kind, and a few more.
 fn every_kind(random: &mut Random) -> Vec<Call> {
     let mut events = vec![
-        Call::Open { link: 2_620, delay: 1, firmware: 0 },
+        Call::Open { link: 2_620, delay: 1 },
         Call::Reserve { stream: 5, permitted: 200 },
         Call::Arrive { stream: 5, charge: 120, tag: 3 },
-        Call::BestEffort { caller: QUERY, charge: 400, tag: 4 },
+        Call::BestEffort { charge: 400, tag: 4 },
         Call::Tick,
         Call::Transmit,
     ];
@@ -134,15 +134,11 @@ impl File {
         random.pick(&self.chains.indices(port))
     }
 
-    /// The kind of a record.
-    fn kind(&self, index: usize) -> u8 {
-        self.octets[index * RECORD_OCTETS + KIND_AT]
-    }
-
     /// The index of a record on a chain of one of these kinds.
     fn of_kind(&self, random: &mut Random, kinds: &[u8]) -> usize {
+        let kind = |index: usize| self.octets[index * RECORD_OCTETS + KIND_AT];
         let indices = self.chains.indices(random.below(PORTS));
-        random.pick(&indices.into_iter().filter(|&index| kinds.contains(&self.kind(index))).collect::<Vec<_>>())
+        random.pick(&indices.into_iter().filter(|&index| kinds.contains(&kind(index))).collect::<Vec<_>>())
     }
 
     /// The indices of two records of one chain, the earlier first.
@@ -162,15 +158,6 @@ fn two_ports(random: &mut Random) -> (usize, usize) {
 fn length_before_letters(random: &mut Random, file: &mut File) {
     file.change(0, random.below(LETTERS.len()), 1);
     file.octets.push(0);
-}
-
-/// A stream octet that kinds 5 and 6 cannot have. That of an Open is F, and any is good: where one is drawn, it is drawn again without them.
-fn stream_octet_without_stream(random: &mut Random, file: &mut File) {
-    let index = match file.of_kind(random, &[OPEN, TICK, TRANSMIT]) {
-        open if file.kind(open) == OPEN => file.of_kind(random, &[TICK, TRANSMIT]),
-        other => other,
-    };
-    file.put(index, STREAM_AT, random.pick(&[1, 255]));
 }
 
 /// 22 before 23.

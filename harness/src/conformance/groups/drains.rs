@@ -22,7 +22,7 @@ pub fn events(random: &mut Random) -> Vec<Call> {
             3 => played.best_effort(random.between(CHARGES)),
             4 => withdraw(random, &mut played),
             5 => reserve(random, &mut played, &streams),
-            _ => drop(played.play(Call::Open { link: random.between(ABOUT_LINKS), delay: random.between(1..=2), firmware: 0 })),
+            _ => drop(played.play(Call::Open { link: random.between(ABOUT_LINKS), delay: random.between(1..=2) })),
         }
     }
     played.events()

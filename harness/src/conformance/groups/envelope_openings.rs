@@ -39,18 +39,18 @@ pub fn capture(random: &mut Random, part: usize) -> Vec<u8> {
 fn events(random: &mut Random, port: usize) -> Vec<Call> {
     let mut played = Played::closed();
     for link in refused().skip(port).step_by(PARTS * PORTS) {
-        played.play(Call::Open { link, delay: random.between(1..=16), firmware: 0 });
+        played.play(Call::Open { link, delay: random.between(1..=16) });
         if random.chance(30) {
             played.reserve(5, LEAST_PERMITTED);
         }
     }
     let link = granted().nth(port).expect("there is an L for each port");
-    played.play(Call::Open { link, delay: random.between(1..=3), firmware: 0 });
+    played.play(Call::Open { link, delay: random.between(1..=3) });
     to_the_share(random, &mut played, link);
     for _ in 0..random.between(6..=14) {
         traffic(random, &mut played);
     }
-    played.play(Call::Open { link: link - 1, delay: 1, firmware: 0 });
+    played.play(Call::Open { link: link - 1, delay: 1 });
     played.events()
 }
 

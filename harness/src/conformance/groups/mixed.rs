@@ -4,7 +4,7 @@ use crate::call::Call;
 use crate::comparing::random::Random;
 use crate::conformance::groups::numbers::{self, ABOUT_LINKS};
 use crate::conformance::groups::played::Played;
-use crate::model::port::{DELAYS, LARGEST_CHARGE, LEAST_CHARGE, LEAST_PERMITTED, QUERY_STREAM, STREAMS};
+use crate::model::port::{BEST_EFFORT_STREAM, DELAYS, LARGEST_CHARGE, LEAST_CHARGE, LEAST_PERMITTED, STREAMS};
 
 /// The events of a long run.
 pub fn long_run(random: &mut Random) -> Vec<Call> {
@@ -26,7 +26,7 @@ pub fn events(random: &mut Random, most: usize) -> Vec<Call> {
             2 => played.transmit(1),
             3 => played.best_effort(random.between(LEAST_CHARGE..=LARGEST_CHARGE)),
             4 => reserve(random, &mut played),
-            _ => drop(played.play(Call::Open { link: random.between(ABOUT_LINKS), delay: random.between(0..=17), firmware: 0 })),
+            _ => drop(played.play(Call::Open { link: random.between(ABOUT_LINKS), delay: random.between(0..=17) })),
         }
     }
     let mut events = played.events();
@@ -48,6 +48,6 @@ fn arrive(random: &mut Random, played: &mut Played, streams: &[u8]) {
 /// A reservation of any stream and of about what is still free.
 fn reserve(random: &mut Random, played: &mut Played) {
     let any = random.below(STREAMS) as u8;
-    let stream = random.pick(&[any, any, any, QUERY_STREAM as u8]);
+    let stream = random.pick(&[any, any, any, BEST_EFFORT_STREAM as u8]);
     played.reserve(stream, random.between(0..=played.free() + LEAST_PERMITTED));
 }

@@ -14,13 +14,6 @@ mod discards;
 mod drains;
 mod envelope_frames;
 mod envelope_openings;
-mod firmware_files;
-mod firmware_limits;
-mod firmware_mixed;
-mod firmware_openings;
-mod firmware_refusals;
-mod firmware_rings;
-mod firmware_transmits;
 mod fits;
 mod mixed;
 pub mod numbers;
@@ -52,7 +45,7 @@ pub struct Group {
 }
 
 /// Every group, in the order in which they are run.
-pub const GROUPS: [Group; 29] = [
+pub const GROUPS: [Group; 22] = [
     Group {
         name: "phases",
         about: "the same traffic with the tick at every phase",
@@ -206,55 +199,6 @@ pub const GROUPS: [Group; 29] = [
         seeds: 4,
         variants: envelope_openings::PARTS,
         make: envelope_openings::capture,
-    },
-    Group {
-        name: "firmware_limits",
-        about: "frames of both callers at the limits of firmware and of best effort and one octet above, with several K and F",
-        seeds: 8,
-        variants: firmware_limits::LIMIT_COUNT,
-        make: |random, limits| on_port_0(&firmware_limits::events(random, limits)),
-    },
-    Group {
-        name: "firmware_openings",
-        about: "openings with each K and every F, and what firmware may bring with each",
-        seeds: 3,
-        variants: firmware_openings::DELAY_COUNT,
-        make: firmware_openings::capture,
-    },
-    Group {
-        name: "firmware_refusals",
-        about: "openings and firmware frames of which several things are wrong, so that the order of the checks decides",
-        seeds: 80,
-        variants: 1,
-        make: |random, _| on_port_0(&firmware_refusals::events(random)),
-    },
-    Group {
-        name: "firmware_rings",
-        about: "frames of both callers that fill the 256 places of best effort and go round them",
-        seeds: 20,
-        variants: 1,
-        make: |random, _| on_port_0(&firmware_rings::events(random)),
-    },
-    Group {
-        name: "firmware_transmits",
-        about: "whose frame is sent while frames of both callers wait in one queue, many with equal tags",
-        seeds: 80,
-        variants: 1,
-        make: |random, _| on_port_0(&firmware_transmits::events(random)),
-    },
-    Group {
-        name: "firmware_files",
-        about: "files with every sort of stream octet in records of kinds 1, 4, 5 and 6, good ones and such that are refused",
-        seeds: 5,
-        variants: firmware_files::WAYS,
-        make: firmware_files::capture,
-    },
-    Group {
-        name: "firmware_mixed",
-        about: "long runs of everything with frames of both callers, withdrawals and reservations",
-        seeds: 100,
-        variants: 1,
-        make: |random, _| on_port_0(&firmware_mixed::long_run(random)),
     },
 ];
 

@@ -40,14 +40,9 @@ pub fn link(reserved: u32, free: u32) -> u32 {
     (LARGEST_CHARGE + reserved + free).clamp(*LINKS.start(), *LINKS.end())
 }
 
-/// A port with a P for each of some streams, opened with so much of the share free besides and F 0.
+/// A port with a P for each of some streams, opened with so much of the share free besides.
 pub fn reserved(streams: &[u8], permitted: &[u32], free: u32, delay: u32) -> Played {
-    reserved_for_firmware(streams, permitted, free, (delay, 0))
-}
-
-/// A port with a P for each of some streams, opened with so much of the share free besides and with K and F.
-pub fn reserved_for_firmware(streams: &[u8], permitted: &[u32], free: u32, (delay, firmware): (u32, u32)) -> Played {
-    let mut played = Played::opened_for_firmware(link(permitted.iter().sum(), free), delay, firmware);
+    let mut played = Played::opened(link(permitted.iter().sum(), free), delay);
     for (&stream, &permitted) in streams.iter().zip(permitted) {
         played.reserve(stream, permitted);
     }
@@ -71,34 +66,6 @@ pub fn charge_near_left(random: &mut Random, played: &Played, stream: u8) -> u32
         true => chosen,
         false => charge_within(random, permitted),
     }
-}
-
-/// A charge near what a limit still takes: just that, one octet beside it, or so much that a frame of the least charge still fits; far from it most
-/// often a large one.
-pub fn charge_near_limit(random: &mut Random, room: u32) -> u32 {
-    let near = [room, room, room, room + 1, room + 1, room.saturating_sub(1), room.saturating_sub(LEAST_CHARGE), LEAST_CHARGE];
-    let chosen = random.pick(&near);
-    let any = random.between(CHARGES);
-    let far = random.pick(&[LARGEST_CHARGE, LARGEST_CHARGE, any]);
-    if CHARGES.contains(&chosen) {
-        chosen
-    } else {
-        far
-    }
-}
-
-/// Frames of a caller up to just what best effort takes of it, with one octet more asked before the last and a frame of the least charge after it.
-pub fn fill(played: &mut Played, caller: u8) {
-    while played.room_of(caller) >= LEAST_CHARGE {
-        let room = played.room_of(caller);
-        if room > LARGEST_CHARGE {
-            played.offer(caller, nearest_charge(room / 2));
-        } else {
-            played.offer(caller, room + 1);
-            played.offer(caller, room);
-        }
-    }
-    played.offer(caller, LEAST_CHARGE);
 }
 
 /// A number as near to the wanted one as a charge can be.

@@ -1,7 +1,7 @@
 //! The group `phases`: the same traffic with the tick at every phase. Each of the senders offers at most P in each epoch of its own, but now and then
 //! a frame more, and the ticks of the port, which are not synchronized with them, come one event later in each further capture.
 
-use crate::call::{Call, QUERY};
+use crate::call::Call;
 use crate::comparing::random::Random;
 use crate::conformance::groups::numbers::{self, FEW_FRAMES};
 use crate::model::port::LEAST_CHARGE;
@@ -35,7 +35,7 @@ pub fn events(random: &mut Random, phase: usize) -> Vec<Call> {
 fn tagged(event: Call, number: u32) -> Call {
     match event {
         Call::Arrive { stream, charge, .. } => Call::Arrive { stream, charge, tag: number },
-        Call::BestEffort { charge, .. } => Call::BestEffort { caller: QUERY, charge, tag: number },
+        Call::BestEffort { charge, .. } => Call::BestEffort { charge, tag: number },
         other => other,
     }
 }
@@ -100,7 +100,7 @@ fn arranged(random: &mut Random, offers: &[(u8, u32)]) -> Vec<Call> {
 /// A transmit, or now and then a best-effort frame.
 fn other(random: &mut Random) -> Call {
     match random.chance(25) {
-        true => Call::BestEffort { caller: QUERY, charge: random.between(84..=600), tag: 0 },
+        true => Call::BestEffort { charge: random.between(84..=600), tag: 0 },
         false => Call::Transmit,
     }
 }

@@ -1,6 +1,6 @@
 //! A port on which each event of a capture is played as it is chosen, so that a generator can go by what the port holds.
 
-use crate::call::{Call, Reply, FIRMWARE, QUERY};
+use crate::call::{Call, Reply};
 use crate::model::port::{permitted_sum, share, Port, BEST_EFFORT};
 use crate::model::rule;
 
@@ -16,15 +16,10 @@ impl Played {
         Played { port: Port::closed(), events: Vec::new() }
     }
 
-    /// A port that was opened with F 0.
+    /// A port that was opened.
     pub fn opened(link: u32, delay: u32) -> Played {
-        Played::opened_for_firmware(link, delay, 0)
-    }
-
-    /// A port that was opened with any F.
-    pub fn opened_for_firmware(link: u32, delay: u32, firmware: u32) -> Played {
         let mut played = Played::closed();
-        played.play(Call::Open { link, delay, firmware });
+        played.play(Call::Open { link, delay });
         played
     }
 
@@ -47,12 +42,7 @@ impl Played {
 
     /// Adds a best-effort frame, whose tag is the event's number.
     pub fn best_effort(&mut self, charge: u32) {
-        self.offer(QUERY, charge);
-    }
-
-    /// Adds a best-effort frame of a caller, whose tag is the event's number.
-    pub fn offer(&mut self, caller: u8, charge: u32) {
-        self.play(Call::BestEffort { caller, charge, tag: self.next_number() });
+        self.play(Call::BestEffort { charge, tag: self.next_number() });
     }
 
     /// Adds a withdrawal.
@@ -118,19 +108,6 @@ impl Played {
     /// What best effort of an open port still takes: K × (L − R) less W, or 0 where W is above it.
     pub fn room(&self) -> u32 {
         (self.port.delay * (self.port.link - self.reserved())).saturating_sub(self.port.waits)
-    }
-
-    /// What the limit of firmware alone still takes: F × (L − R) less the firmware octets that wait, or 0 where these are above it.
-    pub fn firmware_room(&self) -> u32 {
-        (self.port.firmware * (self.port.link - self.reserved())).saturating_sub(self.port.firmware_waits)
-    }
-
-    /// What best effort still takes of a caller, whose frames must fit all of its limits.
-    pub fn room_of(&self, caller: u8) -> u32 {
-        match caller {
-            FIRMWARE => self.room().min(self.firmware_room()),
-            _ => self.room(),
-        }
     }
 
     /// How many best-effort frames wait.

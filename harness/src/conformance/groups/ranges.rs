@@ -1,6 +1,6 @@
 //! The group `ranges`: every number of a call at both ends of its range, one outside either end, and where fewer bits would hide that it is outside.
 
-use crate::call::{Call, QUERY};
+use crate::call::Call;
 use crate::comparing::random::Random;
 use crate::conformance::groups::played::Played;
 use crate::model::port::{LARGEST_CHARGE, LEAST_PERMITTED, LINKS};
@@ -32,9 +32,9 @@ pub fn events(random: &mut Random) -> Vec<Call> {
         let (link, delay) = (random.pick(&RIGHT_LINKS), random.pick(&DELAYS));
         let (wrong_link, wrong_delay) = (random.pick(&WRONG_LINKS), random.pick(&WRONG_DELAYS));
         let (link, delay) = random.pick(&[(wrong_link, delay), (link, wrong_delay), (wrong_link, wrong_delay)]);
-        played.play(Call::Open { link, delay, firmware: 0 });
+        played.play(Call::Open { link, delay });
     }
-    played.play(Call::Open { link: random.pick(&RIGHT_LINKS), delay: random.pick(&DELAYS), firmware: 0 });
+    played.play(Call::Open { link: random.pick(&RIGHT_LINKS), delay: random.pick(&DELAYS) });
     calls(random, &mut played);
     played.events()
 }
@@ -48,7 +48,7 @@ fn calls(random: &mut Random, played: &mut Played) {
             1 if !reserved.is_empty() => arrive(random, played, &reserved),
             2 => played.tick(1),
             3 => played.transmit(1),
-            _ => drop(played.play(Call::BestEffort { caller: QUERY, charge: charge(random), tag: random.pick(&TAGS) })),
+            _ => drop(played.play(Call::BestEffort { charge: charge(random), tag: random.pick(&TAGS) })),
         }
     }
 }

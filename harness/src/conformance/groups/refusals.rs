@@ -1,14 +1,14 @@
 //! The group `refusals`: calls of which several things are wrong at once, so that the order of the checks decides, on closed ports and on open ones,
 //! and traffic between, which shows that a refusal changed nothing.
 
-use crate::call::{Call, QUERY};
+use crate::call::Call;
 use crate::comparing::random::Random;
 use crate::conformance::groups::numbers::{self, FEW_FRAMES};
 use crate::conformance::groups::played::Played;
-use crate::model::port::{CHARGES, DELAYS, LEAST_CHARGE, LINKS, QUERY_STREAM, STREAMS};
+use crate::model::port::{BEST_EFFORT_STREAM, CHARGES, DELAYS, LEAST_CHARGE, LINKS, STREAMS};
 
 /// Stream numbers that no port has.
-const ABOVE: [u8; 3] = [STREAMS as u8, STREAMS as u8 + 1, QUERY_STREAM as u8];
+const ABOVE: [u8; 3] = [STREAMS as u8, STREAMS as u8 + 1, BEST_EFFORT_STREAM as u8];
 
 /// The events: wrong calls on a closed port, its opening, then wrong calls among traffic.
 pub fn events(random: &mut Random) -> Vec<Call> {
@@ -16,11 +16,7 @@ pub fn events(random: &mut Random) -> Vec<Call> {
     let permitted = [random.pick(&FEW_FRAMES), random.pick(&FEW_FRAMES)];
     let mut played = Played::closed();
     wrong_calls(random, &mut played, &streams, 6);
-    played.play(Call::Open {
-        link: numbers::link(permitted.iter().sum(), random.pick(&[0, 100])),
-        delay: random.between(1..=2),
-        firmware: 0,
-    });
+    played.play(Call::Open { link: numbers::link(permitted.iter().sum(), random.pick(&[0, 100])), delay: random.between(1..=2) });
     played.reserve(streams[0], permitted[0]);
     wrong_calls(random, &mut played, &streams, 3);
     played.reserve(streams[1], permitted[1]);
@@ -47,11 +43,11 @@ fn wrong_call(random: &mut Random, tag: u32, streams: &[u8]) -> Call {
     match random.weighted(&[15, 35, 35, 10, 3, 2]) {
         0 => {
             let link = random.pick(&[*LINKS.start() - 1, *LINKS.start(), 5_000, *LINKS.end() + 1]);
-            Call::Open { link, delay: random.pick(&[*DELAYS.start() - 1, 1, *DELAYS.end() + 1]), firmware: 0 }
+            Call::Open { link, delay: random.pick(&[*DELAYS.start() - 1, 1, *DELAYS.end() + 1]) }
         }
         1 => Call::Reserve { stream, permitted: random.pick(&[0, 83, 84, 25_000, u32::MAX]) },
         2 => Call::Arrive { stream, charge, tag },
-        3 => Call::BestEffort { caller: QUERY, charge, tag },
+        3 => Call::BestEffort { charge, tag },
         4 => Call::Tick,
         _ => Call::Transmit,
     }

@@ -2,22 +2,21 @@
 
 use std::collections::BTreeMap;
 
-use crate::call::{Call, Reply, FIRMWARE};
+use crate::call::{Call, Reply};
 use crate::comparing::coverage::is_envelope;
 use crate::conformance::groups::GROUPS;
 use crate::model::capture::{events, Refused};
-use crate::model::port::{permitted_sum, Port, FIRMWARE_STREAM, LAST, NOTHING, QUERY_STREAM};
-use crate::model::refusal::{BEST_EFFORT_EXCEEDED, DISCARD, FIRMWARE_EXCEEDED};
+use crate::model::port::{Port, BEST_EFFORT_STREAM, LAST, NOTHING};
+use crate::model::refusal::DISCARD;
 use crate::model::rule;
 use crate::timeline::words::ROLES;
 
 /// How often each thing must happen at least, by its name.
-const DEMANDED: [(&str, usize); 71] = [
+const DEMANDED: [(&str, usize); 57] = [
     ("open granted", 1_500),
     ("open refused 2", 1_000),
     ("open refused 3", 100),
     ("open refused 4", 50),
-    ("open refused 27", 1_500),
     ("reserve granted", 5_000),
     ("reserve refused 1", 100),
     ("reserve refused 5", 500),
@@ -47,18 +46,6 @@ const DEMANDED: [(&str, usize); 71] = [
     ("best effort refused 13", 200),
     ("best effort refused 15", 50),
     ("best effort refused 16", 2_000),
-    ("firmware granted", 8_000),
-    ("firmware at its own limit", 300),
-    ("firmware at the limit of all", 200),
-    ("firmware at both limits", 150),
-    ("firmware one above its own limit", 200),
-    ("firmware above the limit of all alone", 1_500),
-    ("firmware above both limits", 2_000),
-    ("firmware refused 1", 500),
-    ("firmware refused 13", 300),
-    ("firmware refused 15", 80),
-    ("firmware refused 16", 4_000),
-    ("firmware refused 28", 3_000),
     ("tick purges nothing", 20_000),
     ("tick purges frames", 10_000),
     ("tick frees a stream", 1_500),
@@ -66,7 +53,6 @@ const DEMANDED: [(&str, usize); 71] = [
     ("transmit from prior", 20_000),
     ("transmit from current", 20_000),
     ("transmit of best effort", 10_000),
-    ("transmit of firmware", 6_000),
     ("transmit of nothing", 10_000),
     ("transmit refused 1", 100),
     ("withdraw granted", 2_000),
@@ -156,7 +142,6 @@ fn count_port(counts: &mut Counts, events: &[Call]) {
 /// What an event did, by its reply and the port before and after it.
 fn done(event: &Call, reply: &Reply, before: &Port, after: &Port) -> Vec<String> {
     match *event {
-        Call::BestEffort { caller: FIRMWARE, charge, .. } => firmware(charge, reply, after),
         Call::BestEffort { charge, .. } => best_effort(charge, reply, after),
         _ if reply.refusal != 0 => vec![format!("{} refused {}", kind(event), reply.refusal)],
         Call::Arrive { stream, .. } => joined(usize::from(stream), reply, before, after),
@@ -166,8 +151,7 @@ fn done(event: &Call, reply: &Reply, before: &Port, after: &Port) -> Vec<String>
         }
         Call::Transmit => vec![String::from(match reply.first {
             NOTHING => "transmit of nothing",
-            QUERY_STREAM => "transmit of best effort",
-            FIRMWARE_STREAM => "transmit of firmware",
+            BEST_EFFORT_STREAM => "transmit of best effort",
             _ if before.queues[before.prior].frames.is_empty() => "transmit from current",
             _ => "transmit from prior",
         })],
@@ -199,7 +183,6 @@ fn kind(event: &Call) -> &'static str {
         Call::Open { .. } => "open",
         Call::Reserve { .. } => "reserve",
         Call::Arrive { .. } => "arrive",
-        Call::BestEffort { caller: FIRMWARE, .. } => "firmware",
         Call::BestEffort { .. } => "best effort",
         Call::Tick => "tick",
         Call::Transmit => "transmit",
@@ -223,39 +206,16 @@ fn joined(stream: usize, reply: &Reply, before: &Port, after: &Port) -> Vec<Stri
         .collect()
 }
 
-/// How a query ended, and how near it came to the limit.
+/// How a best-effort frame ended, and how near it came to the limit.
 fn best_effort(charge: u32, reply: &Reply, after: &Port) -> Vec<String> {
-    let limit = after.delay * unreserved(after);
+    let reserved: u32 = after.streams.iter().filter(|stream| stream.is_reserved()).map(|stream| stream.permitted).sum();
+    let limit = after.delay * (after.link - reserved);
     match reply.refusal {
         0 if after.waits == limit => vec![String::from("best effort granted"), String::from("best effort at the limit")],
         0 => vec![String::from("best effort granted")],
-        BEST_EFFORT_EXCEEDED if after.waits + charge == limit + 1 => {
+        16 if after.waits + charge == limit + 1 => {
             vec![String::from("best effort refused 16"), String::from("best effort one above the limit")]
         }
         refusal => vec![format!("best effort refused {refusal}")],
     }
-}
-
-/// How a firmware frame ended, and how near it came to its limits.
-fn firmware(charge: u32, reply: &Reply, after: &Port) -> Vec<String> {
-    let (limit, own) = (after.delay * unreserved(after), after.firmware * unreserved(after));
-    let how = match reply.refusal {
-        0 => String::from("firmware granted"),
-        refusal => format!("firmware refused {refusal}"),
-    };
-    let near = match reply.refusal {
-        0 if after.firmware_waits == own && after.waits == limit => Some("firmware at both limits"),
-        0 if after.firmware_waits == own => Some("firmware at its own limit"),
-        0 if after.waits == limit => Some("firmware at the limit of all"),
-        FIRMWARE_EXCEEDED if after.firmware_waits + charge == own + 1 => Some("firmware one above its own limit"),
-        BEST_EFFORT_EXCEEDED if after.firmware_waits + charge <= own => Some("firmware above the limit of all alone"),
-        BEST_EFFORT_EXCEEDED => Some("firmware above both limits"),
-        _ => None,
-    };
-    [how].into_iter().chain(near.map(String::from)).collect()
-}
-
-/// L less R.
-fn unreserved(port: &Port) -> u32 {
-    port.link - permitted_sum(&port.streams) as u32
 }

@@ -13,7 +13,7 @@ use crate::conformance::sums;
 use crate::model::capture::events;
 
 /// What `cksum` prints of conformance/sums: with another number the set is another one.
-const SET: &str = "3301208819 141999";
+const SET: &str = "1431184643 115373";
 
 /// A group by its name.
 fn group(name: &str) -> &'static Group {
@@ -110,24 +110,6 @@ fn captures_of_links_have_every_l_about_the_ends() {
         .collect();
     for link in (1_625..=1_627).chain(2_019..=2_021).chain(2_100..=2_108).chain(23_045..=23_047).chain(23_520..=23_528) {
         assert!(asked.contains(&link), "{link}");
-    }
-}
-
-#[test]
-fn captures_of_openings_have_every_f() {
-    let openings = group("firmware_openings");
-    let of = |number| events(&openings.capture(number)).expect("a good capture").into_iter().flatten();
-    let asked: BTreeSet<(u32, u32)> = (1..=openings.captures())
-        .flat_map(of)
-        .filter_map(|event| if let Call::Open { delay, firmware, .. } = event { Some((delay, firmware)) } else { None })
-        .collect();
-    for delay in 1..=16 {
-        for firmware in [0, 1, delay - 1, delay, delay + 1] {
-            assert!(asked.contains(&(delay, firmware)), "K {delay}, F {firmware}");
-        }
-    }
-    for firmware in 0..=255 {
-        assert!(asked.iter().any(|(_, asked)| *asked == firmware), "{firmware}");
     }
 }
 

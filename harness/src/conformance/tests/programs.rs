@@ -11,7 +11,7 @@ use crate::capture::stored;
 use crate::conformance::tool::{run, Failure};
 
 /// The first line of what the command tells.
-const NAMED: &str = "the conformance set of edition 6\n";
+const NAMED: &str = "the conformance set of edition 5\n";
 /// Seconds that no program of these tests needs.
 const AMPLE: &str = "60";
 

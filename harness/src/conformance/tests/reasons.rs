@@ -1,6 +1,6 @@
 //! The steps that are told as the reason of a reply: some word for word, and of all arrivals of the set that they end where the rule does.
 
-use crate::call::{Call, Reply, FIRMWARE, QUERY};
+use crate::call::{Call, Reply};
 use crate::conformance::groups::GROUPS;
 use crate::conformance::reasons::steps;
 use crate::model::capture::events;
@@ -11,7 +11,7 @@ use crate::timeline::words::ROLES;
 /// A port after events: L 2,620, K 1, stream 5 with P 200, then the others.
 fn after(others: &[Call]) -> Port {
     let mut port = Port::closed();
-    for event in [Call::Open { link: 2_620, delay: 1, firmware: 0 }, Call::Reserve { stream: 5, permitted: 200 }].iter().chain(others) {
+    for event in [Call::Open { link: 2_620, delay: 1 }, Call::Reserve { stream: 5, permitted: 200 }].iter().chain(others) {
         rule::step(&event.given(), &mut port);
     }
     port
@@ -65,9 +65,9 @@ fn a_discard() {
 
 #[test]
 fn an_opening() {
-    let open = |link| Call::Open { link, delay: 1, firmware: 0 };
+    let open = |link| Call::Open { link, delay: 1 };
     are_told(Port::closed(), open(2_620), &["the share is L less the largest charge, 2620 − 2020 = 600"]);
-    let checks = "3 is the first that holds of the call's checks, in their order 2 3 4 27";
+    let checks = "3 is the first that holds of the call's checks, in their order 2 3 4";
     are_told(Port::closed(), open(2_103), &["L is 2103, outside 2104 to 23524", checks]);
     are_told(Port::closed(), open(23_525), &["L is 23525, outside 2104 to 23524", checks]);
 }
@@ -76,7 +76,7 @@ fn an_opening() {
 fn charges_outside_their_range() {
     let checks = "13 is the first that holds of the call's checks, in their order ";
     are_told(after(&[]), arrive(83), &["the charge is 83, outside 84 to 2020", &format!("{checks}1 5 25 12 13 14")]);
-    let frame = Call::BestEffort { caller: QUERY, charge: 2_021, tag: 8 };
+    let frame = Call::BestEffort { charge: 2_021, tag: 8 };
     are_told(after(&[]), frame, &["the charge is 2021, outside 84 to 2020", &format!("{checks}1 13 15 16")]);
 }
 
@@ -90,7 +90,7 @@ fn a_reservation() {
 
 #[test]
 fn best_effort() {
-    let frame = |charge| Call::BestEffort { caller: QUERY, charge, tag: 8 };
+    let frame = |charge| Call::BestEffort { charge, tag: 8 };
     let within = "W 2020 and the charge 400 make 2420, within K × (L − R), 1 × (2620 − 200) = 2420";
     are_told(after(&[frame(2_020)]), frame(400), &[within]);
     let above = "W 2020 and the charge 401 make 2421, above K × (L − R), 1 × (2620 − 200) = 2420";
@@ -122,48 +122,15 @@ fn what_draining_streams_keep() {
     let above = "R 200 and P 401 make 601, above the share 600";
     let checks = "8 is the first that holds of the call's checks, in their order 1 5 25 6 7 8";
     are_told(after(&[withdraw.clone()]), reserve, &[above, of_r, checks]);
-    let frame = |charge| Call::BestEffort { caller: QUERY, charge, tag: 8 };
+    let frame = |charge| Call::BestEffort { charge, tag: 8 };
     let above = "W 2020 and the charge 401 make 2421, above K × (L − R), 1 × (2620 − 200) = 2420";
     let checks = "16 is the first that holds of the call's checks, in their order 1 13 15 16";
     are_told(after(&[withdraw, frame(2_020)]), frame(401), &[above, of_r, checks]);
 }
 
 #[test]
-fn an_opening_with_more_for_firmware_than_for_all() {
-    let open = |firmware| Call::Open { link: 2_620, delay: 2, firmware };
-    are_told(Port::closed(), open(2), &["the share is L less the largest charge, 2620 − 2020 = 600"]);
-    let checks = "27 is the first that holds of the call's checks, in their order 2 3 4 27";
-    are_told(Port::closed(), open(3), &["F is 3, above K, 2", checks]);
-}
-
-#[test]
-fn firmware() {
-    let limited = |others: &[Call]| {
-        let mut port = Port::closed();
-        for event in [Call::Open { link: 2_620, delay: 2, firmware: 1 }, Call::Reserve { stream: 5, permitted: 200 }].iter().chain(others) {
-            rule::step(&event.given(), &mut port);
-        }
-        port
-    };
-    let of = |caller, charge| Call::BestEffort { caller, charge, tag: 8 };
-    let sum = "W 2020 and the charge 400 make 2420, within K × (L − R), 2 × (2620 − 200) = 4840";
-    let own = "firmware octets waiting 2020 and the charge 400 make 2420, within F × (L − R), 1 × (2620 − 200) = 2420";
-    are_told(limited(&[of(FIRMWARE, 2_020)]), of(FIRMWARE, 400), &[sum, own]);
-    let sum = "W 2520 and the charge 401 make 2921, within K × (L − R), 2 × (2620 − 200) = 4840";
-    let own = "firmware octets waiting 2020 and the charge 401 make 2421, above F × (L − R), 1 × (2620 − 200) = 2420";
-    let checks = "is the first that holds of the call's checks, in their order 1 13 15 16 28";
-    let before = [of(FIRMWARE, 2_020), of(QUERY, 500)];
-    are_told(limited(&before), of(FIRMWARE, 401), &[sum, own, &format!("28 {checks}")]);
-    let withdrawn = [Call::Withdraw { stream: 5 }].into_iter().chain(before).collect::<Vec<_>>();
-    let of_r = "of R, 200 are of draining streams";
-    are_told(limited(&withdrawn), of(FIRMWARE, 401), &[sum, own, of_r, &format!("28 {checks}")]);
-    let sum = "W 4040 and the charge 801 make 4841, above K × (L − R), 2 × (2620 − 200) = 4840";
-    are_told(limited(&[of(QUERY, 2_020), of(FIRMWARE, 2_020)]), of(FIRMWARE, 801), &[sum, &format!("16 {checks}")]);
-}
-
-#[test]
 fn what_waits() {
-    let traffic = [arrive(100), arrive(100), Call::Tick, arrive(84), Call::BestEffort { caller: QUERY, charge: 90, tag: 8 }];
+    let traffic = [arrive(100), arrive(100), Call::Tick, arrive(84), Call::BestEffort { charge: 90, tag: 8 }];
     let waits = "2 frames of 200 octets in prior, 1 frame of 84 octets in current, 1 frame of 90 octets in best effort before it";
     are_told(after(&traffic), Call::Transmit, &[waits]);
     are_told(after(&traffic), Call::Tick, &["2 frames of 200 octets in prior before it"]);
@@ -172,11 +139,7 @@ fn what_waits() {
 
 #[test]
 fn refusals_of_arguments() {
-    are_told(
-        after(&[]),
-        Call::Open { link: 0, delay: 0, firmware: 0 },
-        &["2 is the first that holds of the call's checks, in their order 2 3 4 27"],
-    );
+    are_told(after(&[]), Call::Open { link: 0, delay: 0 }, &["2 is the first that holds of the call's checks, in their order 2 3 4"]);
     are_told(Port::closed(), Call::Tick, &["1 is the first that holds of the call's checks, in their order 1"]);
 }
 

@@ -173,43 +173,6 @@ fn a_transmit_is_told_with_where_the_frame_waits() {
 }
 
 #[test]
-fn a_make_that_sends_queries_before_firmware_is_told_where_the_frame_waits() {
-    let octets = stored::one("firmware_one_queue").expect("it is stored").octets;
-    let printed = replay(&octets).replace("0 12 6 0 253 4\n", "0 12 6 0 255 4\n");
-    let told = told(&octets, &left(&printed));
-    assert_eq!(
-        told[..6],
-        [
-            "at port 0, event 12: transmit",
-            "the rule:     0 12 6 0 253 4   sends firmware, tag 4",
-            "the program:  0 12 6 0 255 4   sends best effort, tag 4",
-            "why the rule says so:",
-            "  no frame in prior, no frame in current, 4 frames of 558 octets in best effort before it",
-            "the frame that the program sends is number 2 of those that wait in best effort by the rule",
-        ]
-    );
-}
-
-#[test]
-fn a_make_without_a_limit_of_firmware_is_told_both_limits() {
-    let octets = stored::one("refusal_28").expect("it is stored").octets;
-    let told = told(&octets, &left(&replay(&octets).replace("0 4 4 28 0 0\n", "0 4 4 0 2421 0\n")));
-    let own = "firmware octets waiting 2020 and the charge 401 make 2421, above F × (L − R), 1 × (2620 − 200) = 2420";
-    assert_eq!(
-        told[..7],
-        [
-            "at port 0, event 4: firmware, charge 401, tag 4",
-            "the rule:     0 4 4 28 0 0     refused with 28: firmware octets waiting + charge above F × (L − R)",
-            "the program:  0 4 4 0 2421 0   joins best effort, W 2421",
-            "why the rule says so:",
-            "  W 2020 and the charge 401 make 2421, within K × (L − R), 2 × (2620 − 200) = 4840",
-            &format!("  {own}"),
-            "  28 is the first that holds of the call's checks, in their order 1 13 15 16 28",
-        ]
-    );
-}
-
-#[test]
 fn a_file_that_the_program_refuses_is_told_with_the_record() {
     let expected = [
         "at port 0, event 1: open with L 2620 and K 1",
@@ -294,7 +257,7 @@ fn what_a_program_says_of_itself_is_told() {
 
 #[test]
 fn of_many_events_the_last_are_told() {
-    let mut events = vec![Call::Open { link: 2_620, delay: 1, firmware: 0 }, Call::Reserve { stream: 5, permitted: 200 }];
+    let mut events = vec![Call::Open { link: 2_620, delay: 1 }, Call::Reserve { stream: 5, permitted: 200 }];
     events.extend(vec![Call::Tick; 20]);
     let arrival = Call::Arrive { stream: 5, charge: 120, tag: 7 };
     events.extend([arrival.clone(), Call::Tick, arrival]);

@@ -1,7 +1,7 @@
 //! Random recordings under random plans: what holds of every capture that the tool makes.
 
 use super::made::{events_of, tagged, typed, untagged};
-use crate::call::{Call, Reply, FIRMWARE, QUERY};
+use crate::call::{Call, Reply};
 use crate::comparing::fit::Octets;
 use crate::comparing::random::Random;
 use crate::exports;
@@ -21,29 +21,9 @@ struct Made {
     link: u32,
     pairs: Vec<(u8, Pair)>,
     withdrawals: Vec<Withdrawal>,
-    loads: Loads,
     packets: Vec<(u64, Vec<u8>)>,
     events: Vec<Call>,
     report: Report,
-}
-
-/// The packets that firmware brings: those to an address, if there is one, and those with a VID, if there is one.
-struct Loads {
-    address: Option<[u8; 6]>,
-    vid: Option<u32>,
-}
-
-impl Loads {
-    /// The caller of a frame.
-    fn caller(&self, octets: &[u8]) -> u8 {
-        let to_address = self.address.is_some_and(|address| octets[..6] == address);
-        let with_vid = self.vid.is_some_and(|vid| pair(octets).is_some_and(|pair| pair.vid == vid));
-        if to_address || with_vid {
-            FIRMWARE
-        } else {
-            QUERY
-        }
-    }
 }
 
 /// An address of few, so that pairs often share it.
@@ -94,24 +74,9 @@ fn any_time(random: &mut Random, epoch: u32) -> u64 {
     epochs * u64::from(epoch) + u64::from(epoch) * part / 1_000
 }
 
-/// Lines of a plan that say which packets firmware brings, and these.
-fn any_loads(random: &mut Random) -> (String, Loads) {
-    let (address, vid) = (any_address(random), random.between(1..=4));
-    let loads = Loads { address: random.chance(40).then_some(address), vid: random.chance(40).then_some(vid) };
-    let to_address = loads.address.map(|address| format!("firmware {}\n", written(address)));
-    let with_vid = loads.vid.map(|vid| format!("firmware vid {vid}\n"));
-    ([to_address, with_vid].into_iter().flatten().collect(), loads)
-}
-
-/// An address as a plan has it.
-fn written(address: [u8; 6]) -> String {
-    address.map(|octet| format!("{octet:02x}")).join(":")
-}
-
 /// A plan's text with the pairs that it binds.
 fn any_plan(random: &mut Random, epoch: u32, link: u32) -> (String, Vec<(u8, Pair)>) {
-    let delay = random.between(DELAYS);
-    let mut text = format!("epoch {epoch}\nopen {link} {delay} {}\n", random.between(0..=delay));
+    let mut text = format!("epoch {epoch}\nopen {link} {}\n", random.between(DELAYS));
     let (mut pairs, mut free): (Vec<(u8, Pair)>, u32) = (Vec::new(), link - LARGEST_CHARGE);
     let streams = random.shuffled(STREAMS);
     for stream in &streams[..random.below(8)] {
@@ -123,7 +88,8 @@ fn any_plan(random: &mut Random, epoch: u32, link: u32) -> (String, Vec<(u8, Pai
         text.push_str(&format!("reserve {stream} {permitted}\n"));
         let pair = Pair { address: any_address(random), vid: random.between(1..=4) };
         if random.chance(90) && pairs.iter().all(|(_, other)| *other != pair) {
-            text.push_str(&format!("bind {stream} {} {}\n", written(pair.address), pair.vid));
+            let [a, b, c, d, e, f] = pair.address;
+            text.push_str(&format!("bind {stream} {a:02x}:{b:02x}:{c:02x}:{d:02x}:{e:02x}:{f:02x} {}\n", pair.vid));
             pairs.push((*stream as u8, pair));
         }
     }
@@ -139,7 +105,6 @@ fn any_made(number: u64) -> Made {
     let link = random.pick(&[*LINKS.start(), *LINKS.end(), 2_500, 4_000, any]);
     let (plan, pairs) = any_plan(&mut random, epoch, link);
     let (lines, withdrawals) = any_withdrawals(&mut random, epoch, &plan);
-    let (of_firmware, loads) = any_loads(&mut random);
     let (count, most) = (random.pick(&[1, 10, 100, 400, 2_500]), random.pick(&[60, 150, *FRAME_LENGTHS.end() as u32]));
     let mut time = 1_700_000_000_000_000_000_i64;
     let mut packets = Vec::new();
@@ -147,8 +112,8 @@ fn any_made(number: u64) -> Made {
         packets.push((time as u64, any_frame(&mut random, &pairs, most)));
         time += any_step(&mut random, epoch);
     }
-    let (events, report) = events_of(&(plan + &lines + &of_firmware), &packets);
-    Made { epoch, link, pairs, withdrawals, loads, packets, events, report }
+    let (events, report) = events_of(&(plan + &lines), &packets);
+    Made { epoch, link, pairs, withdrawals, packets, events, report }
 }
 
 /// Holds random recordings against a claim; how often it said that it saw what the test is for.
@@ -163,8 +128,8 @@ fn padded(octets: &[u8]) -> Vec<u8> {
     octets
 }
 
-/// The call that a frame becomes as the model reads its octets, padded, with its caller; none where its length is outside.
-fn decided(pairs: &[(u8, Pair)], loads: &Loads, number: usize, octets: &[u8]) -> Option<Call> {
+/// The call that a frame becomes as the model reads its octets, padded; none where its length is outside.
+fn decided(pairs: &[(u8, Pair)], number: usize, octets: &[u8]) -> Option<Call> {
     let octets = padded(octets);
     if !FRAME_LENGTHS.contains(&octets.len()) {
         return None;
@@ -172,7 +137,7 @@ fn decided(pairs: &[(u8, Pair)], loads: &Loads, number: usize, octets: &[u8]) ->
     let (charge, tag, found) = (charge(&octets), number as u32 + 1, pair(&octets));
     Some(match pairs.iter().find(|(_, pair)| Some(*pair) == found) {
         Some((stream, _)) => Call::Arrive { stream: *stream, charge, tag },
-        None => Call::BestEffort { caller: loads.caller(&octets), charge, tag },
+        None => Call::BestEffort { charge, tag },
     })
 }
 
@@ -186,25 +151,14 @@ fn packets_become_what_frame_decides() {
         for call in &made.events {
             bindings.follow(call);
             if matches!(call, Call::Arrive { .. } | Call::BestEffort { .. }) {
-                let expected = packets.find_map(|(number, (_, octets))| decided(&bindings.pairs, &made.loads, number, octets));
+                let expected = packets.find_map(|(number, (_, octets))| decided(&bindings.pairs, number, octets));
                 assert_eq!(Some(call), expected.as_ref());
             }
         }
-        assert_eq!(packets.find_map(|(number, (_, octets))| decided(&bindings.pairs, &made.loads, number, octets)), None);
+        assert_eq!(packets.find_map(|(number, (_, octets))| decided(&bindings.pairs, number, octets)), None);
         made.report.left_out.count > 0
     });
     assert!(full >= 20, "{full} captures are full");
-}
-
-/// As many best-effort frames as have firmware's octet are told to be firmware's.
-#[test]
-fn firmware_is_counted() {
-    let seen = hold(|made| {
-        let of_firmware = |call: &&Call| matches!(call, Call::BestEffort { caller: FIRMWARE, .. });
-        assert_eq!(made.report.firmware, made.events.iter().filter(of_firmware).count() as u64);
-        made.report.firmware > 0 && made.report.firmware < made.report.best_effort
-    });
-    assert!(seen >= 100, "{seen} captures have firmware beside queries");
 }
 
 /// The pairs that are bound, and the withdrawn streams with the ticks until they are free.
@@ -277,13 +231,13 @@ fn ticks_stand_where_epochs_end() {
     assert!(seen >= 200, "{seen} captures have ticks");
 }
 
-/// A capture replays without a refusal but those that a sender meets on a good port, 14 to 16, 25 and 28, and ends when all that was accepted is sent.
+/// A capture replays without a refusal but those that a sender meets on a good port, 14 to 16 and 25, and ends when all that was accepted is sent.
 #[test]
 fn captures_replay_without_other_refusals() {
     let discarding = hold(|made| {
         let mut port = Port::closed();
         let refusals: Vec<u8> = made.events.iter().map(|call| rule::step(&call.given(), &mut port).refusal).collect();
-        assert!(refusals.iter().all(|refusal| [0, 14, 15, 16, 25, 28].contains(refusal)), "{refusals:?}");
+        assert!(refusals.iter().all(|refusal| [0, 14, 15, 16, 25].contains(refusal)), "{refusals:?}");
         let drains = made.events.iter().any(|call| matches!(call, Call::Withdraw { .. }));
         assert!(drains || !refusals.contains(&25));
         let waiting: usize = port.queues.iter().map(|queue| queue.frames.len()).sum();
@@ -298,8 +252,7 @@ fn captures_replay_without_other_refusals() {
 fn driven(made: &Made, event: &Call) -> Call {
     match *event {
         Call::Arrive { tag, .. } | Call::BestEffort { tag, .. } => {
-            let octets = padded(&made.packets[tag as usize - 1].1);
-            Call::Frame { caller: made.loads.caller(&octets), octets: octets.into(), tag }
+            Call::Frame { octets: padded(&made.packets[tag as usize - 1].1).into(), tag }
         }
         ref other => other.clone(),
     }

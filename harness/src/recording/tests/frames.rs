@@ -1,7 +1,7 @@
 //! What a packet becomes: the call that Frame would make of it, padding, and 17.
 
 use super::made::{captured, events_of, streamed, tagged, typed, untagged, Form, ADDRESS, ORDINARY, PLAN};
-use crate::call::{Call, Given, Reply, QUERY};
+use crate::call::{Call, Given, Reply};
 use crate::capture::reading;
 use crate::comparing::fit::Octets;
 use crate::exports;
@@ -22,7 +22,7 @@ const fn arrives(charge: u32) -> Option<Call> {
 
 /// Packet 1 as best effort.
 const fn best_effort(charge: u32) -> Option<Call> {
-    Some(Call::BestEffort { caller: QUERY, charge, tag: 1 })
+    Some(Call::BestEffort { charge, tag: 1 })
 }
 
 #[test]
@@ -60,7 +60,7 @@ fn each_stream_has_its_own_pair() {
     let (events, _) = events_of(plan, &[frame(1), frame(4_094), frame(2)]);
     let of_packets: Vec<&Call> = events.iter().filter(|call| !matches!(call, Call::Tick | Call::Transmit)).skip(3).collect();
     let [first, second] = [(63, 1), (0, 2)].map(|(stream, tag)| Call::Arrive { stream, charge: 84, tag });
-    assert_eq!(of_packets, [&first, &second, &Call::BestEffort { caller: QUERY, charge: 84, tag: 3 }]);
+    assert_eq!(of_packets, [&first, &second, &Call::BestEffort { charge: 84, tag: 3 }]);
 }
 
 #[test]
@@ -106,8 +106,8 @@ fn what_frame_refuses_with_17_has_no_event() {
 fn proved(octets: &[u8]) -> Reply {
     let Octets { mut record, mut memory } = Octets::zero();
     let mut play = |call: &Given| exports::unscanned(call, &mut record, &mut memory);
-    assert_eq!(play(&Call::Open { link: 2_620, delay: 1, firmware: 0 }), Reply::granted(600, 0));
-    play(&Call::Frame { caller: QUERY, octets, tag: 1 })
+    assert_eq!(play(&Call::Open { link: 2_620, delay: 1 }), Reply::granted(600, 0));
+    play(&Call::Frame { octets, tag: 1 })
 }
 
 #[test]

@@ -1,7 +1,6 @@
 //! The tool's own tests: recordings are made here, and what becomes of them is written down or, for random ones, found packet by packet.
 
 mod any;
-mod callers;
 mod epochs;
 mod frames;
 mod made;

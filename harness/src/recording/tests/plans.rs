@@ -2,7 +2,6 @@
 
 use super::made::{EPOCH, PLAN};
 use crate::call::Call;
-use crate::recording::callers::Callers;
 use crate::recording::plan::{read, Plan, Withdrawal};
 
 /// The plan of a text that must be good.
@@ -24,7 +23,7 @@ fn with(lines: &str) -> String {
 fn a_plan_is_read() {
     let plan = plan(PLAN);
     assert_eq!(u64::from(plan.epoch), EPOCH);
-    assert_eq!(plan.calls, [Call::Open { link: 2_500, delay: 1, firmware: 0 }, Call::Reserve { stream: 5, permitted: 200 }]);
+    assert_eq!(plan.calls, [Call::Open { link: 2_500, delay: 1 }, Call::Reserve { stream: 5, permitted: 200 }]);
     let stream = plan.port.streams[5];
     assert_eq!((stream.permitted, stream.bound, stream.address, stream.vid), (200, 1, [0x01, 0x00, 0x5e, 0x00, 0x00, 0x05], 10));
     assert_eq!(plan.port.streams.iter().filter(|stream| stream.is_bound()).count(), 1);
@@ -38,7 +37,7 @@ fn comments_blank_lines_and_the_order_make_no_difference() {
 
 #[test]
 fn a_stream_need_not_be_bound_and_a_port_need_have_none() {
-    assert_eq!(plan("epoch 1\nopen 2104 16\n").calls, [Call::Open { link: 2_104, delay: 16, firmware: 0 }]);
+    assert_eq!(plan("epoch 1\nopen 2104 16\n").calls, [Call::Open { link: 2_104, delay: 16 }]);
     assert!(!plan("open 2500 1\nreserve 63 84\nepoch 4294967295").port.streams[63].is_bound());
 }
 
@@ -55,18 +54,6 @@ fn withdrawals_are_read_by_their_times() {
     assert_eq!(plan.withdrawals, [Withdrawal { time: 0, stream: 5 }, Withdrawal { time: u64::MAX, stream: 6 }]);
     assert!(plan.port.streams[6].is_bound() && plan.port.streams.iter().all(|stream| !stream.is_draining()));
     assert_eq!(plan.calls.len(), 3);
-}
-
-#[test]
-fn limits_and_packets_of_firmware_are_read() {
-    let text = "firmware vid 4094\nepoch 200000\nopen 2500 2 1\nfirmware 02:00:00:00:00:07 # the loader\nfirmware vid 1\n";
-    let plan = plan(text);
-    assert_eq!(plan.calls, [Call::Open { link: 2_500, delay: 2, firmware: 1 }]);
-    assert_eq!(plan.port.firmware, 1);
-    let mut callers = Callers::default();
-    callers.add_vid(4_094).and_then(|()| callers.add_address([2, 0, 0, 0, 0, 7])).and_then(|()| callers.add_vid(1)).expect("all are new");
-    assert_eq!(plan.callers, callers);
-    assert_eq!(read(PLAN.as_bytes()).expect("a good plan").callers, Callers::default());
 }
 
 #[test]
@@ -91,18 +78,6 @@ fn a_wrong_line_is_told() {
         (
             with("withdraw 5 18446744073709551616"),
             "line 5: '18446744073709551616' is not a time, which is a number from 0 to 18446744073709551615",
-        ),
-        (with("firmware"), "line 5: an address or a VID is missing"),
-        (with("firmware vid"), "line 5: a VID is missing"),
-        (with("firmware vid 0"), "line 5: VID outside 1 to 4,094"),
-        (with("firmware vid 4095"), "line 5: VID outside 1 to 4,094"),
-        (with("firmware vid 10 11"), "line 5: '11' is one word too many"),
-        (with("firmware vid 9\nfirmware vid 9"), "line 6: the VID is firmware's already"),
-        (with("firmware 10"), "line 5: '10' is not an address, which is six octets as in 01:23:45:67:89:ab"),
-        (with("firmware 02:00:00:00:00:07 10"), "line 5: '10' is one word too many"),
-        (
-            with("firmware 02:00:00:00:00:0a\nfirmware 02:00:00:00:00:0b\nfirmware 02:00:00:00:00:0A"),
-            "line 7: the address is firmware's already",
         ),
         (with("epoch 200000"), "line 5: the epoch has a length already"),
         (String::from("epoch"), "line 1: an epoch's length is missing"),
@@ -146,9 +121,6 @@ fn what_a_call_would_refuse_is_told() {
         (String::from("open 2103 0"), "line 1: refused with 3: L outside its range, 2,104 to 23,524"),
         (String::from("open 23525 1"), "line 1: refused with 3: L outside its range, 2,104 to 23,524"),
         (String::from("open 2500 17"), "line 1: refused with 4: K outside its range, 1 to 16"),
-        (String::from("open 2500 17 18"), "line 1: refused with 4: K outside its range, 1 to 16"),
-        (String::from("open 2500 2 3"), "line 1: refused with 27: F above K"),
-        (String::from("open 2500 2 256"), "line 1: '256' is not an F, which is a number from 0 to 255"),
         (with("reserve 64 83"), "line 5: refused with 5: stream above 63"),
         (with("reserve 5 83"), "line 5: refused with 6: reserved already"),
         (with("reserve 6 83"), "line 5: refused with 7: P below 84"),
@@ -174,6 +146,6 @@ fn what_a_call_would_refuse_is_told() {
 
 #[test]
 fn the_ends_of_the_ranges_are_granted() {
-    let text = "open 23524 16 16\nepoch 1\nreserve 0 21420\nreserve 63 84\nbind 0 00:00:00:00:00:00 1\nbind 63 ff:ff:ff:ff:ff:ff 4094\n";
+    let text = "open 23524 16\nepoch 1\nreserve 0 21420\nreserve 63 84\nbind 0 00:00:00:00:00:00 1\nbind 63 ff:ff:ff:ff:ff:ff 4094\n";
     assert_eq!(plan(text).calls.len(), 3);
 }

@@ -2,7 +2,7 @@
 
 use std::fs;
 
-use super::made::{tagged, typed, untagged, ADDRESS, ORDINARY};
+use super::made::{tagged, untagged, ADDRESS, ORDINARY};
 use crate::capture::stored;
 use crate::recording::tool;
 
@@ -12,14 +12,10 @@ const BEGINS: u64 = 1_700_000_000_000_000_000;
 /// The nanoseconds of a microsecond.
 const MICROSECOND: u64 = 1_000;
 
-/// The octets 14 and 15 of frames with the VIDs 10, 20, 30 and 40.
+/// The octets 14 and 15 of frames with the VIDs 10, 20 and 30.
 const TEN: u16 = 10;
 const TWENTY: u16 = 20;
 const THIRTY: u16 = 30;
-const FORTY: u16 = 40;
-
-/// The address to which a firmware load goes.
-const LOADED: [u8; 6] = [0x02, 0x00, 0x00, 0x00, 0x00, 0x07];
 
 /// A stored recording as it is made here: the name of its files, its packets with their microseconds from the first on, and what the tool tells of
 /// it.
@@ -30,8 +26,8 @@ struct Made {
 }
 
 /// All stored recordings.
-fn all() -> [Made; 3] {
-    [ordinary(), envelope(), firmware()]
+fn all() -> [Made; 2] {
+    [ordinary(), envelope()]
 }
 
 /// Two streams and best effort over three epochs' ends, with a frame that is too long and one that is padded.
@@ -73,24 +69,6 @@ fn envelope() -> Made {
     let told = "2 refused with 17: frame outside 60 to 1,996 octets, and not in the capture: packet 3, packet 8\n\
                 packets 10: arrivals 6, best effort 2, refused 2, left out 0; padded 0, epochs 2, events 19\n";
     Made { name: "recording_envelope", packets, told }
-}
-
-/// A firmware load, by its address and by its VID, beside a query, a reserved frame and one that is too long.
-fn firmware() -> Made {
-    let load = |length| typed(LOADED, vec![0x08, 0x00], length);
-    let packets = vec![
-        (0, load(1_476)),
-        (1, load(1_476)),
-        (2, tagged(ADDRESS, FORTY, 777)),
-        (3, untagged(60)),
-        (4, tagged(ADDRESS, FORTY, 776)),
-        (5, tagged(ADDRESS, TEN, 96)),
-        (6, load(1_997)),
-        (300, load(60)),
-    ];
-    let told = "1 refused with 17: frame outside 60 to 1,996 octets, and not in the capture: packet 7\n\
-                packets 8: arrivals 1, best effort 6 (firmware 5), refused 1, left out 0; padded 0, epochs 2, events 16\n";
-    Made { name: "recording_firmware", packets, told }
 }
 
 #[test]

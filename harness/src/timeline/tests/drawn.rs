@@ -151,61 +151,6 @@ fn a_stream_has_a_colour_of_its_own_and_best_effort_a_broken_edge() {
     }
 }
 
-/// A port on which both callers bring frames with equal tags, of which two are refused.
-const LOADS: &str = "port 0\nopen 2620 1 2\nopen 2620 2 1\nbest effort 84 7\nfirmware 2020 7\nfirmware 601 8\nfirmware 600 9\n\
-    tick\ntransmit\ntransmit\n";
-
-#[test]
-fn firmware_waits_among_the_queries_and_is_sent_after_those_before_it() {
-    let seen = seen(LOADS);
-    let boxes = ["8 link best effort tag 7", "9 link firmware tag 7", "3 best effort 7", "4 best effort 7", "6 best effort 9"];
-    assert_eq!(seen.boxes(), boxes);
-    assert_eq!(seen.bars(), ["best effort 7 from 3 to 8", "best effort 7 from 4 to 9", "best effort 9 from 6 to 9"]);
-    assert_eq!(seen.ways(), ["7 from best effort to link at 8", "7 from best effort to link at 9"]);
-}
-
-#[test]
-fn firmware_has_a_fill_and_an_edge_of_its_own() {
-    let looks = seen(LOADS).looks();
-    let of = |label: &str| looks.iter().find(|[own, ..]| own == label).map(|[_, fill, edge]| (fill.clone(), edge.clone()));
-    let (query, firmware) = (of("best effort tag 7").expect("it is sent"), of("firmware tag 7").expect("it is sent"));
-    assert!(query.0 != firmware.0 && query.1 != firmware.1 && !firmware.1.is_empty());
-    assert_eq!(of("9"), Some(firmware.clone()));
-    let in_queue: Vec<(String, String)> =
-        looks.iter().filter(|[own, ..]| own == "7").map(|[_, fill, edge]| (fill.clone(), edge.clone())).collect();
-    assert_eq!(in_queue, [query, firmware]);
-}
-
-#[test]
-fn limits_of_firmware_are_told() {
-    let seen = seen(LOADS);
-    assert_eq!(seen.crossed(), ["1 refused open 27", "5 refused 8 28"]);
-    for text in ["F 1", "F 2", "firmware", "refused 27", "refused 28", "refused: F above K"] {
-        assert!(seen.texts().contains(&text), "{text}");
-    }
-    let told = seen.legend().join(" ");
-    for text in [
-        "best-effort frame of firmware with tag 7, in one queue with the queries'",
-        "refused: firmware octets waiting + charge above F × (L − R)",
-        "F: limit of firmware in epochs, 0 where an open does not name it",
-        "R: sum of the reserved streams' P",
-    ] {
-        assert!(told.contains(text), "{text}, in {told}");
-    }
-    let titles = seen.titles();
-    assert!(titles.contains(&"1 open with L 2620, K 1 and F 2: refused with 27: F above K"));
-    assert!(titles.contains(&"5 firmware, charge 601, tag 8: refused with 28: firmware octets waiting + charge above F × (L − R)"));
-    assert!(titles.contains(&"firmware, charge 2020, tag 7: in best effort since event 4, sent at event 9"));
-}
-
-#[test]
-fn a_picture_without_firmware_says_nothing_of_it() {
-    let texts = seen(SAMPLE).texts().join(" ");
-    assert!(!texts.contains("firmware") && !texts.contains("F:"));
-    let texts = seen("port 0\nopen 2620 1\nfirmware 84 7\n").legend().join(" ");
-    assert!(texts.contains("F: limit of firmware in epochs, 0 where an open does not name it"));
-}
-
 #[test]
 fn a_pointer_that_rests_on_something_is_told_what_it_is() {
     let seen = seen("port 0\nopen 2620 1\nreserve 5 200\narrive 5 84 1\ntick\ntick\narrive 5 84 2\nbest effort 84 3\ntransmit\n");

@@ -4,7 +4,7 @@ use super::any_events;
 use super::seen::Seen;
 use crate::call::{Call, Reply};
 use crate::comparing::random::Random;
-use crate::model::port::{Port, BEST_EFFORT, CURRENT, FIRMWARE_STREAM, NOTHING, QUERY_STREAM, QUEUES, RESERVED_QUEUES};
+use crate::model::port::{Port, BEST_EFFORT, BEST_EFFORT_STREAM, CURRENT, NOTHING, QUEUES, RESERVED_QUEUES};
 use crate::model::rule;
 use crate::timeline::words::ROLES;
 use crate::timeline::{drawn, frames, MOST};
@@ -15,8 +15,6 @@ const LISTS: u64 = 60;
 const SEED: u64 = 1;
 /// How often a withdrawn stream must become free in them.
 const LEAST_FREED: usize = 50;
-/// How often a firmware frame must be sent in them.
-const LEAST_FIRMWARE: usize = 50;
 
 /// The labels of the frames that wait in a role.
 fn waiting(port: &Port, role: usize) -> impl Iterator<Item = String> + '_ {
@@ -86,11 +84,7 @@ impl Due {
         let role = role.expect("a frame waits that is sent");
         let oldest = waiting(before, role).next().expect("a frame waits that is sent");
         self.ways.push(format!("{oldest} from {} to link at {event}", ROLES[role]));
-        let sort = match reply.first {
-            QUERY_STREAM => String::from("best effort"),
-            FIRMWARE_STREAM => String::from("firmware"),
-            stream => format!("stream {stream}"),
-        };
+        let sort = if reply.first == BEST_EFFORT_STREAM { String::from("best effort") } else { format!("stream {}", reply.first) };
         self.boxes.push(format!("{event} link {sort} tag {}", reply.second));
     }
 
@@ -119,7 +113,7 @@ fn due(events: &[(Call, Reply)], from: usize, begins: &[usize]) -> Due {
 
 #[test]
 fn frames_stand_where_the_port_has_them() {
-    let (mut freed, mut firmware) = (0, 0);
+    let mut freed = 0;
     for number in 0..LISTS {
         let random = &mut Random::of(SEED, "timeline", number);
         let events = any_events(random);
@@ -128,11 +122,9 @@ fn frames_stand_where_the_port_has_them() {
         let begins: Vec<usize> = seen.bands().iter().map(|band| first_event(band)).collect();
         let found = Due { boxes: seen.boxes(), ways: seen.ways(), purges: seen.purges() }.sorted();
         freed += found.boxes.iter().filter(|seen| seen.ends_with(": free")).count();
-        firmware += found.boxes.iter().filter(|seen| seen.contains(" link firmware ")).count();
         assert_eq!(found, due(&events, from, &begins), "list {number} from event {from}");
     }
     assert!(freed >= LEAST_FREED, "{freed} streams are free after they were withdrawn");
-    assert!(firmware >= LEAST_FIRMWARE, "{firmware} firmware frames are sent");
 }
 
 /// The number of a band's first event.

@@ -11,7 +11,7 @@ mod stored;
 mod tool;
 mod xml;
 
-use crate::call::{Call, Reply, FIRMWARE, QUERY};
+use crate::call::{Call, Reply};
 use crate::capture::writing;
 use crate::comparing::random::Random;
 use crate::model::capture::events;
@@ -31,7 +31,7 @@ const SAMPLE: &str = "port 0\nopen 2620 1\nreserve 5 200\narrive 5 120 7\narrive
 /// A list of as many events as a picture shows, on a port with two streams, with their replies.
 fn any_events(random: &mut Random) -> Vec<(Call, Reply)> {
     let reserves = [(5, 300), (63, 500)].map(|(stream, permitted)| Call::Reserve { stream, permitted });
-    let mut events = vec![Call::Open { link: 3_000, delay: 2, firmware: 1 }];
+    let mut events = vec![Call::Open { link: 3_000, delay: 2 }];
     events.extend(reserves);
     let weights = random.pick(&[[5, 2, 1, 4, 0, 0], [4, 1, 3, 1, 1, 1], [2, 4, 2, 4, 1, 1], [4, 1, 6, 4, 1, 2]]);
     events.extend((events.len()..MOST).map(|before| any_event(random, &weights, before as u32)));
@@ -43,7 +43,7 @@ fn any_event(random: &mut Random, weights: &[usize], number: u32) -> Call {
     let tag = if random.chance(10) { 3 } else { number };
     match random.weighted(weights) {
         0 => Call::Arrive { stream: random.pick(&[5, 63]), charge: random.pick(&[84, 100, 150, 300]), tag },
-        1 => Call::BestEffort { caller: random.pick(&[QUERY, FIRMWARE]), charge: random.pick(&[84, 400, LARGEST_CHARGE]), tag },
+        1 => Call::BestEffort { charge: random.pick(&[84, 400, LARGEST_CHARGE]), tag },
         2 => Call::Tick,
         3 => Call::Transmit,
         4 => Call::Withdraw { stream: random.pick(&[5, 63]) },

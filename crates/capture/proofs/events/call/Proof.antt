@@ -20,7 +20,7 @@ same_length_2 c = search rules
 returns : tie.Need-returns
 returns c =
     let g = c.before.before.before.before.before.before.before.before.args in
-    let e : call_of g.kind g.stream g.a g.b ≡ opening (terms g.a g.b g.stream) = simp (eq-eqb _ _ c.before.before.before.before.before.if1.true) in
+    let e : call_of g.kind g.stream g.a g.b ≡ opening (terms g.a g.b) = simp (eq-eqb _ _ c.before.before.before.before.before.if1.true) in
     c.before.before.open-port.ensures ∙ ap (λ (x : Call). quickly_called x g.port.now g.memory.now) (sym e)
 
 reserve_requires : tie.Need-reserve-requires
@@ -65,7 +65,7 @@ same_length_8 c = search rules
 returns_4 : tie.Need-returns-4
 returns_4 c =
     let g = c.before.before.before.before.before.before.before.before.before.before.before.before.before.args in
-    let e : call_of g.kind g.stream g.a g.b ≡ joining_best_effort g.stream g.a g.b = simp (ne_eqb _ _ c.before.before.before.before.before.before.before.before.before.before.if1.false, ne_eqb _ _ c.before.before.before.before.before.before.before.before.before.if2.false, ne_eqb _ _ c.before.before.before.before.before.before.before.before.if3.false, eq-eqb _ _ c.before.before.before.before.before.before.before.if4.true) in
+    let e : call_of g.kind g.stream g.a g.b ≡ joining_best_effort g.a g.b = simp (ne_eqb _ _ c.before.before.before.before.before.before.before.before.before.before.if1.false, ne_eqb _ _ c.before.before.before.before.before.before.before.before.before.if2.false, ne_eqb _ _ c.before.before.before.before.before.before.before.before.if3.false, eq-eqb _ _ c.before.before.before.before.before.before.before.if4.true) in
     c.before.before.before.before.best-effort.ensures ∙ ap (λ (x : Call). quickly_called x g.port.now g.memory.now) (sym e)
 
 tick_requires : tie.Need-tick-requires

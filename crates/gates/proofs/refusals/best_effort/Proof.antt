@@ -18,4 +18,5 @@ best_effort_spec =
     (λ c κs. search rules)
     (λ c. (search tests depth 12 fits 8000, λ zero. absurd (omega arith)))
     (λ c κs. search rules)
-    (λ c. (search tests depth 12 fits 8000, λ zero. c.limits.ensures.1 zero)))
+    (λ c. (search tests depth 12 fits 8000, λ zero. absurd (omega arith)))
+    (λ c. (search tests depth 12 fits 8000, λ zero. c.before.exceeds-limit.ensures.1 c.if4.false)))

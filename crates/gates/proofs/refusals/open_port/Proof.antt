@@ -16,6 +16,4 @@ open_port_spec =
     (λ c. search tests depth 12 fits 8000)
     (λ c κs. search rules)
     (λ c. search tests depth 12 fits 8000)
-    (λ c κs. search rules)
-    (λ c. search tests depth 12 fits 8000)
     (λ c. search tests depth 12 fits 8000))

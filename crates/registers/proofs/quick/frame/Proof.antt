@@ -47,7 +47,7 @@ same_length_4 : tie.Need-same-length-4
 same_length_4 c = search rules
 
 returns_2 : tie.Need-returns-2
-returns_2 c = frame_outside quickly_called _ _ _ _ _ _ _ _ _ _ c.before.before.before.before.before.before.before.before.before.if1.false c.before.before.before.before.before.before.before.before.before.before.lengths.ensures c.before.before.before.before.before.before.before.before.length_fits_lem.ensures (not-true _ c.before.before.before.before.before.before.before.if2.true) c.before.before.before.before.frame.ensures
+returns_2 c = frame_outside quickly_called _ _ _ _ _ _ _ _ _ c.before.before.before.before.before.before.before.before.before.if1.false c.before.before.before.before.before.before.before.before.before.before.lengths.ensures c.before.before.before.before.before.before.before.before.length_fits_lem.ensures (not-true _ c.before.before.before.before.before.before.before.if2.true) c.before.before.before.before.frame.ensures
 
 charge_requires : tie.Need-charge-requires
 charge_requires c κs = sym c.before.length_fits_lem.ensures ∙ not-false _ c.if2.false
@@ -95,7 +95,7 @@ same_length_6 : tie.Need-same-length-6
 same_length_6 c = search rules
 
 returns_3 : tie.Need-returns-3
-returns_3 c = frame_arrives quickly_called quick_frame_becomes _ _ _ _ _ _ _ _ _ _ c.before.before.before.before.before.before.before.before.before.before.before.before.before.before.before.before.before.before.length_fits_lem.ensures (not-false _ c.before.before.before.before.before.before.before.before.before.before.before.before.before.before.before.before.before.if2.false) c.before.before.before.before.before.before.before.before.before.before.before.before.before.before.of-frame.ensures c.before.before.before.before.before.before.before.before.before.before.before.before.stream.given.1 c.before.before.before.before.before.before.before.before.before.before.before.before.before.before.before.before.charge.ensures (done quickly_called _ _ _ _ _ _ _ _ c.before.before.before.before.before.before.before.before.before.before.before.before.before.before.before.before.before.before.before.if1.false c.before.before.before.before.before.before.before.before.before.before.before.before.before.before.before.before.before.before.before.before.lengths.ensures c.before.before.before.before.before.before.before.before.arrive.ensures (c.before.before.arrive2.ensures ∙ replaced_in _ _ _ c.before.before.before.before.before.before.before.before.before.before.before.before.before.before.before.before.before.before.before.if1.false c.before.before.before.before.before.before.before.before.before.before.before.before.before.before.before.before.before.before.before.before.lengths.ensures c.before.before.before.before.before.before.before.before.arrive.new.0 c.before.before.before.before.before.before.before.before.arrive.auto.0 (arrival_noted _ _)))
+returns_3 c = frame_arrives quickly_called quick_frame_becomes _ _ _ _ _ _ _ _ _ c.before.before.before.before.before.before.before.before.before.before.before.before.before.before.before.before.before.before.length_fits_lem.ensures (not-false _ c.before.before.before.before.before.before.before.before.before.before.before.before.before.before.before.before.before.if2.false) c.before.before.before.before.before.before.before.before.before.before.before.before.before.before.of-frame.ensures c.before.before.before.before.before.before.before.before.before.before.before.before.stream.given.1 c.before.before.before.before.before.before.before.before.before.before.before.before.before.before.before.before.charge.ensures (done quickly_called _ _ _ _ _ _ _ _ c.before.before.before.before.before.before.before.before.before.before.before.before.before.before.before.before.before.before.before.if1.false c.before.before.before.before.before.before.before.before.before.before.before.before.before.before.before.before.before.before.before.before.lengths.ensures c.before.before.before.before.before.before.before.before.arrive.ensures (c.before.before.arrive2.ensures ∙ replaced_in _ _ _ c.before.before.before.before.before.before.before.before.before.before.before.before.before.before.before.before.before.before.before.if1.false c.before.before.before.before.before.before.before.before.before.before.before.before.before.before.before.before.before.before.before.before.lengths.ensures c.before.before.before.before.before.before.before.before.arrive.new.0 c.before.before.before.before.before.before.before.before.arrive.auto.0 (arrival_noted _ _)))
 
 same_length_7 : tie.Need-same-length-7
 same_length_7 c = search rules
@@ -104,7 +104,7 @@ same_length_8 : tie.Need-same-length-8
 same_length_8 c = search rules
 
 returns_4 : tie.Need-returns-4
-returns_4 c = frame_joins quickly_called quick_frame_becomes _ _ _ _ _ _ _ _ _ c.before.before.before.before.before.before.before.before.before.before.before.before.before.length_fits_lem.ensures (not-false _ c.before.before.before.before.before.before.before.before.before.before.before.before.if2.false) c.before.before.before.before.before.before.before.before.before.of-frame.ensures c.before.before.before.before.before.before.before.enum_told.given.1 c.before.before.before.before.before.before.before.before.before.before.before.charge.ensures (done quickly_called _ _ _ _ _ _ _ _ c.before.before.before.before.before.before.before.before.before.before.before.before.before.before.if1.false c.before.before.before.before.before.before.before.before.before.before.before.before.before.before.before.lengths.ensures c.before.before.before.before.best-effort.ensures refl)
+returns_4 c = frame_joins quickly_called quick_frame_becomes _ _ _ _ _ _ _ _ c.before.before.before.before.before.before.before.before.before.before.before.before.before.length_fits_lem.ensures (not-false _ c.before.before.before.before.before.before.before.before.before.before.before.before.if2.false) c.before.before.before.before.before.before.before.before.before.of-frame.ensures c.before.before.before.before.before.before.before.enum_told.given.1 c.before.before.before.before.before.before.before.before.before.before.before.charge.ensures (done quickly_called _ _ _ _ _ _ _ _ c.before.before.before.before.before.before.before.before.before.before.before.before.before.before.if1.false c.before.before.before.before.before.before.before.before.before.before.before.before.before.before.before.lengths.ensures c.before.before.before.before.best-effort.ensures refl)
 
 pub frame_spec : {M : Type 1} → statement M
 frame_spec =
