@@ -1,4 +1,6 @@
 // The step of Best effort, in the octets that the host lends. The definition is in specs/.
+#![tactic(auto)]
+
 ghost use Rattle.std.specs.Prelude.{◌≡◌};
 ghost use Rattle.record.specs.Layout.{Whole};
 ghost use Rattle.record.specs.Queues.{HasMemory};

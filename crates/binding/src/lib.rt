@@ -1,4 +1,6 @@
 // The step of Bind, in the octets that the host lends, and the lookup of a pair among the bindings. The definitions are in specs/.
+#![tactic(auto)]
+
 pub mod finding;
 
 ghost use Rattle.std.specs.Prelude.{◌≡◌, ◌≤◌, ◌<◌, length};

@@ -1,4 +1,6 @@
 // The replay of a capture as text: the file's octets in, what document 01 prints of it out. The definitions are in specs/.
+#![tactic(auto)]
+
 mod events;
 mod lines;
 

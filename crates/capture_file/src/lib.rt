@@ -1,4 +1,6 @@
 // The capture file of document 01, in octets of any length and content: its fields, and what of it is refused. The definitions are in specs/.
+#![tactic(auto)]
+
 pub mod field;
 
 ghost use Rattle.std.specs.Prelude.{◌≡◌, ◌<◌, ◌≤◌, length};

@@ -1,6 +1,8 @@
 // The calls of a port, its register accesses, its counts and its lookup for a host in C or Rust, over the slice and the memory that the host lends. The
 // refusal, or 0, is returned, and the two reply numbers are left in `first` and `second`. None asks anything of its caller; a contract is that of the call in
 // `registers`.
+#![tactic(auto)]
+
 pub mod alone;
 pub mod unscanned;
 

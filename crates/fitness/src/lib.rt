@@ -1,5 +1,7 @@
 // Whether the host's record and memory will do: refusals 18 and 19, for a record and a memory of any length and content. The definitions
 // are in specs/, clause by clause in document 01's order.
+#![tactic(auto)]
+
 mod bindings;
 pub mod frames;
 mod queues;

@@ -1,4 +1,6 @@
 // What each call does where record and memory are long enough: its own refusals, in document 01's order, then its step. The definitions are in specs/.
+#![tactic(auto)]
+
 pub mod refusals;
 
 ghost use Rattle.std.specs.Prelude.{◌≡◌, ◌≤◌, length};

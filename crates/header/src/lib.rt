@@ -1,4 +1,6 @@
 // A frame by its octets: its length, its charge, and what Frame reads of its header. Nothing here knows a port. The definitions are in specs/.
+#![tactic(auto)]
+
 ghost use Rattle.std.specs.Prelude.{◌≡◌, true, ◌≤◌, length};
 ghost use Rattle.header.specs.Header.{charge_of, length_fits, header_length, tagged_frame, vid_of};
 

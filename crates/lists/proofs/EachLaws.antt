@@ -38,10 +38,12 @@ module _ {A : Type 0} where
 
     pub some_snoc : (l : List A) (x : A) → Some P (l ++ (x ∷ [])) → Some P l ⊎ P x
     some_snoc [] x (inl h) = inr h
+    some_snoc [] x (inr h) = elim h [ ]
     some_snoc (y ∷ l) x (inl h) = inl (inl h)
     some_snoc (y ∷ l) x (inr h) = ⊎_elim (λ (i : Some P l). inl (inr i)) (λ (i : P x). inr i) (some_snoc l x h)
 
     pub some_before : (l : List A) (x : A) → Some P l → Some P (l ++ (x ∷ []))
+    some_before [] x h = elim h [ ]
     some_before (y ∷ l) x (inl h) = inl h
     some_before (y ∷ l) x (inr h) = inr (some_before l x h)
 

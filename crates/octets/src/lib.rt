@@ -1,5 +1,7 @@
 // Numbers of two, four and eight octets, high octet first, read and written in a slice: what the port record, the frame memory and
 // capture files are made of.
+#![tactic(auto)]
+
 ghost use Rattle.std.specs.Prelude.{◌≡◌, ◌+◌, ◌*◌, ◌≤◌, length};
 ghost use Rattle.lists.specs.Window.{put, get};
 ghost use Rattle.octets.specs.Numbers.{two_of, two_octets, four_of, four_octets, eight_of};

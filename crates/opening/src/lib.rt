@@ -1,4 +1,6 @@
 // The steps of Open, Reserve and Withdraw, in the octets that the host lends. The definitions are in specs/.
+#![tactic(auto)]
+
 ghost use Rattle.std.specs.Prelude.{◌≡◌, ◌<◌};
 ghost use Rattle.stream.specs.Replies.{granted};
 ghost use Rattle.record.specs.Layout.{Whole, stream_count};

@@ -1,5 +1,7 @@
 // The calls of a port, over the record and the memory that the host lends: Open, Reserve, Withdraw, Arrive, Tick, Transmit, Best effort, Bind
 // and Frame, each with all of its checks. None asks anything of its caller. The definitions are in specs/.
+#![tactic(auto)]
+
 pub mod quick;
 
 ghost use Rattle.std.specs.Prelude.{◌≡◌};

@@ -1,5 +1,7 @@
 // Frames in the memory that the host lends, and one queue of them: first in first out over 256 places, in the queue's part of the
 // memory. The definitions are in specs/.
+#![tactic(auto)]
+
 mod place;
 
 ghost use Rattle.std.specs.Prelude.{◌≡◌, ◌+◌, ◌*◌, ◌≤◌, ◌<◌, length};

@@ -1,4 +1,6 @@
 // The ranges of documents 01 and 02, each with its numbers in one place. Numbers in calls are 32-bit. The definitions are in specs/.
+#![tactic(auto)]
+
 ghost use Rattle.std.specs.Prelude.{◌≡◌};
 ghost use Rattle.ranges.specs.Ranges.{within, charge_fits, share_of, link_fits, delay_fits, permitted_fits, vid_fits};
 

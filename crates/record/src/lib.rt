@@ -1,4 +1,6 @@
 // The port record in the octets that the host lends: each field read and written in place. The layout and the definitions are in specs/.
+#![tactic(auto)]
+
 pub mod entry;
 pub mod head;
 

@@ -1,5 +1,7 @@
 // The register block in the octets that the host lends behind a port's record: flags, mask, choice and counters read and written in place. The layout and
 // the definitions are in specs/. Nothing here knows of calls: what a reply does to the block is said above.
+#![tactic(auto)]
+
 ghost use Rattle.std.specs.Prelude.{◌≡◌, ◌+◌, ◌<◌, ◌≤◌, length, if◌then◌else◌};
 ghost use Rattle.record.specs.Layout.{stream_count};
 ghost use Rattle.register_block.specs.Layout.{WholeBlock, accepted_octet, discarded_octet};

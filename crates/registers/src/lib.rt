@@ -1,6 +1,8 @@
 // The calls of a port with its registers, over the slice that the host lends, the record and then the register block, and the memory: Open, Reserve,
 // Withdraw, Arrive, Tick, Transmit, Best effort, Bind and Frame. Each makes the call on the record, and then does to the block what its reply says.
 // None asks anything of its caller. The definitions are in specs/.
+#![tactic(auto)]
+
 pub mod accesses;
 pub mod counts;
 pub mod lookup;

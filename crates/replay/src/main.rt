@@ -1,5 +1,7 @@
 // Replays a capture: reads it from standard input, and writes what document 01 says of it to standard output. A read or a write that fails is
 // told on standard error.
+#![tactic(auto)]
+
 ghost use Rattle.std.specs.Prelude.{◌≡◌, ◌+◌, ◌≤◌, length, take};
 ghost use Rattle.capture_file.specs.Checks.{most_octets};
 ghost use Rattle.capture.specs.Output.{text_length, output};

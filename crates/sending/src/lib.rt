@@ -1,4 +1,6 @@
 // The step of Transmit, in the octets that the host lends. The definition is in specs/.
+#![tactic(auto)]
+
 ghost use Rattle.std.specs.Prelude.{◌≡◌, ◌<◌, ◌-◌};
 ghost use Rattle.queue.specs.Ring.{HasPart};
 ghost use Rattle.record.specs.Layout.{Whole, queue_room};

@@ -1,6 +1,8 @@
 // What the steps of a port share: replies, the roles of the queues, and a stream moved. The steps themselves stand in the crates above, each
 // what a call does once nothing refuses it. Each is defined for every record and memory that are long enough, fit or not, and writes only
 // what its rule names.
+#![tactic(auto)]
+
 ghost use Rattle.std.specs.Prelude.{◌≡◌, ◌+◌, ◌%◌, ◌≤◌, ◌<◌};
 ghost use Rattle.stream.specs.Replies.{granted, refused_by};
 ghost use Rattle.stream.specs.State.{least_queues, most_queues};

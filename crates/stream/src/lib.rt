@@ -1,5 +1,7 @@
 // The rules of one reserved stream: what an arriving frame and a tick do to its record. The record goes in by value and comes
 // back, with the answer. The definitions are in specs/, in document 01's order.
+#![tactic(auto)]
+
 ghost use Rattle.std.specs.Prelude.{◌≡◌, ◌≤◌, ◌<◌};
 ghost use Rattle.stream.specs.State.{at_place, full_at, reserve_of};
 ghost use Rattle.stream.specs.Steps.{advanced, advanced_if_spent, joined, discarded, arrive_of, tick_of};
@@ -14,7 +16,7 @@ pub const DISCARD: u8 = 14;
 // One stream: whether it is reserved, its permitted octets per epoch (P), its place, and the octets still free there (left). The methods
 // below neither read nor change whether it is reserved: that is for the port to ask. Those of an arrival take the port's last place.
 #[repr(C)]
-#[derive(Drop)]
+#[derive(Clone, Copy, Drop)]
 pub struct Stream {
     pub reserved: bool,
     pub permitted: u16,
@@ -23,14 +25,14 @@ pub struct Stream {
 }
 
 // What becomes of an arriving frame: it joins the queue at a place, or it is discarded. The stream's new record comes with it.
-#[derive(Drop)]
+#[derive(Clone, Copy, Drop)]
 pub enum Arrival {
     Joined(u8, Stream),
     Discarded(Stream),
 }
 
 // The reply of a call: its refusal, or 0, and two numbers.
-#[derive(Drop)]
+#[derive(Clone, Copy, Drop)]
 pub struct Reply {
     pub refusal: u8,
     pub first: u32,

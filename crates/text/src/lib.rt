@@ -1,4 +1,6 @@
 // Lines of numbers as text, in ASCII, written into a lent slice from an index on: what `replay` prints.
+#![tactic(auto)]
+
 ghost use Rattle.std.specs.Prelude.{◌≡◌, ◌+◌, ◌≤◌, ◌<◌, length};
 ghost use Rattle.text.specs.Digits.{digit, digits};
 ghost use Rattle.text.specs.Lines.{number_then, end_before, line_of, Wrote};
