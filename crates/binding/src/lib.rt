@@ -12,7 +12,7 @@ ghost use Rattle.binding.specs.Finding.{is_bound, lookup_reply};
 use stream::Reply;
 
 // What a lookup finds: the stream that is bound to the pair, or that none is.
-#[derive(Drop)]
+#[derive(Clone, Copy, Drop)]
 pub enum Lookup {
     Bound(u8),
     Unbound,
@@ -31,14 +31,14 @@ impl Lookup {
 }
 
 // What comparing an address gives: whether it is equal, and how many address octets were compared by then, those compared before among them.
-#[derive(Drop)]
+#[derive(Clone, Copy, Drop)]
 pub struct Comparison {
     equal: bool,
     compared: u32,
 }
 
 // What a lookup gives: what it found, and beside it the number of address octets compared.
-#[derive(Drop)]
+#[derive(Clone, Copy, Drop)]
 pub struct Answer {
     pub found: Lookup,
     pub compared: u32,

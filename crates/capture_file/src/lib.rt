@@ -8,7 +8,7 @@ ghost use Rattle.capture_file.specs.File.{HasRecord, record_octets, port_count, 
 ghost use Rattle.capture_file.specs.Checks.{refused_at, length_good, header_good, first_good, next_good, all_zero, fields_good, record_good, record_refusal, chain_refusal, port_refusal, ports_refusal, file_refusal};
 
 // A refusal of a file: its number, or 0 where nothing is refused, and the index of the record.
-#[derive(Drop)]
+#[derive(Clone, Copy, Drop)]
 pub struct FileRefusal {
     pub number: u8,
     pub index: u16,

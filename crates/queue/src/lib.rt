@@ -17,7 +17,7 @@ const PLACE_COUNT: usize = PLACES as usize;
 pub const PART_LENGTH: usize = PLACE_COUNT * place::LENGTH;
 
 // A frame by its stream, its charge (the octets that it costs on the wire) and its tag (the caller's number for it).
-#[derive(Drop)]
+#[derive(Clone, Copy, Drop)]
 pub struct Frame {
     pub stream: u16,
     pub charge: u16,
@@ -25,7 +25,7 @@ pub struct Frame {
 }
 
 // A queue: the place of its oldest frame, and how many frames wait.
-#[derive(Drop)]
+#[derive(Clone, Copy, Drop)]
 pub struct Queue {
     pub start: u16,
     pub count: u16,

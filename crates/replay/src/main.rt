@@ -13,7 +13,7 @@ use libc::{STDIN_FILENO, STDOUT_FILENO};
 const FILE_LENGTH: usize = capture_file::MOST_OCTETS + 1;
 
 // What came of reading: so many octets, or a read that failed.
-#[derive(Drop)]
+#[derive(Clone, Copy, Drop)]
 enum Input {
     Octets(usize),
     Failed,

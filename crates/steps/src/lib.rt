@@ -41,7 +41,7 @@ pub fn refused(number: u8) -> Reply
 }
 
 // What the roles of the queues go by, read once for a step: how many queues there are for reserved traffic, and which of them is prior.
-#[derive(Drop)]
+#[derive(Clone, Copy, Drop)]
 pub struct Roles {
     pub queues: u8,
     pub prior: u8,
