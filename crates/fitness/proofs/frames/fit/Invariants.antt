@@ -1,0 +1,19 @@
+-- `fitness::frames::fit` meets its contract. The loop's invariant: what the turns done so far answer. Assumes nothing.
+use Prim.Native.Nat.{ℕ, ◌+◌, ◌-◌, ◌≤◌}
+use mathlib.Core.Bool.{◌&&◌}
+use mathlib.Core.Path.{◌≡◌, ◌∙◌, ap, ap₂}
+use native.Mathlib.Numerals.{add-one}
+use native.Mathlib.Omega.{arith}
+use borrow.Author.Rules.{rules}
+use Rattle.lists.specs.Turns.{all_to, all_of}
+use Rattle.queue.specs.Waiting.{waiting}
+use Rattle.queue.specs.declared.Queue.{Queue}
+use Rattle.record.specs.Head.{queue_at}
+use Rattle.fitness.specs.Clauses.{frame_fits}
+use Rattle.fitness.proofs.frames.fit.Given as goal
+
+abbrev pub invariant-loop-q : goal.invariant-loop-q
+invariant-loop-q l = (l.q ≤ l.best + 1) × (l.ok ≡ all_to (λ k. all_of (frame_fits l.best k) (waiting l.memory k (queue_at l.port k))) l.q)
+
+abbrev pub decreases-loop-q : goal.decreases-loop-q
+decreases-loop-q l = l.best + 1 - l.q

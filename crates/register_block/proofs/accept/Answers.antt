@@ -1,0 +1,12 @@
+-- `register_block::accept` meets its contract. By whether the number is a stream's. Assumes nothing.
+use Rattle.std.proofs.Common.{ap, ◌∙◌, rules, le-ltb, lt-ltb}
+use Rattle.register_block.specs.Events.{raised, accepted}
+use Rattle.register_block.proofs.accept.Goals as goal
+
+pub returns-then-stream-lt-STREAMS : goal.returns-then-stream-lt-STREAMS
+unfolding accepted
+returns-then-stream-lt-STREAMS c = simp (lt-ltb _ _ c.if-stream-lt-STREAMS.true) (c.raise.ensures ∙ ap (raised _) c.accepted_at.ensures)
+
+pub returns : goal.returns
+unfolding accepted
+returns c = simp (le-ltb _ _ c.if-stream-lt-STREAMS.false)
