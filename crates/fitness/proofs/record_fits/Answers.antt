@@ -22,7 +22,7 @@ unfolding record_fits
 returns-then-not-prior_fits c =
     let p = c.args.port.now in
     let long : leb record_length (length p) ≡ true = le-leb record_length _ c.if-port-lt-RECORD_LENGTH.false in
-    let prior : prior_fits p ≡ false = sym c.prior_fits.ensures ∙ not-true _ c.if-not-prior_fits.true in
+    let prior : prior_fits p ≡ false = sym c.prior_fits.ensures ∙ not-true _ c.if-not-prior_fits.true-raw in
     simp (long, prior)
 
 pub returns-then-not-fit : goal.returns-then-not-fit
@@ -30,8 +30,8 @@ unfolding record_fits
 returns-then-not-fit c =
     let p = c.args.port.now in
     let long : leb record_length (length p) ≡ true = le-leb record_length _ c.if-port-lt-RECORD_LENGTH.false in
-    let prior : prior_fits p ≡ true = sym c.prior_fits.ensures ∙ not-false _ c.if-not-prior_fits.false in
-    let queues : queues_fit p ≡ false = sym c.fit.ensures ∙ not-true _ c.if-not-fit.true in
+    let prior : prior_fits p ≡ true = sym c.prior_fits.ensures ∙ not-false _ c.if-not-prior_fits.false-raw in
+    let queues : queues_fit p ≡ false = sym c.fit.ensures ∙ not-true _ c.if-not-fit.true-raw in
     simp (long, prior, queues)
 
 pub returns-then-not-fit-2 : goal.returns-then-not-fit-2
@@ -39,9 +39,9 @@ unfolding record_fits
 returns-then-not-fit-2 c =
     let p = c.args.port.now in
     let long : leb record_length (length p) ≡ true = le-leb record_length _ c.if-port-lt-RECORD_LENGTH.false in
-    let prior : prior_fits p ≡ true = sym c.prior_fits.ensures ∙ not-false _ c.if-not-prior_fits.false in
-    let queues : queues_fit p ≡ true = sym c.fit.ensures ∙ not-false _ c.if-not-fit.false in
-    let streams : streams_fit p ≡ false = sym c.fit-2.ensures ∙ not-true _ c.if-not-fit-2.true in
+    let prior : prior_fits p ≡ true = sym c.prior_fits.ensures ∙ not-false _ c.if-not-prior_fits.false-raw in
+    let queues : queues_fit p ≡ true = sym c.fit.ensures ∙ not-false _ c.if-not-fit.false-raw in
+    let streams : streams_fit p ≡ false = sym c.fit-2.ensures ∙ not-true _ c.if-not-fit-2.true-raw in
     simp (long, prior, queues, streams)
 
 pub returns-then-not-fit-3 : goal.returns-then-not-fit-3
@@ -49,10 +49,10 @@ unfolding record_fits
 returns-then-not-fit-3 c =
     let p = c.args.port.now in
     let long : leb record_length (length p) ≡ true = le-leb record_length _ c.if-port-lt-RECORD_LENGTH.false in
-    let prior : prior_fits p ≡ true = sym c.prior_fits.ensures ∙ not-false _ c.if-not-prior_fits.false in
-    let queues : queues_fit p ≡ true = sym c.fit.ensures ∙ not-false _ c.if-not-fit.false in
-    let streams : streams_fit p ≡ true = sym c.fit-2.ensures ∙ not-false _ c.if-not-fit-2.false in
-    let bindings : bindings_fit p ≡ false = sym c.fit-3.ensures ∙ not-true _ c.if-not-fit-3.true in
+    let prior : prior_fits p ≡ true = sym c.prior_fits.ensures ∙ not-false _ c.if-not-prior_fits.false-raw in
+    let queues : queues_fit p ≡ true = sym c.fit.ensures ∙ not-false _ c.if-not-fit.false-raw in
+    let streams : streams_fit p ≡ true = sym c.fit-2.ensures ∙ not-false _ c.if-not-fit-2.false-raw in
+    let bindings : bindings_fit p ≡ false = sym c.fit-3.ensures ∙ not-true _ c.if-not-fit-3.true-raw in
     simp (long, prior, queues, streams, bindings)
 
 pub returns-then-not-fit-4 : goal.returns-then-not-fit-4
@@ -61,11 +61,11 @@ returns-then-not-fit-4 c =
     let p = c.args.port.now in
     let m = c.args.memory.now in
     let long : leb record_length (length p) ≡ true = le-leb record_length _ c.if-port-lt-RECORD_LENGTH.false in
-    let prior : prior_fits p ≡ true = sym c.prior_fits.ensures ∙ not-false _ c.if-not-prior_fits.false in
-    let queues : queues_fit p ≡ true = sym c.fit.ensures ∙ not-false _ c.if-not-fit.false in
-    let streams : streams_fit p ≡ true = sym c.fit-2.ensures ∙ not-false _ c.if-not-fit-2.false in
-    let bindings : bindings_fit p ≡ true = sym c.fit-3.ensures ∙ not-false _ c.if-not-fit-3.false in
-    let frames : frames_fit p m ≡ false = sym c.fit-4.ensures ∙ not-true _ c.if-not-fit-4.true in
+    let prior : prior_fits p ≡ true = sym c.prior_fits.ensures ∙ not-false _ c.if-not-prior_fits.false-raw in
+    let queues : queues_fit p ≡ true = sym c.fit.ensures ∙ not-false _ c.if-not-fit.false-raw in
+    let streams : streams_fit p ≡ true = sym c.fit-2.ensures ∙ not-false _ c.if-not-fit-2.false-raw in
+    let bindings : bindings_fit p ≡ true = sym c.fit-3.ensures ∙ not-false _ c.if-not-fit-3.false-raw in
+    let frames : frames_fit p m ≡ false = sym c.fit-4.ensures ∙ not-true _ c.if-not-fit-4.true-raw in
     simp (long, prior, queues, streams, bindings, frames)
 
 pub returns-then-not-waits_fit : goal.returns-then-not-waits_fit
@@ -74,12 +74,12 @@ returns-then-not-waits_fit c =
     let p = c.args.port.now in
     let m = c.args.memory.now in
     let long : leb record_length (length p) ≡ true = le-leb record_length _ c.if-port-lt-RECORD_LENGTH.false in
-    let prior : prior_fits p ≡ true = sym c.prior_fits.ensures ∙ not-false _ c.if-not-prior_fits.false in
-    let queues : queues_fit p ≡ true = sym c.fit.ensures ∙ not-false _ c.if-not-fit.false in
-    let streams : streams_fit p ≡ true = sym c.fit-2.ensures ∙ not-false _ c.if-not-fit-2.false in
-    let bindings : bindings_fit p ≡ true = sym c.fit-3.ensures ∙ not-false _ c.if-not-fit-3.false in
-    let frames : frames_fit p m ≡ true = sym c.fit-4.ensures ∙ not-false _ c.if-not-fit-4.false in
-    let waits : waits_fit p m ≡ false = sym c.waits_fit.ensures ∙ not-true _ c.if-not-waits_fit.true in
+    let prior : prior_fits p ≡ true = sym c.prior_fits.ensures ∙ not-false _ c.if-not-prior_fits.false-raw in
+    let queues : queues_fit p ≡ true = sym c.fit.ensures ∙ not-false _ c.if-not-fit.false-raw in
+    let streams : streams_fit p ≡ true = sym c.fit-2.ensures ∙ not-false _ c.if-not-fit-2.false-raw in
+    let bindings : bindings_fit p ≡ true = sym c.fit-3.ensures ∙ not-false _ c.if-not-fit-3.false-raw in
+    let frames : frames_fit p m ≡ true = sym c.fit-4.ensures ∙ not-false _ c.if-not-fit-4.false-raw in
+    let waits : waits_fit p m ≡ false = sym c.waits_fit.ensures ∙ not-true _ c.if-not-waits_fit.true-raw in
     simp (long, prior, queues, streams, bindings, frames, waits)
 
 pub returns : goal.returns
@@ -88,10 +88,10 @@ returns c =
     let p = c.args.port.now in
     let m = c.args.memory.now in
     let long : leb record_length (length p) ≡ true = le-leb record_length _ c.if-port-lt-RECORD_LENGTH.false in
-    let prior : prior_fits p ≡ true = sym c.prior_fits.ensures ∙ not-false _ c.if-not-prior_fits.false in
-    let queues : queues_fit p ≡ true = sym c.fit.ensures ∙ not-false _ c.if-not-fit.false in
-    let streams : streams_fit p ≡ true = sym c.fit-2.ensures ∙ not-false _ c.if-not-fit-2.false in
-    let bindings : bindings_fit p ≡ true = sym c.fit-3.ensures ∙ not-false _ c.if-not-fit-3.false in
-    let frames : frames_fit p m ≡ true = sym c.fit-4.ensures ∙ not-false _ c.if-not-fit-4.false in
-    let waits : waits_fit p m ≡ true = sym c.waits_fit.ensures ∙ not-false _ c.if-not-waits_fit.false in
+    let prior : prior_fits p ≡ true = sym c.prior_fits.ensures ∙ not-false _ c.if-not-prior_fits.false-raw in
+    let queues : queues_fit p ≡ true = sym c.fit.ensures ∙ not-false _ c.if-not-fit.false-raw in
+    let streams : streams_fit p ≡ true = sym c.fit-2.ensures ∙ not-false _ c.if-not-fit-2.false-raw in
+    let bindings : bindings_fit p ≡ true = sym c.fit-3.ensures ∙ not-false _ c.if-not-fit-3.false-raw in
+    let frames : frames_fit p m ≡ true = sym c.fit-4.ensures ∙ not-false _ c.if-not-fit-4.false-raw in
+    let waits : waits_fit p m ≡ true = sym c.waits_fit.ensures ∙ not-false _ c.if-not-waits_fit.false-raw in
     simp (long, prior, queues, streams, bindings, frames, waits) c.open_fits.ensures

@@ -11,7 +11,7 @@ use Rattle.header.proofs.length_fits.Goals as goal
 
 pub returns-then-frame-lt-LEAST_LENGTH : goal.returns-then-frame-lt-LEAST_LENGTH
 unfolding length_fits
-returns-then-frame-lt-LEAST_LENGTH c = ap (λ (b : Bool). b && leb (length c.args.frame.now) (greatest_charge - on_wire)) (sym (lt-leb (least_charge - on_wire) _ c.if-frame-lt-LEAST_LENGTH.taken))
+returns-then-frame-lt-LEAST_LENGTH c = ap (λ (b : Bool). b && leb (length c.args.frame.now) (greatest_charge - on_wire)) (sym (lt-leb (least_charge - on_wire) _ c.if-frame-lt-LEAST_LENGTH.true))
 
 pub returns : goal.returns
 unfolding length_fits

@@ -6,4 +6,4 @@ use Rattle.register_block.proofs.raise.Goals as goal
 
 pub returns : goal.returns
 unfolding raised
-returns c = c.put_word.ensures ∙ ap (with_word _ _) (c.wrapping_add_u32.ensures ∙ ap (λ (n : ℕ). (n + 1) % 2 ^ 32) c.word_at.ensures)
+returns c = c.put_word.ensures ∙ ap (with_word _ _) (c.wrapping_add_u32.ensures.value ∙ ap (λ (n : ℕ). (n + 1) % 2 ^ 32) c.word_at.ensures)

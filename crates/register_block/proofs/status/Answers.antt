@@ -6,4 +6,4 @@ use Rattle.register_block.proofs.status.Goals as goal
 
 pub returns : goal.returns
 unfolding status_of
-returns c = ap₂ ◌+◌ c.weighted.ensures.0 (c.weighted-2.ensures.0 ∙ ap (λ (b : Bool). cond b bit1 0) c.line_up_lem.ensures)
+returns c = ap₂ ◌+◌ c.weighted.ensures.0 (c.weighted-2.ensures.0 ∙ ap (λ (b : Bool). cond b bit1 0) c.line_up.ensures)

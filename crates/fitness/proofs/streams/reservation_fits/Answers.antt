@@ -10,4 +10,4 @@ use Rattle.fitness.proofs.streams.reservation_fits.Goals as goal
 pub returns-then-stream : goal.returns-then-stream
 returns-then-stream c =
     let s = c.args.stream in
-    c.permitted_fits_lem.ensures ∙ ap (λ (b : Bool). cond b (permitted_fits s.permitted) true) (sym c.if-stream.taken)
+    c.permitted_fits.ensures ∙ ap (λ (b : Bool). cond b (permitted_fits s.permitted) true) (sym c.if-stream.true)

@@ -18,4 +18,4 @@ returns c =
     let a = c.args in
     let s = a.stream in
     let reserved : s.reserved ≡ true = not-false _ c.if-not-stream.false in
-    simp reserved (c.both.ensures ∙ ap (λ (b : Bool). b && leb a.drain (a.last + 1)) (c.both.ensures ∙ ap (λ (b : Bool). b && leb s.left s.permitted) c.within-placed.ensures))
+    simp reserved (c.both.ensures ∙ ap (λ (b : Bool). b && leb a.drain (a.last + 1)) (c.both-fits.ensures ∙ ap (λ (b : Bool). b && leb s.left s.permitted) c.within-placed.ensures))
