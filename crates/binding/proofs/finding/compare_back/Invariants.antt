@@ -1,0 +1,23 @@
+-- `binding::finding::compare_back` meets its contract. What is compared is among the octets not yet passed. Assumes nothing.
+use Prim.Native.Nat.{ℕ, suc, ◌+◌, ◌-◌, ◌≤◌}
+use mathlib.Core.Path.{◌≡◌, refl, sym, ap, ◌∙◌}
+use mathlib.Core.Bool.{true, false}
+use lib.Dec.{eqb}
+use lib.ListN.{get_or}
+use native.Mathlib.Omega.{arith}
+use borrow.Author.Rules.{rules}
+use borrow.Author.Tests.{eq-eqb, ne_eqb}
+use Rattle.record.specs.Layout.{address_length}
+use Rattle.record.specs.Entry.{address_at}
+use Rattle.binding.specs.Finding.{compared_back}
+use Rattle.binding.proofs.FindingLaws.{back_equal, back_differs}
+use Rattle.binding.proofs.finding.compare_back.Given as goal
+
+abbrev pub invariant-loop-rest : goal.invariant-loop-rest
+invariant-loop-rest l =
+    (l.rest ≤ address_length)
+    × ((l.compared + l.rest ≡ l.before + address_length)
+    × (compared_back (address_at l.port l.stream) l.address address_length l.before ≡ compared_back (address_at l.port l.stream) l.address l.rest l.compared))
+
+abbrev pub decreases-loop-rest : goal.decreases-loop-rest
+decreases-loop-rest l = l.rest

@@ -1,0 +1,18 @@
+-- `opening::drop_streams` meets its contract. The loop's invariant: the record is what the turns done so far make of it. Assumes nothing.
+use Prim.Native.Nat.{◌≤◌, ◌-◌, ℕ}
+use mathlib.Core.List.{List}
+use mathlib.Core.Path.{◌≡◌, ◌∙◌, ap}
+use native.Mathlib.Numerals.{add-one}
+use native.Mathlib.Omega.{arith}
+use lib.ListN.{length}
+use borrow.Author.Rules.{rules}
+use Rattle.lists.specs.Turns.{iterate}
+use Rattle.record.specs.Entry.{dropped}
+use Rattle.record.specs.Layout.{stream_count}
+use Rattle.opening.proofs.drop_streams.Given as goal
+
+abbrev pub invariant-loop-s : goal.invariant-loop-s
+invariant-loop-s l = (l.s ≤ stream_count) × ((length l.port ≡ length l.initial.port) × (l.port ≡ iterate (λ s r. dropped r s) l.s l.initial.port))
+
+abbrev pub decreases-loop-s : goal.decreases-loop-s
+decreases-loop-s l = stream_count - l.s
