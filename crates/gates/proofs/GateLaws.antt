@@ -141,7 +141,7 @@ module _ (r : ℕ) (p : List ℕ) (zero : r ≡ 0) where
   module _ (link delay : ℕ) (e : r ≡ open_refusal p (terms link delay)) where
     pub open_link : link < 65536
     open_link =
-        omega (arith, (within_bounds (link_of least_charge) (link_of greatest_share) link (open_allowed p (terms link delay) (sym e ∙ zero)).link_fits).1)
+        omega (arith, (within_bounds (link_of least_charge) (link_of greatest_share) link (open_allowed p (terms link delay) (sym e ∙ zero)).link_fits_lem).1)
 
     pub open_delay : delay < 256
     open_delay = omega (arith, (within_bounds 1 greatest_delay delay (open_allowed p (terms link delay) (sym e ∙ zero)).delay_fits_lem).1)

@@ -1,0 +1,17 @@
+-- `gates::refusals::frame` meets its contract. Test after test. Assumes nothing.
+use borrow.Author.Rules.{rules}
+use Rattle.gates.specs.FrameRefusals.{frame_refusal}
+use Rattle.gates.proofs.TestLaws.{tests}
+use Rattle.gates.proofs.refusals.frame.Goals as goal
+
+pub returns-then-not-is_open : goal.returns-then-not-is_open
+unfolding frame_refusal
+returns-then-not-is_open c = search tests depth 12 fits 8000
+
+pub returns-then-not-length_fits : goal.returns-then-not-length_fits
+unfolding frame_refusal
+returns-then-not-length_fits c = search tests depth 12 fits 8000
+
+pub returns : goal.returns
+unfolding frame_refusal
+returns c = search tests depth 12 fits 8000
