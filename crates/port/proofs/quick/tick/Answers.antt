@@ -1,0 +1,24 @@
+-- `port::quick::tick` meets its contract. By the lengths; then the rest of the call. Assumes nothing.
+use Rattle.port.proofs.LengthLaws.{calls}
+use Rattle.port.proofs.quick.tick.Goals as goal
+
+pub lengths-refusal-requires : goal.lengths-refusal-requires
+lengths-refusal-requires c = search calls
+
+pub refused-requires : goal.refused-requires
+refused-requires c = search calls
+
+pub shape_of-port-then-refusal-ne0 : goal.shape_of-port-then-refusal-ne0
+shape_of-port-then-refusal-ne0 c = search calls
+
+pub returns-then-refusal-ne0 : goal.returns-then-refusal-ne0
+returns-then-refusal-ne0 c = search calls
+
+pub tick-requires : goal.tick-requires
+tick-requires c = search calls
+
+pub shape_of-port : goal.shape_of-port
+shape_of-port c = search calls
+
+pub returns : goal.returns
+returns c = search calls

@@ -1,0 +1,24 @@
+-- `port::tick` meets its contract. By 18 and 19; then the rest of the call. Assumes nothing.
+use Rattle.port.proofs.LengthLaws.{calls}
+use Rattle.port.proofs.tick.Goals as goal
+
+pub refusal-refusal-requires : goal.refusal-refusal-requires
+refusal-refusal-requires c = search calls
+
+pub refused-requires : goal.refused-requires
+refused-requires c = search calls
+
+pub shape_of-port-then-refusal-ne0 : goal.shape_of-port-then-refusal-ne0
+shape_of-port-then-refusal-ne0 c = search calls
+
+pub returns-then-refusal-ne0 : goal.returns-then-refusal-ne0
+returns-then-refusal-ne0 c = search calls
+
+pub tick-requires : goal.tick-requires
+tick-requires c = search calls
+
+pub shape_of-port : goal.shape_of-port
+shape_of-port c = search calls
+
+pub returns : goal.returns
+returns c = search calls
