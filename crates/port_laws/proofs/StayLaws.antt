@@ -65,7 +65,7 @@ module _ (p m : List ℕ) (fit : record_fits p m ≡ true) (room : HasMemory p m
   -- the step of every call that its own refusals let through
   step_fits : (c : Call) → refusal_of c p ≡ 0 → LeavesFit (step_of c p m)
   unfolding tick_step
-  step_fits (opening t) e = let a = open_allowed p t e in open_fits_lem p m t (fit_record p m fit).long a.link_fits a.delay_fits_lem
+  step_fits (opening t) e = let a = open_allowed p t e in open_fits_lem p m t (fit_record p m fit).long a.link_fits_lem a.delay_fits_lem
   step_fits (reserving s permitted) e =
       let a = reserve_allowed p s permitted e in
       reserve_fits p m s permitted fit a.opened a.stream a.free a.permitted_fits_lem a.share
@@ -95,7 +95,7 @@ granted_open_fits p m t e =
     let allowed = let_through (open_refusal p t) p m done (sym (ap (λ (o : Outcome). o.reply.refusal) asked) ∙ e) in
     let a = open_allowed p t allowed in
     subst LeavesFit (sym (asked ∙ grants (open_refusal p t) p m done allowed))
-    (open_fits_lem p m t (long_enough p m lent).whole a.link_fits a.delay_fits_lem)
+    (open_fits_lem p m t (long_enough p m lent).whole a.link_fits_lem a.delay_fits_lem)
 
 -- every list of calls: the quick calls reply as the calls do
 pub quick_replies : (cs : List Call) (p m : List ℕ) → record_fits p m ≡ true → replies quickly_called cs p m ≡ replies called cs p m
