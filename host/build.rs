@@ -1,4 +1,4 @@
-//! Links the static library of the exports, which `bash examples/run` leaves in the repository's target/staticlib; where it is missing, says so.
+//! Links the static library of the exports, which `bash examples/run` leaves in the out/ of their crate; where it is missing, says so.
 
 use std::env;
 use std::path::PathBuf;
@@ -6,7 +6,7 @@ use std::process;
 
 fn main() {
     let host = PathBuf::from(env::var_os("CARGO_MANIFEST_DIR").expect("cargo names the folder of the package"));
-    let libraries = host.join("../target/staticlib");
+    let libraries = host.join("../crates/exports/out");
     let library = libraries.join("libexports.a");
     println!("cargo:rerun-if-changed={}", library.display());
     if !library.is_file() {

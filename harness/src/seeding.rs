@@ -3,13 +3,12 @@
 
 use std::env;
 use std::fs;
+use std::num::NonZero;
 use std::path::{Path, PathBuf};
 use std::process::{Command, ExitCode};
 use std::sync::atomic::{AtomicUsize, Ordering};
+use std::sync::Mutex;
 use std::thread;
-
-/// How many wrong programs are tried at a time.
-const AT_A_TIME: usize = 2;
 
 /// One wrong program: its name, what is wrong, the words of its line '# found by:', and the edits that make it.
 pub struct Seed {
@@ -164,23 +163,36 @@ pub fn module(seed: &Seed, part: &str, module: &str) -> String {
     format!("mod {} {{\n    #[path = \"{path}\"]\n    pub mod {module};\n}}\n", seed.name)
 }
 
-/// Tries wrong programs, a few at a time, and prints what is told of each; how many of them were found as they must be.
+/// Tries wrong programs, as many at a time as there are processors, and prints what is told of each; how many of them were found as they must be.
 pub fn tried<T: Sync>(wrong: &[T], each: impl Fn(&T) -> (bool, String) + Sync) -> usize {
-    let (next, found) = (AtomicUsize::new(0), AtomicUsize::new(0));
-    thread::scope(|scope| {
-        for _ in 0..AT_A_TIME {
-            scope.spawn(|| try_some(wrong, &each, &next, &found));
-        }
-    });
-    found.into_inner()
-}
-
-/// Tries one wrong program after another that no thread has taken, and counts those that were found as they must be.
-fn try_some<T>(wrong: &[T], each: impl Fn(&T) -> (bool, String), next: &AtomicUsize, found: &AtomicUsize) {
-    while let Some(one) = wrong.get(next.fetch_add(1, Ordering::Relaxed)) {
+    let found = of_each(wrong, |one| {
         let (is_found, told) = each(one);
         println!("{told}");
-        found.fetch_add(usize::from(is_found), Ordering::Relaxed);
+        is_found
+    });
+    found.into_iter().filter(|is_found| *is_found).count()
+}
+
+/// What a call gives for each of these, which is made for as many at a time as there are processors.
+pub fn of_each<T: Sync, R: Send>(all: &[T], call: impl Fn(&T) -> R + Sync) -> Vec<R> {
+    let (next, given) = (AtomicUsize::new(0), Mutex::new(Vec::new()));
+    thread::scope(|scope| {
+        for _ in 0..thread::available_parallelism().map_or(1, NonZero::get) {
+            scope.spawn(|| of_some(all, &call, &next, &given));
+        }
+    });
+    let mut given = given.into_inner().expect("no thread panics with what is given");
+    given.sort_by_key(|(at, _)| *at);
+    given.into_iter().map(|(_, given)| given).collect()
+}
+
+/// Makes the call for one after another that no thread has taken.
+fn of_some<T, R>(all: &[T], call: impl Fn(&T) -> R, next: &AtomicUsize, given: &Mutex<Vec<(usize, R)>>) {
+    loop {
+        let at = next.fetch_add(1, Ordering::Relaxed);
+        let Some(one) = all.get(at) else { return };
+        let result = call(one);
+        given.lock().expect("no thread panics with what is given").push((at, result));
     }
 }
 
@@ -204,6 +216,34 @@ pub fn copy_all(from: &Path, to: &Path) -> Result<(), String> {
         copy_all(&entry.path(), &to.join(entry.file_name()))?;
     }
     Ok(())
+}
+
+/// Gives the files of a folder, if it is there, a second place in another: by a second name where this is a file that is replaced and never written
+/// again, and where that can be; else by a copy.
+pub fn linked(from: &Path, to: &Path, is_replaced: impl Fn(&Path) -> bool + Copy) -> Result<(), String> {
+    if !from.exists() {
+        return Ok(());
+    }
+    let told = |why| format!("{}: {why}", from.display());
+    fs::create_dir_all(to).map_err(told)?;
+    for entry in fs::read_dir(from).map_err(told)? {
+        let from = entry.map_err(told)?.path();
+        let to = to.join(from.file_name().unwrap_or_default());
+        if from.is_dir() {
+            linked(&from, &to, is_replaced)?;
+        } else if !is_replaced(&from) || fs::hard_link(&from, &to).is_err() {
+            copy_all(&from, &to)?;
+        }
+    }
+    Ok(())
+}
+
+/// Removes a folder, if it is there.
+pub fn removed(folder: &Path) -> Result<(), String> {
+    match folder.exists() {
+        true => fs::remove_dir_all(folder).map_err(|why| format!("{}: {why}", folder.display())),
+        false => Ok(()),
+    }
 }
 
 /// Writes a file, and the folder that it stands in.
@@ -283,5 +323,23 @@ mod tests {
     #[test]
     fn every_one_is_tried_once() {
         assert_eq!(tried(&[1, 2, 3, 4, 5, 6, 7], |one| (one % 2 == 0, format!("tried {one}"))), 3);
+        assert_eq!(of_each(&[1, 2, 3, 4, 5, 6, 7], |one| one * 2), [2, 4, 6, 8, 10, 12, 14]);
+    }
+
+    #[test]
+    fn a_folder_gets_a_second_place() {
+        let folder = Folder::with("linked", "text");
+        let to = folder.0.join("second");
+        linked(&folder.0.join("none"), &to, |_| true).expect("nothing is there");
+        assert!(!to.exists());
+        write(&folder.0.join("first/in/kept"), "kept").expect("the file can be written");
+        write(&folder.0.join("first/in/replaced"), "replaced").expect("the file can be written");
+        linked(&folder.0.join("first"), &to, |path| path.ends_with("replaced")).expect("the folder can be read");
+        write(&to.join("in/kept"), "other").expect("the file can be written");
+        removed(&to.join("none")).expect("nothing is there");
+        let read = |path: &str| fs::read_to_string(folder.0.join(path)).expect("the file can be read");
+        assert_eq!([read("first/in/kept"), read("second/in/kept"), read("second/in/replaced")], ["kept", "other", "replaced"]);
+        removed(&to).expect("the folder can be removed");
+        assert_eq!(read("first/in/replaced"), "replaced");
     }
 }

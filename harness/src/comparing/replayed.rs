@@ -16,9 +16,9 @@ const TOLD_LINES: usize = 40;
 /// How long a program may run; it may print as much as it will.
 const BOUNDS: Bounds = Bounds { time: Duration::from_secs(60), stdout: usize::MAX, stderr: usize::MAX };
 
-/// The proved program where `rt check replay` leaves it.
+/// The proved program where `rt ci` and `rt run` leave it.
 pub fn proved() -> PathBuf {
-    Path::new(env!("CARGO_MANIFEST_DIR")).join("../target/bin/replay")
+    Path::new(env!("CARGO_MANIFEST_DIR")).join("../crates/replay/out/replay")
 }
 
 /// What a program prints of a capture that is written to its standard input in these pieces.

@@ -3,8 +3,10 @@
 use std::fs;
 use std::path::Path;
 
+use super::code;
 use super::laws;
-use super::logs::{Error, Log};
+use super::logs::{Error, Log, OpenGoal};
+use super::proving::LOG;
 use super::reading::{Evidence, WrongProgram};
 use super::values;
 
@@ -34,17 +36,26 @@ pub enum Shown {
 impl<'a> Tried<'a> {
     /// What the prover left of an edit file of a crate in a copy of that.
     pub fn read(of: &'a str, copy: &'a Path) -> Result<Tried<'a>, String> {
-        let text = fs::read(copy.join(".log")).map_err(|_| String::from("it was not tried"))?;
+        let text = fs::read(copy.join(LOG)).map_err(|_| String::from("it was not tried"))?;
         Ok(Tried { of, log: Log::read(&String::from_utf8_lossy(&text)), copy })
     }
 
     /// That each function and law that a wrong program names is refused; or the first that is not.
     pub fn refused(&self, program: &WrongProgram) -> Result<(), String> {
-        match program.refused.iter().find(|name| !self.log.refuses(self.of, name)) {
+        match program.refused.iter().find(|name| !self.log.refuses(self.of, name) && !self.fails(name)) {
             Some(name) if self.log.only_misfits(name) => Err(format!("{name} is refused only since its proof no longer fits the code")),
             Some(name) => Err(format!("{name} is not refused on its own account")),
             None => Ok(()),
         }
+    }
+
+    /// Whether a function's proof is refused, and a goal in its code that the proof does not answer fails at some values.
+    fn fails(&self, name: &str) -> bool {
+        let is_in = |goal: &OpenGoal| {
+            let text = fs::read_to_string(self.copy.join(&goal.file)).unwrap_or_default();
+            code::function_at(&goal.file, &text, goal.line).as_deref() == Some(name)
+        };
+        self.log.is_unproved(self.of, name) && self.log.open().iter().any(is_in)
     }
 
     /// What the log shows of one of the file's wrong programs; or why it shows nothing.
@@ -126,7 +137,7 @@ mod tests {
         /// The copy of a test, with a log and a file of laws.
         fn with(test: &str, log: &str, file: &str, laws: &str) -> Copy {
             let folder = std::env::temp_dir().join(format!("judging-{}-{test}", std::process::id()));
-            seeding::write(&folder.join(".log"), log).expect("the log can be written");
+            seeding::write(&folder.join(LOG), log).expect("the log can be written");
             seeding::write(&folder.join(file), laws).expect("the laws can be written");
             Copy(folder)
         }
@@ -157,16 +168,16 @@ mod tests {
     fn a_closed_law_that_computes_to_another_value_shows_a_wrong_program() {
         let computes = |words: &str| Ok(Shown::Wrong(words.into()));
         assert_eq!(shown_by("number"), computes("number computes to `Path ℕ 600 601`"));
-        assert_eq!(shown_by("truth"), computes("truth computes to `Path mathlib.Core.Bool.Bool true false`"));
-        assert_eq!(shown_by("list"), computes("list computes to `2142` and not `2143`"));
-        assert_eq!(shown_by("pair-of"), computes("pair-of computes to `600` and not `601`"));
-        assert_eq!(shown_by("two"), computes("two computes to `Path mathlib.Core.Bool.Bool false true`"));
+        assert_eq!(shown_by("truth"), computes("truth computes to `Path Bool true false`"));
+        assert_eq!(shown_by("list"), computes("list computes to `Path (List ℕ) (600 ∷ 2142 ∷ []) (600 ∷ 2143 ∷ [])`"));
+        assert_eq!(shown_by("pair_of"), computes("pair_of computes to `2142` and not `2143`"));
+        assert_eq!(shown_by("two"), computes("two computes to `Path Bool false true`"));
         assert_eq!(shown_by("unfolded"), computes("unfolded computes to `Path ℕ 4 5`"));
     }
 
     #[test]
     fn a_law_that_does_not_compute_shows_nothing() {
-        for law in ["not-unfolded", "not-unfolded-list", "not-unfolded-but-right", "not-unfolded-field"] {
+        for law in ["not_unfolded", "not_unfolded_list", "not_unfolded_but_right", "not_unfolded_field"] {
             assert_eq!(shown_by(law), Err(format!("{law} is not seen to compute to another value")));
         }
     }
@@ -187,13 +198,23 @@ mod tests {
 
     #[test]
     fn a_proof_that_no_longer_fits_refuses_nothing() {
-        let log = "a/proofs/send/Proof.antt:31:9: error: `returns`: record `a.Lts.After-put-queue-arg` has no field `sent`\n";
+        let log = "./proofs/send/Answers.antt:31:9: error: `returns`: record `Rattle.a.Lts.After-put-queue2` has no field `sent`\n";
         let copy = Copy::with("misfit", log, "proofs/ClosedLaws.antt", LAWS);
         assert_eq!(
             copy.judged(&["send"], Evidence::Cases, "new"),
             Err("send is refused only since its proof no longer fits the code".into())
         );
         assert_eq!(copy.judged(&["sent"], Evidence::Cases, "new"), Err("sent is not refused on its own account".into()));
+    }
+
+    #[test]
+    fn a_goal_that_fails_beside_a_proof_that_no_longer_fits_is_a_refusal() {
+        let log = "./proofs/send/Answers.antt:31:9: error: `returns-2`: module `Rattle.a.proofs.send.Goals` has no `returns-2` that can be named from here\n\
+                   note: src/lib.rt:2:5: it is not proved that what the function ensures holds when it returns (`returns`); the facts known there allow \
+                   values at which this goal is false\nfn sending::send: not proved\nfn sending::other: not proved\n";
+        let copy = Copy::with("open", log, "src/lib.rt", "pub fn send() -> u8 {\n    1\n}\n\nfn other() {}\n");
+        assert_eq!(copy.judged(&["send"], Evidence::Cases, "new"), Ok(Shown::ByCases));
+        assert_eq!(copy.judged(&["other"], Evidence::Cases, "new"), Err("other is not refused on its own account".into()));
     }
 
     #[test]
@@ -204,7 +225,7 @@ mod tests {
             assert_eq!(copy.judged(&[law], Evidence::Shown(vec![law.into()]), "new"), Err(why));
         }
         assert_eq!(copy.judged(&["waits", "none"], Evidence::None, "new"), Err(NOTHING.into()));
-        assert_eq!(copy.judged(&["sends-prior"], Evidence::None, "new"), Err("sends-prior is not refused on its own account".into()));
+        assert_eq!(copy.judged(&["sends_prior"], Evidence::None, "new"), Err("sends_prior is not refused on its own account".into()));
     }
 
     #[test]
@@ -223,7 +244,7 @@ mod tests {
     #[test]
     fn an_edit_that_was_not_tried_is_told() {
         let copy = Copy::with("none", "", "proofs/ClosedLaws.antt", LAWS);
-        fs::remove_file(copy.0.join(".log")).expect("the log can be removed");
+        fs::remove_file(copy.0.join(LOG)).expect("the log can be removed");
         assert_eq!(copy.judged(&["number"], Evidence::None, "new"), Err("it was not tried".into()));
     }
 }

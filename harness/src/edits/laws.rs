@@ -9,7 +9,10 @@ pub fn by_computing(text: &str, law: &str) -> bool {
     let mut stated = None;
     let mut proof = None;
     for declaration in declarations(text) {
-        let told = BEFORE.iter().fold(declaration.as_str(), |told, before| told.strip_prefix(before).unwrap_or(told));
+        let mut told = declaration.as_str();
+        while let Some(rest) = BEFORE.iter().find_map(|before| told.strip_prefix(before)) {
+            told = rest;
+        }
         let Some(told) = told.strip_prefix(law) else { continue };
         if let Some(statement) = told.strip_prefix(" : ") {
             stated = Some(!statement.contains(['→', '∀']));
@@ -44,10 +47,10 @@ mod tests {
     /// Laws of many sorts.
     const TEXT: &str = "\
 -- a law
-pub two-ports : output (header 1 1 ++ events 0)
-    ≡ lineOf (0 ∷ 1 ∷ [])
-unfolding numberThen digits
-two-ports = refl
+unfoldable pub two_ports : output (header 1 1 ++ events 0)
+    ≡ line_of (0 ∷ 1 ∷ [])
+unfolding number_then digits
+two_ports = refl
 
 both : (fits 84 ≡ true) × (fits 83 ≡ false)
 both =
@@ -56,11 +59,11 @@ both =
 pub taking : (n : ℕ) → share n ≡ n
 taking n = refl
 
-pub taking-inside : (n : ℕ) → n ≡ n
-taking-inside = λ n. refl
+pub taking_inside : (n : ℕ) → n ≡ n
+taking_inside = λ n. refl
 
 pub cited : share 3 ≡ 0
-cited = share-least 3
+cited = share_least 3
 
 pub opened : share 3 ≡ 0
 opened = let e : 1 ≡ 0 = refl in e
@@ -70,12 +73,12 @@ stated : share 3 ≡ 0
 
     #[test]
     fn a_law_by_refl_alone_is_decided_by_computing() {
-        assert!(by_computing(TEXT, "two-ports") && by_computing(TEXT, "both"));
+        assert!(by_computing(TEXT, "two_ports") && by_computing(TEXT, "both"));
     }
 
     #[test]
     fn another_law_is_not() {
-        for law in ["taking", "taking-inside", "cited", "opened", "stated", "two", "none"] {
+        for law in ["taking", "taking_inside", "cited", "opened", "stated", "two", "none"] {
             assert!(!by_computing(TEXT, law), "{law} is taken for a law that computing decides");
         }
     }

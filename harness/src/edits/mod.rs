@@ -3,6 +3,7 @@
 //! only a wrong program shows: a case on which its code prints something else, a law that computes to something else, or a proved law that says the
 //! opposite. The arithmetic's words that a goal fails at some numbers are no such thing: it says so too where it cannot read a rewritten definition.
 
+mod code;
 pub mod judging;
 mod laws;
 mod logs;

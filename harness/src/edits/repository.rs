@@ -60,16 +60,27 @@ impl Repository {
         self.crate_folder(of).join("must-fail")
     }
 
-    /// The copy of a crate in which the prover tried an edit file.
-    pub fn tried(&self, of: &str, label: &str) -> PathBuf {
-        self.folder.join("target/must-fail").join(of).join(label)
+    /// The file of a crate's cases with this ending: '.txt' of the program, '.out' of what it prints of the right code.
+    pub fn cases(&self, of: &str, ending: &str) -> PathBuf {
+        self.crate_folder(of).join(format!("cases{ending}"))
+    }
+
+    /// Whether a crate is a program, and no library.
+    pub fn is_program(&self, of: &str) -> bool {
+        self.crate_folder(of).join("src/main.rt").exists()
+    }
+
+    /// What is kept of a crate's proof for the crates above it, and for its next check.
+    pub fn kept(&self, of: &str, part: &str) -> PathBuf {
+        self.crate_folder(of).join("out").join(part)
     }
 }
 
-/// The crate of a line 'NAME: the crates that it uses', where it is one.
+/// The crate of a line 'NAME: the crates that it uses', where it is one; words on how it is built may stand after the name.
 fn listed(line: &str) -> Option<Listed> {
-    let (name, uses) = line.split('#').next()?.split_once(':')?;
-    Some(Listed { name: name.trim().into(), uses: uses.split_whitespace().map(String::from).collect() })
+    let (head, uses) = line.split('#').next()?.split_once(':')?;
+    let name = head.split_whitespace().next()?;
+    Some(Listed { name: name.into(), uses: uses.split_whitespace().map(String::from).collect() })
 }
 
 #[cfg(test)]
@@ -85,5 +96,14 @@ mod tests {
         assert_eq!(repository.uses("header"), ["lists", "octets", "ranges", "check"]);
         assert_eq!(repository.reached("header"), ["lists", "octets", "ranges", "header"]);
         assert!(repository.crates().all(|of| repository.crate_folder(of).join("src").is_dir()));
+        assert!(repository.is_program("replay") && !repository.is_program("lists"));
+    }
+
+    #[test]
+    fn how_a_crate_is_built_may_stand_after_its_name() {
+        let read = |line: &str| listed(line).map(|of| (of.name, of.uses.join(" ")));
+        assert_eq!(read("exports staticlib: lists octets # the library"), Some(("exports".into(), "lists octets".into())));
+        assert_eq!(read("lists:"), Some(("lists".into(), String::new())));
+        assert_eq!(read("# A line for each crate: its name"), None);
     }
 }

@@ -1,33 +1,41 @@
-//! A wrong program run without a proof: a repository is laid out in which the crate is a copy with the wrong program's edits made, and its case program,
-//! or the crate itself where it is a program, is run there by `rt try` and held to what the right code prints.
+//! Runs of wrong programs, without a proof. A repository is laid out with a copy of a crate for each of several wrong programs and with those below it;
+//! the crate's case program, once for each copy, or the crate itself where it is a program, is run there by `rt try` and held to what the right code
+//! prints.
 
 use std::fs;
-use std::os::unix::fs::symlink;
 use std::path::{Path, PathBuf};
 use std::process::Command;
 use std::time::Duration;
 
-use super::repository::{Repository, LIST};
+use super::repository::Repository;
 use crate::running::{self, Bounds, End};
 use crate::seeding::{copy_all, write, Edit};
 
+/// How many wrong programs are run at once: reading the libraries takes most of a run.
+pub const AT_ONCE: usize = 8;
+
 /// What a run may take.
-const BOUNDS: Bounds = Bounds { time: Duration::from_secs(60), stdout: 1 << 20, stderr: 1 << 20 };
+const BOUNDS: Bounds = Bounds { time: Duration::from_secs(300), stdout: 1 << 20, stderr: 1 << 20 };
 
-/// The name of the crate that the case program is in a repository that is laid out, and the libraries of the toolchain that it may use.
+/// The name of the crate that runs the case programs, and the library of the toolchain that these print with.
 const CASES: &str = "cases";
-const LIBRARIES: [&str; 3] = ["libc", "io", "os"];
+const PRINTING: &str = "io";
 
-/// What a program has beside its code.
-const OF_A_PROGRAM: [&str; 4] = ["stdin", "stdout", "args", "data"];
+/// What is at the top of a repository whose crates each have a build file.
+const TOP: &str = "MODULE.bazel";
+/// The build file of a crate.
+const BUILD: &str = "BUILD.bazel";
 
-/// What `rt try` says of a program that wrote what is expected on every run.
-const SAME: &str = "wrote what its 'stdout' has";
-/// What it says of one that ended on the interpreter, having written something else; the next line says what.
-const OTHER: &str = "FAIL: the interpreter ended, but did not write what is expected";
+/// What begins the line between two outputs.
+const BETWEEN: &str = "== ";
+
+/// What `rt try` says last of a program that ended by itself and well.
+const ENDED: &str = "run=ended status=0 ";
+/// What it says before a fault or a difference that it found.
+const FAULTS: [&str; 2] = [": fault ", "error"];
 
 /// What a run shows.
-#[derive(Debug, PartialEq, Eq)]
+#[derive(Clone, Debug, PartialEq, Eq)]
 pub enum Shown {
     /// It wrote what the right code writes.
     Same,
@@ -35,144 +43,218 @@ pub enum Shown {
     Other { expected: String, found: String },
 }
 
-/// A case program: what is run, its text where it is not a crate of the repository, and what the right code prints.
-struct Cases {
-    name: String,
-    text: Option<String>,
-    expected: String,
+/// Runs the cases of a crate under each of these wrong programs, in folders that are laid out in this one: what each shows, or why it shows nothing.
+pub fn run(repository: &Repository, of: &str, programs: &[&[Edit]], folder: &Path) -> Vec<Result<Shown, String>> {
+    if repository.is_program(of) {
+        return programs.iter().map(|edits| of_program(repository, of, edits, folder)).collect();
+    }
+    match of_cases(repository, of, programs, folder) {
+        Ok(shown) => shown.into_iter().map(Ok).collect(),
+        Err(why) if programs.len() == 1 => vec![Err(why)],
+        Err(_) => {
+            let (some, others) = programs.split_at(programs.len() / 2);
+            [some, others].iter().flat_map(|programs| run(repository, of, programs, folder)).collect()
+        }
+    }
 }
 
-/// Runs the cases of a crate with these edits made, in a folder that is laid out for it; or says why that shows nothing.
-pub fn run(repository: &Repository, of: &str, edits: &[Edit], folder: &Path) -> Result<Shown, String> {
-    let cases = cases(repository, of)?;
-    lay_out(repository, of, &cases, folder)?;
-    edits.iter().try_for_each(|edit| edit.made(&folder.join("crates").join(of)))?;
+/// Runs a crate that is a program, with the edits made.
+fn of_program(repository: &Repository, of: &str, edits: &[Edit], folder: &Path) -> Result<Shown, String> {
+    emptied(folder)?;
+    for below in repository.reached(of) {
+        lay_out(repository, below, below, repository.uses(below), Library::Whole, folder)?;
+    }
+    let copy = folder.join(of);
+    edits.iter().try_for_each(|edit| edit.made(&copy))?;
+    let read = |part: &str| fs::read(repository.crate_folder(of).join(part)).unwrap_or_default();
+    Ok(shown(&tried(&copy, &read("stdin"))?, &String::from_utf8_lossy(&read("stdout"))))
+}
+
+/// Runs the case program of a library, once for each of these wrong programs.
+fn of_cases(repository: &Repository, of: &str, programs: &[&[Edit]], folder: &Path) -> Result<Vec<Shown>, String> {
+    let read = |path: PathBuf| fs::read_to_string(&path).map_err(|why| format!("{}: {why}", path.display()));
+    let (text, expected) = (read(repository.cases(of, ".txt"))?, read(repository.cases(of, ".out"))?);
+    emptied(folder)?;
+    for below in repository.reached(of).into_iter().filter(|below| *below != of) {
+        lay_out(repository, below, below, repository.uses(below), Library::Core, folder)?;
+    }
+    let source = folder.join(CASES).join("src");
+    let mut uses = repository.uses(of).to_vec();
+    uses.push(PRINTING.into());
+    let mut program = String::new();
+    for (number, edits) in programs.iter().enumerate() {
+        let name = format!("{of}_{number}");
+        lay_out(repository, of, &name, repository.uses(of), Library::Core, folder)?;
+        edits.iter().try_for_each(|edit| edit.made(&folder.join(&name)))?;
+        write(&source.join(format!("{CASES}_{number}.rt")), &of_copy(&text, of, &name))?;
+        program += &format!("mod {CASES}_{number};\n");
+        uses.push(name);
+    }
+    program += "\nfn main() {\n";
+    for number in 0..programs.len() {
+        program += &format!("    {PRINTING}::write_all(1, b\"{BETWEEN}{number}\\n\");\n    {CASES}_{number}::main();\n");
+    }
+    write(&source.join("main.rt"), &(program + "}\n"))?;
+    write(&folder.join(CASES).join(BUILD), &build_file(repository, CASES, &uses, Library::Core, &copies(of, programs.len())))?;
+    let outputs = outputs(&tried(&folder.join(CASES), b"")?, programs.len())?;
+    Ok(outputs.iter().map(|output| shown(output, &expected)).collect())
+}
+
+/// The library that the crates of a repository stand on: the whole one, or its core alone, which is quicker to read.
+#[derive(Clone, Copy, PartialEq, Eq)]
+enum Library {
+    Whole,
+    Core,
+}
+
+/// The names of the copies of a crate.
+fn copies(of: &str, count: usize) -> Vec<String> {
+    (0..count).map(|number| format!("{of}_{number}")).collect()
+}
+
+/// Empties a folder, and makes it the top of a repository.
+fn emptied(folder: &Path) -> Result<(), String> {
+    if folder.exists() {
+        fs::remove_dir_all(folder).map_err(|why| format!("{}: {why}", folder.display()))?;
+    }
+    write(&folder.join(TOP), "")
+}
+
+/// Lays out the code of a crate under a name, with its build file.
+fn lay_out(repository: &Repository, of: &str, name: &str, uses: &[String], library: Library, folder: &Path) -> Result<(), String> {
+    let copy = folder.join(name);
+    copy_all(&repository.crate_folder(of).join("src"), &copy.join("src"))?;
+    write(&copy.join(BUILD), &build_file(repository, name, uses, library, &[]))
+}
+
+/// The build file of a crate: its name and what it uses, crates of the repository, copies of these, and libraries of the toolchain.
+fn build_file(repository: &Repository, name: &str, uses: &[String], library: Library, copies: &[String]) -> String {
+    let is_ours = |used: &String| copies.contains(used) || repository.crates().any(|of| of == used);
+    let labels = uses.iter().map(|used| if is_ours(used) { format!("\"//{used}\"") } else { format!("\"@rattle//{used}\"") });
+    let labels = labels.collect::<Vec<_>>().join(", ");
+    let core = if library == Library::Core { ", no_std = True" } else { "" };
+    format!("rattle_crate(name = \"{name}\", deps = [{labels}]{core})\n")
+}
+
+/// The text of a case program for a copy of its crate, as a module of a program.
+fn of_copy(text: &str, of: &str, name: &str) -> String {
+    let (mut turned, mut rest) = (String::new(), text);
+    let path = format!("{of}::");
+    while let Some(at) = rest.find(&path) {
+        let is_whole = !rest[..at].ends_with(|mark: char| mark.is_alphanumeric() || mark == '_' || mark == ':');
+        turned += &rest[..at];
+        turned += if is_whole { name } else { of };
+        rest = &rest[at + of.len()..];
+    }
+    format!("{turned}{rest}").replace("\nfn main() {", "\npub fn main() {")
+}
+
+/// What `rt try` prints of a program that ends by itself.
+fn tried(folder: &Path, input: &[u8]) -> Result<String, String> {
     let mut program = Command::new("rt");
-    program.args(["try", &cases.name]).current_dir(folder);
-    let left = running::run(&mut program, b"", &BOUNDS).map_err(|why| format!("rt does not run: {why}"))?;
+    program.arg("try").current_dir(folder);
+    let left = running::run(&mut program, input, &BOUNDS).map_err(|why| format!("rt does not run: {why}"))?;
+    let said = String::from_utf8_lossy(&left.stderr);
     match left.end {
-        End::Status(status) => {
-            let said = [left.stdout, left.stderr].map(|said| String::from_utf8_lossy(&said).into_owned()).concat();
-            shown(status.success(), &said, &cases.expected)
+        End::Status(status) if status.success() && said.lines().any(|line| line.starts_with(ENDED)) => {
+            Ok(String::from_utf8_lossy(&left.stdout).into_owned())
         }
+        End::Status(_) => Err(format!("its cases do not run to their end: {}", failure(&said))),
         End::TookTooLong => Err(String::from("its cases take too long")),
         End::PrintedTooMuch => Err(String::from("its cases print too much")),
     }
 }
 
-/// The cases of a crate: the crate itself where it is a program, or else the program in the folder of its wrong programs.
-fn cases(repository: &Repository, of: &str) -> Result<Cases, String> {
-    let read = |path: PathBuf| fs::read_to_string(&path).map_err(|why| format!("{}: {why}", path.display()));
-    if repository.crate_folder(of).join("src/main.rt").exists() {
-        return Ok(Cases { name: of.into(), text: None, expected: read(repository.crate_folder(of).join("stdout"))? });
-    }
-    let text = read(repository.edits(of).join("cases.txt"))?;
-    Ok(Cases { name: CASES.into(), text: Some(text), expected: read(repository.edits(of).join("cases.out"))? })
+/// What `rt try` said of a run that did not end well: the first line of a fault or an error, or else the first line.
+fn failure(said: &str) -> &str {
+    let found = said.lines().find(|line| FAULTS.iter().any(|words| line.contains(words)));
+    found.or(said.lines().next()).unwrap_or_default()
 }
 
-/// Lays out a repository anew: the case program, a copy of the crate, and the others as they are.
-fn lay_out(repository: &Repository, of: &str, cases: &Cases, folder: &Path) -> Result<(), String> {
-    let told = |why| format!("{}: {why}", folder.display());
-    if folder.exists() {
-        fs::remove_dir_all(folder).map_err(told)?;
-    }
-    let crates = folder.join("crates");
-    fs::create_dir_all(&crates).map_err(told)?;
-    for other in repository.crates().filter(|other| *other != of) {
-        symlink(repository.crate_folder(other), crates.join(other)).map_err(told)?;
-    }
-    let copied = OF_A_PROGRAM.iter().filter(|part| repository.crate_folder(of).join(part).exists());
-    for part in copied.chain(&["src"]) {
-        copy_all(&repository.crate_folder(of).join(part), &crates.join(of).join(part))?;
-    }
-    let Some(text) = &cases.text else { return write(&folder.join(LIST), &repository.list) };
-    write(&crates.join(CASES).join("src/main.rt"), text)?;
-    write(&crates.join(CASES).join("stdout"), &cases.expected)?;
-    write(&folder.join(LIST), &format!("{}{CASES}: {of} {} {}\n", repository.list, repository.uses(of).join(" "), LIBRARIES.join(" ")))
-}
-
-/// What a run shows by what `rt try` said of it and how that ended.
-fn shown(good: bool, said: &str, expected: &str) -> Result<Shown, String> {
-    let mut lines = said.lines();
-    match lines.find(|line| *line == OTHER) {
-        None if good && said.contains(SAME) => Ok(Shown::Same),
-        None => Err(format!("its cases do not run to their end: {}", failure(said))),
-        Some(_) => lines.next().and_then(|line| differing(line, expected)).ok_or_else(|| String::from("its cases write no other text")),
-    }
-}
-
-/// What `rt try` said of a run that did not end: the first line, and what the interpreter said.
-fn failure(said: &str) -> String {
-    let of_the_run = said.lines().skip_while(|line| *line != "what the run said:").nth(1);
-    said.lines().take(1).chain(of_the_run).collect::<Vec<_>>().join("; ")
-}
-
-/// The first line that differs, of a line 'on standard output, at byte N, expected "..", found ".."'.
-fn differing(line: &str, expected: &str) -> Option<Shown> {
-    let (at, rest) = line.strip_prefix("on standard output, at byte ")?.split_once(", expected \"")?;
-    let at: usize = at.parse().ok()?;
-    let found = rest.split_once(", found \"")?.1;
-    let before = expected.get(..at)?;
-    let begins = before.rfind('\n').map_or(0, |end| end + 1);
-    let whole = expected[begins..].lines().next().unwrap_or_default();
-    Some(Shown::Other { expected: whole.into(), found: format!("{}{}", &before[begins..], first_line(found)) })
-}
-
-/// The first line of a text that is quoted with the marks of a string, as far as it is quoted.
-fn first_line(quoted: &str) -> String {
-    let (mut line, mut marks) = (String::new(), quoted.chars());
-    while let Some(mark) = marks.next() {
-        match (mark, mark == '\\') {
-            ('"', _) => break,
-            (_, true) => match marks.next() {
-                Some('n') | None => break,
-                Some(other) => line.push(other),
-            },
-            _ => line.push(mark),
+/// The outputs of several case programs, each after a line with its number.
+fn outputs(printed: &str, count: usize) -> Result<Vec<String>, String> {
+    let mut outputs: Vec<String> = Vec::new();
+    for line in printed.split_inclusive('\n') {
+        if line == format!("{BETWEEN}{}\n", outputs.len()) {
+            outputs.push(String::new());
+        } else {
+            let last = outputs.last_mut().ok_or("its cases do not run to their end: something is printed before the first")?;
+            *last += line;
         }
     }
-    line
+    match outputs.len() == count {
+        true => Ok(outputs),
+        false => Err(String::from("its cases do not run to their end")),
+    }
+}
+
+/// What an output shows: the first line that differs from the one that the right code prints.
+fn shown(output: &str, expected: &str) -> Shown {
+    let (mut lines, mut wanted) = (output.split_inclusive('\n'), expected.split_inclusive('\n'));
+    loop {
+        match (wanted.next(), lines.next()) {
+            (None, None) => return Shown::Same,
+            (expected, found) if expected == found => (),
+            (expected, found) => {
+                let line = |line: Option<&str>| String::from(line.unwrap_or_default().trim_end_matches('\n'));
+                return Shown::Other { expected: line(expected), found: line(found) };
+            }
+        }
+    }
 }
 
 #[cfg(test)]
 mod tests {
     use super::*;
+    use crate::seeding::harness;
 
-    /// What `rt try` said of a program that wrote something else.
-    const SAID: &str = "FAIL: the interpreter ended, but did not write what is expected\n\
-                        on standard output, at byte 16, expected \"0\\nshare 1543 1\\n\", found \"1\\nshare 1543 2\\n\"\n\
-                        what the run said:\ndone steps=2579\nFAIL: the native program at -O0 ended, but did not write what is expected\n";
     /// What the right code prints.
     const RIGHT: &str = "fits 84 1\nshare 0\nshare 1543 1\n";
 
     #[test]
     fn a_line_that_differs_is_shown() {
-        assert_eq!(shown(false, SAID, RIGHT), Ok(Shown::Other { expected: "share 0".into(), found: "share 1".into() }));
-        let line = "on standard output, at byte 10, expected \"share 0\\n\", found \"\"";
-        assert_eq!(differing(line, RIGHT), Some(Shown::Other { expected: "share 0".into(), found: "".into() }));
-        let line = "on standard output, at byte 0, expected \"f\" (1 of the 33 bytes from there), found \"a \\\"word\\\"\\nb\" (200 of the 956 bytes from there)";
-        assert_eq!(differing(line, RIGHT), Some(Shown::Other { expected: "fits 84 1".into(), found: "a \"word\"".into() }));
+        let other = |expected: &str, found: &str| Shown::Other { expected: expected.into(), found: found.into() };
+        assert_eq!(shown("fits 84 1\nshare 1\nshare 1543 2\n", RIGHT), other("share 0", "share 1"));
+        assert_eq!(shown("fits 84 1\n", RIGHT), other("share 0", ""));
+        assert_eq!(shown(&format!("{RIGHT}more\n"), RIGHT), other("", "more"));
+        assert_eq!(shown("fits 84 1\nshare 0\nshare 1543 1", RIGHT), other("share 1543 1", "share 1543 1"));
+        assert_eq!(shown(RIGHT, RIGHT), Shown::Same);
     }
 
     #[test]
-    fn a_program_that_writes_the_same_is_not_shown() {
-        let said =
-            "rt: cases ran, on the interpreter and compiled three ways, and wrote what its 'stdout' has. Nothing is proved by that\n";
-        assert_eq!(shown(true, said, RIGHT), Ok(Shown::Same));
-        assert!(shown(false, said, RIGHT).is_err());
+    fn outputs_are_told_apart() {
+        assert_eq!(outputs("== 0\na\n== 2\n== 1\n", 2), Ok(vec!["a\n== 2\n".into(), String::new()]));
+        assert!(outputs("== 0\na\n", 2).is_err() && outputs("a\n== 0\n", 1).is_err());
     }
 
     #[test]
-    fn a_program_that_does_not_end_shows_nothing() {
-        let said = "rattle-cases: the program is not lowered: the front end rejected the crate\n";
-        let why = "its cases do not run to their end: rattle-cases: the program is not lowered: the front end rejected the crate";
-        assert_eq!(shown(false, said, RIGHT), Err(why.into()));
-        let said = "FAIL: the interpreter failed, with status 80\non standard output, at byte 0, expected \"f\", found \"\"\n\
-                    what the run said:\nundefined behavior (`Overflow`): attempt to subtract with overflow in `u32`, in `cases::down`\n\
-                    FAIL: the native program at -O0 ended, but did not write what is expected\n";
-        let why =
-            "its cases do not run to their end: FAIL: the interpreter failed, with status 80; undefined behavior (`Overflow`): attempt to \
-                   subtract with overflow in `u32`, in `cases::down`";
-        assert_eq!(shown(false, said, RIGHT), Err(why.into()));
+    fn a_case_program_is_turned_to_a_copy_of_its_crate() {
+        let text =
+            "use port::Call;\n\nfn case() {\n    port::refusals::open(port_laws::port::x, my_port::y);\n}\n\nfn main() {\n    case();\n}\n";
+        let turned = "use port_3::Call;\n\nfn case() {\n    port_3::refusals::open(port_laws::port::x, my_port::y);\n}\n\npub fn main() {\n    case();\n}\n";
+        assert_eq!(of_copy(text, "port", "port_3"), turned);
+    }
+
+    #[test]
+    fn a_build_file_names_crates_of_ours_and_of_the_toolchain() {
+        let repository = Repository::read(&harness().join("..")).expect("the list can be read");
+        let uses = ["lists", "lists_0", "io"].map(String::from);
+        let file = build_file(&repository, "cases", &uses, Library::Core, &copies("lists", 1));
+        assert_eq!(file, "rattle_crate(name = \"cases\", deps = [\"//lists\", \"//lists_0\", \"@rattle//io\"], no_std = True)\n");
+        let file = build_file(&repository, "lists", &[], Library::Whole, &[]);
+        assert_eq!(file, "rattle_crate(name = \"lists\", deps = [])\n");
+    }
+
+    #[test]
+    fn a_run_that_does_not_end_is_told() {
+        let said = "the end of the program's standard output:\n| 258\ninterpreter: fault kind=index-out-of-bounds in=octets::two_at at=lib.rt:22:21: an index \
+                    at or past the length\nrun=fault proved=no\n";
+        assert_eq!(
+            failure(said),
+            "interpreter: fault kind=index-out-of-bounds in=octets::two_at at=lib.rt:22:21: an index at or past the length"
+        );
+        let said = "src/main.rt:5:34: error[unknown-name]: cannot find value `nine` in crate `octets`\nrun=none proved=no\n";
+        assert_eq!(failure(said), "src/main.rt:5:34: error[unknown-name]: cannot find value `nine` in crate `octets`");
+        assert_eq!(failure("rt: there is no such crate\n"), "rt: there is no such crate");
     }
 }
