@@ -70,10 +70,11 @@ impl Drop for Room {
 
 fn main() -> ExitCode {
     let total = asked(&command_line::words()).and_then(|asked| {
+        let prover = Prover::new(&asked.repository, asked.room.0.join("checks"));
         let mut total = Total::default();
-        wrong_programs(&asked, &mut total)?;
+        wrong_programs(&asked, &prover, &mut total)?;
         if asked.proves {
-            equivalent(&asked, &mut total)?;
+            equivalent(&asked, &prover, &mut total)?;
         }
         Ok(total)
     });
@@ -98,22 +99,22 @@ fn asked(words: &[String]) -> Result<Asked, String> {
 }
 
 /// Judges the wrong programs of the crates.
-fn wrong_programs(asked: &Asked, total: &mut Total) -> Result<(), String> {
+fn wrong_programs(asked: &Asked, prover: &Prover, total: &mut Total) -> Result<(), String> {
     let sort = read_all(asked, "wrong", |of| asked.repository.edits(of), total)?;
     let wrong = programs(&sort.files, |program| asked.proves || program.evidence == Evidence::Cases);
-    let unproved = if asked.proves { prove(asked, &sort)? } else { Unproved::new() };
+    let unproved = if asked.proves { prove(asked, prover, &sort) } else { Unproved::new() };
     let by_cases = run_cases(asked, &wrong);
-    let shown = seeding::tried(&wrong, |wrong| judge(asked, &unproved, &by_cases, *wrong));
+    let shown = seeding::tried(&wrong, |wrong| judge(asked, prover, &unproved, &by_cases, *wrong));
     total.passed += shown;
     total.failed += wrong.len() - shown;
     Ok(())
 }
 
 /// Judges the equivalent rewrites of the crates.
-fn equivalent(asked: &Asked, total: &mut Total) -> Result<(), String> {
+fn equivalent(asked: &Asked, prover: &Prover, total: &mut Total) -> Result<(), String> {
     let sort = read_all(asked, "equivalent", |of| harness().join("equivalent").join(of), total)?;
     let rewrites = programs(&sort.files, |_| true);
-    let unproved = prove(asked, &sort)?;
+    let unproved = prove(asked, prover, &sort);
     let by_cases = run_cases(asked, &rewrites);
     let unshown = seeding::tried(&rewrites, |rewrite| judge_equivalent(asked, &unproved, &by_cases, *rewrite));
     total.passed += unshown;
@@ -151,8 +152,7 @@ fn copy(asked: &Asked, sort: &str, of: &str, label: Option<&str>) -> PathBuf {
 }
 
 /// Has the prover try the edit files, and the right code of their crates; those of which it says nothing, with what is told of them.
-fn prove<'a>(asked: &Asked, sort: &'a Sort) -> Result<Unproved<'a>, String> {
-    let prover = Prover::new(&asked.repository, asked.room.0.join("checks"));
+fn prove<'a>(asked: &Asked, prover: &Prover, sort: &'a Sort) -> Unproved<'a> {
     let mut trials: Vec<(&str, Option<&EditFile>)> = sort.files.iter().map(|file| (file.of.as_str(), Some(file))).collect();
     let mut right: Vec<(&str, Option<&EditFile>)> = trials.iter().map(|(of, _)| (*of, None)).collect();
     right.dedup();
@@ -166,12 +166,11 @@ fn prove<'a>(asked: &Asked, sort: &'a Sort) -> Result<Unproved<'a>, String> {
         };
         said.and_then(|()| kept(asked, sort.name, of, label.unwrap_or("right"), &copy)).err().map(|why| ((*of, label), why))
     });
-    removed(&asked.room.0.join("checks"))?;
     let unproved: Unproved = said.into_iter().flatten().collect();
     for ((of, _), why) in unproved.iter().filter(|((_, label), _)| label.is_none()) {
         println!("{of}: {why}");
     }
-    Ok(unproved)
+    unproved
 }
 
 /// Keeps what the prover said where a person finds it.
@@ -212,8 +211,8 @@ fn key<'a>(of: &'a str, wrong: Option<Wrong<'a>>) -> (&'a str, Option<(&'a str, 
 }
 
 /// Judges one wrong program: whether it is refused and shown to be wrong, and what is told of it.
-fn judge(asked: &Asked, unproved: &Unproved, by_cases: &ByCases, wrong: Wrong) -> (bool, String) {
-    let by_prover = if asked.proves { by_prover(asked, unproved, wrong) } else { Ok(judging::Shown::ByCases) };
+fn judge(asked: &Asked, prover: &Prover, unproved: &Unproved, by_cases: &ByCases, wrong: Wrong) -> (bool, String) {
+    let by_prover = if asked.proves { by_prover(asked, prover, unproved, wrong) } else { Ok(judging::Shown::ByCases) };
     let shown = by_prover.and_then(|shown| match shown {
         judging::Shown::Wrong(words) => Ok(words),
         judging::Shown::ByCases => match of_cases(by_cases, wrong)? {
@@ -248,13 +247,26 @@ fn verdict(wrong: Wrong, shown: Result<String, String>) -> (bool, String) {
     (shown.is_ok(), format!("{}/{}: {word}: {words}: {}", wrong.file.of, wrong.file.label, shown.unwrap_or_else(|why| why)))
 }
 
-/// What the prover shows of a wrong program that it refuses.
-fn by_prover(asked: &Asked, unproved: &Unproved, wrong: Wrong) -> Result<judging::Shown, String> {
+/// What the prover shows of a wrong program that it refuses: together with the others of its file, or else alone. One that changes what another calls
+/// keeps the prover from trying the other.
+fn by_prover(asked: &Asked, prover: &Prover, unproved: &Unproved, wrong: Wrong) -> Result<judging::Shown, String> {
+    let (of, label) = (wrong.file.of.as_str(), wrong.file.label.as_str());
     said_of(unproved, wrong)?;
-    let copy = copy(asked, "wrong", &wrong.file.of, Some(&wrong.file.label));
-    let tried = Tried::read(&wrong.file.of, &copy)?;
-    tried.refused(wrong.program)?;
-    tried.shown(wrong.program)
+    let together = refused_and_shown(of, &copy(asked, "wrong", of, Some(label)), wrong.program);
+    if together.is_ok() || wrong.file.programs.len() == 1 {
+        return together;
+    }
+    let label = format!("{label}.{}", wrong.number);
+    let alone = copy(asked, "alone", of, Some(&label));
+    prover.check(of, &wrong.program.edits, &alone).and_then(|()| kept(asked, "alone", of, &label, &alone))?;
+    refused_and_shown(of, &alone, wrong.program)
+}
+
+/// What the prover shows of a wrong program by what it said of a copy.
+fn refused_and_shown(of: &str, copy: &Path, program: &WrongProgram) -> Result<judging::Shown, String> {
+    let tried = Tried::read(of, copy)?;
+    tried.refused(program)?;
+    tried.shown(program)
 }
 
 /// That the prover said something of a wrong program, and that it proves the right code.

@@ -12,6 +12,8 @@ use super::values;
 
 /// What the prover says before what a type computes to.
 const COMPUTED: &str = "computed as far as they go, the two types ";
+/// How the names of the goals begin that are of what a function ensures.
+const ENSURED: &str = "returns";
 /// What it says of a definition that it did not compute with.
 const NOT_UNFOLDED: &str = "does not unfold here";
 /// What is told of a wrong program that may be a right one.
@@ -49,13 +51,15 @@ impl<'a> Tried<'a> {
         }
     }
 
-    /// Whether a function's proof is refused, and a goal in its code that the proof does not answer fails at some values.
+    /// Whether a function's proof is refused, and a goal in its code fails that the proof does not answer: it is seen to fail at some values, or it is of
+    /// what the function ensures, which the proof leaves to a search.
     fn fails(&self, name: &str) -> bool {
-        let is_in = |goal: &OpenGoal| {
-            let text = fs::read_to_string(self.copy.join(&goal.file)).unwrap_or_default();
-            code::function_at(&goal.file, &text, goal.line).as_deref() == Some(name)
-        };
-        self.log.is_unproved(self.of, name) && self.log.open().iter().any(is_in)
+        let read = |path: &str| fs::read_to_string(self.copy.join(path)).unwrap_or_default();
+        let is_in = |goal: &OpenGoal| code::function_at(&goal.file, &read(&goal.file), goal.line).as_deref() == Some(name);
+        let answers = read(&format!("proofs/{}/Answers.antt", name.replace("::", "/")));
+        let is_searched = |goal: &OpenGoal| goal.name.starts_with(ENSURED) && !answers.contains(ENSURED);
+        let fails = |goal: &OpenGoal| is_in(goal) && (goal.is_false || is_searched(goal));
+        self.log.is_unproved(self.of, name) && self.log.open().iter().any(fails)
     }
 
     /// What the log shows of one of the file's wrong programs; or why it shows nothing.
@@ -207,14 +211,24 @@ mod tests {
         assert_eq!(copy.judged(&["sent"], Evidence::Cases, "new"), Err("sent is not refused on its own account".into()));
     }
 
+    /// What is shown of a wrong program of `send` whose proof answers a goal that is gone, and whose proof leaves another goal open.
+    fn shown_by_open(test: &str, goal: &str, name: &str) -> Result<Shown, String> {
+        let log = format!(
+            "./proofs/send/Answers.antt:31:9: error: `bounds-at`: module `Rattle.a.proofs.send.Goals` has no `bounds-at` that can be named from here\n\
+             note: src/lib.rt:2:5: it is not proved that {goal}\nfn sending::send: not proved\nfn sending::other: not proved\n"
+        );
+        let copy = Copy::with(test, &log, "src/lib.rt", "pub fn send() -> u8 {\n    1\n}\n\nfn other() {}\n");
+        copy.judged(&[name], Evidence::Cases, "new")
+    }
+
     #[test]
     fn a_goal_that_fails_beside_a_proof_that_no_longer_fits_is_a_refusal() {
-        let log = "./proofs/send/Answers.antt:31:9: error: `returns-2`: module `Rattle.a.proofs.send.Goals` has no `returns-2` that can be named from here\n\
-                   note: src/lib.rt:2:5: it is not proved that what the function ensures holds when it returns (`returns`); the facts known there allow \
-                   values at which this goal is false\nfn sending::send: not proved\nfn sending::other: not proved\n";
-        let copy = Copy::with("open", log, "src/lib.rt", "pub fn send() -> u8 {\n    1\n}\n\nfn other() {}\n");
-        assert_eq!(copy.judged(&["send"], Evidence::Cases, "new"), Ok(Shown::ByCases));
-        assert_eq!(copy.judged(&["other"], Evidence::Cases, "new"), Err("other is not refused on its own account".into()));
+        let misfit = Err("send is refused only since its proof no longer fits the code".into());
+        let fails = "; the facts known there allow values at which this goal is false";
+        assert_eq!(shown_by_open("returns", "it returns (`returns`)", "send"), Ok(Shown::ByCases));
+        assert_eq!(shown_by_open("bounds", "the index is within bounds (`bounds-at-2`)", "send"), misfit);
+        assert_eq!(shown_by_open("false", &format!("the index is within bounds (`bounds-at-2`){fails}"), "send"), Ok(Shown::ByCases));
+        assert_eq!(shown_by_open("other", "it returns (`returns`)", "other"), Err("other is not refused on its own account".into()));
     }
 
     #[test]

@@ -11,8 +11,9 @@ const OTHER_GOAL: [&str; 2] = ["expected type `goal.", "but this has type `goal.
 /// What stands before the words of an error and of a note.
 const ERROR: &str = ": error: ";
 const NOTE: &str = ": note: ";
-/// What is said of a goal that no proof answers and no search closes, and where it fails at some values.
+/// What is said of a goal that no proof answers and no search closes, before its name, and where it fails at some values.
 const OPEN: &str = ": it is not proved that ";
+const NAMED: &str = " (`";
 const FALSE: &str = "the facts known there allow values at which this goal is false";
 /// What is said of a function that is not proved: that it has no proof, for a goal of its own or for a callee, and that its proof is refused.
 const NO_PROOF: &str = "no proof: ";
@@ -34,11 +35,13 @@ pub struct Error {
     pub words: String,
 }
 
-/// A goal that is open and fails at some values: the file of the code, and the line.
+/// A goal that no proof answers and no search closes: the file of the code, the line, the goal's name, and whether it is seen to fail at some values.
 #[derive(Debug, PartialEq, Eq)]
 pub struct OpenGoal {
     pub file: String,
     pub line: usize,
+    pub name: String,
+    pub is_false: bool,
 }
 
 /// What the prover said of an edited crate.
@@ -101,7 +104,7 @@ impl Log {
 
     /// Whether a function's proof is refused as a whole, so that an open goal in its code is one that its proof does not answer.
     pub fn is_unproved(&self, of: &str, name: &str) -> bool {
-        self.said_of(of, name).any(|said| said == NOT_PROVED)
+        self.said_of(of, name).any(|said| said.starts_with(NOT_PROVED))
     }
 
     /// What is said of a function.
@@ -110,7 +113,7 @@ impl Log {
         self.functions.iter().filter_map(move |line| line.strip_prefix(&begins))
     }
 
-    /// The goals that are open and fail at some values.
+    /// The goals that are open.
     pub fn open(&self) -> &[OpenGoal] {
         &self.open
     }
@@ -161,12 +164,13 @@ impl Error {
     }
 }
 
-/// The goal of a note 'FILE:LINE:COLUMN: it is not proved that ..', where it fails at some values.
+/// The goal of a note 'FILE:LINE:COLUMN: it is not proved that WHAT (`GOAL`)'.
 fn open_goal(note: &str) -> Option<OpenGoal> {
     let (place, said) = note.split_once(OPEN)?;
     let mut steps = place.rsplitn(3, ':');
     let line = steps.nth(1)?.parse().ok()?;
-    said.contains(FALSE).then_some(OpenGoal { file: steps.next()?.into(), line })
+    let name = said.rsplit_once(NAMED)?.1.split('`').next()?;
+    Some(OpenGoal { file: steps.next()?.into(), line, name: name.into(), is_false: said.contains(FALSE) })
 }
 
 /// The error of a place and what is said there.
@@ -192,9 +196,9 @@ checked ranges::within, 1 of 4
 ./proofs/within/Answers.antt:16:43: error: `returns-3`: `returns-2` was not admitted, so this cannot be checked
 note: src/lib.rt:60:1: it is not proved that what the function ensures holds when it returns (`returns`); the facts known there allow values at which this \
 goal is false
-note: src/lib.rt:70:1: it is not proved that what the function ensures holds when it returns (`returns`)
+note: src/lib.rt:70:1: it is not proved that the sum fits its type (at a range `..=n`, `n + 1`) (`returns-2`)
 fn ranges::permitted_fits: no proof: expected answers in ./proofs/permitted_fits/Answers.antt; `search` did not prove `returns`
-fn ranges::within: not proved
+fn ranges::within: not proved; it calls `ranges::least`, which is not proved
 fn ranges::charge_fits: no proof: it calls `ranges::within`, which is not proved
 ./proofs/RangeLaws.antt:9:1: error: `within_bounds`: `both` was not admitted
 logic=not-proved
@@ -209,7 +213,8 @@ rt: rt check --only ranges::within checks that function and what it calls, and n
         assert!(!log.refuses("header", "permitted_fits"));
         assert!(log.has_error_of("within_bounds") && !log.has_error_of("within"));
         assert!(log.is_unproved("ranges", "within") && !log.is_unproved("ranges", "permitted_fits"));
-        assert_eq!(log.open(), [OpenGoal { file: "src/lib.rt".into(), line: 60 }]);
+        let goal = |line, name: &str, is_false| OpenGoal { file: "src/lib.rt".into(), line, name: name.into(), is_false };
+        assert_eq!(log.open(), [goal(60, "returns", true), goal(70, "returns-2", false)]);
         assert!(!log.is_proved() && Log::read("logic=proved functions=3 sum=dac8\n").is_proved());
     }
 
