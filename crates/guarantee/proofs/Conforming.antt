@@ -86,6 +86,11 @@ quiet_offers : (s : ℕ) (c : Action) → Quiet c → offer s c ≡ 0
 quiet_offers s (to_best_effort charge tag) q = refl
 quiet_offers s (to_frame octets tag) q = refl
 quiet_offers s neither q = refl
+quiet_offers s to_tick q = elim q [ ]
+quiet_offers s to_transmit q = elim q [ ]
+quiet_offers s (to_reserve _ _) q = elim q [ ]
+quiet_offers s (to_withdraw _) q = elim q [ ]
+quiet_offers s (to_arrive _ _ _) q = elim q [ ]
 
 -- no arrival of a fit charge on a reserved stream that does not drain is refused before its rule
 pub allowed : (s : ℕ) (x : Reservation) (a : ℕ) → s < stream_count → x.drain ≡ 0 → x.stream.reserved ≡ true → charge_fits a ≡ true → arrival_refusal s x a ≡ 0

@@ -62,6 +62,11 @@ quiet_step : (last s : ℕ) (r : Reply) (x y : Reservation) (c : Action) → Qui
 quiet_step last s r x y (to_best_effort charge tag) q same = same
 quiet_step last s r x y (to_frame octets tag) q same = same
 quiet_step last s r x y neither q same = same
+quiet_step last s r x y to_tick q same = elim q [ ]
+quiet_step last s r x y to_transmit q same = elim q [ ]
+quiet_step last s r x y (to_reserve _ _) q same = elim q [ ]
+quiet_step last s r x y (to_withdraw _) q same = elim q [ ]
+quiet_step last s r x y (to_arrive _ _ _) q same = elim q [ ]
 
 module _ (last share n : ℕ) (v w : View) (r : Reply) (t : Sent) (s : ℕ) (below : s < stream_count) (keeps : (v.stream s).drain ≡ 0)
     (is : (v.stream s).stream.reserved ≡ true) where
