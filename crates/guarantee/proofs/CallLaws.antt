@@ -7,7 +7,7 @@ use native.Mathlib.Omega.{arith}
 use lib.ListN.{get_or}
 use Rattle.stream.specs.declared.Reply.{Reply}
 use Rattle.steps.specs.Call.{Call, ticking}
-use Rattle.port_laws.specs.Counting.{Action, action_of, to_best_effort, to_frame, neither}
+use Rattle.port_laws.specs.Counting.{Action, action_of, to_best_effort, to_frame, neither, to_tick, to_transmit, to_reserve, to_withdraw, to_arrive}
 use Rattle.guarantee.specs.Events.{Marked, reserved_sent, best_effort_sent, none, brought_by, is_transmit, sent_by}
 use Rattle.guarantee.specs.Claims.{is_tick, is_reserve_of, is_withdraw_of, is_arrive_of}
 use Rattle.guarantee.proofs.Run.{Quiet}

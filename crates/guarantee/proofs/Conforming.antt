@@ -23,7 +23,7 @@ use Rattle.stream.proofs.TickLaws.{tick_cases}
 use Rattle.record.specs.Layout.{stream_count}
 use Rattle.ranges.specs.Ranges.{least_charge, greatest_charge, charge_fits}
 use Rattle.ranges.proofs.RangeLaws.{within_bounds}
-use Rattle.port_laws.specs.Counting.{Action, action_of, to_arrive, to_reserve, to_withdraw, to_best_effort, to_frame, neither}
+use Rattle.port_laws.specs.Counting.{Action, action_of, to_arrive, to_reserve, to_withdraw, to_best_effort, to_frame, neither, to_tick, to_transmit}
 use Rattle.guarantee.specs.Events.{Sent, Event, action}
 use Rattle.guarantee.specs.Claims.{is_tick, NoTick, PurgesNothing, offer, offers, OffersWithin, is_withdraw_of, Stays, Prompt, ConformingPrompt}
 use Rattle.lists.proofs.EachLaws.{differ, all_rest}

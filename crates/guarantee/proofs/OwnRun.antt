@@ -19,7 +19,7 @@ use Rattle.stream.specs.Alone.{StreamEvent, arrival, tick, replies}
 use Rattle.stream.proofs.FitLaws.{arrive_moves, tick_moves}
 use Rattle.record.specs.Layout.{stream_count}
 use Rattle.ranges.specs.Ranges.{charge_fits}
-use Rattle.port_laws.specs.Counting.{Action, action_of, to_arrive, to_best_effort, to_frame, neither}
+use Rattle.port_laws.specs.Counting.{Action, action_of, to_arrive, to_best_effort, to_frame, neither, to_tick, to_transmit, to_reserve, to_withdraw}
 use Rattle.guarantee.specs.Events.{Sent, Event, action}
 use Rattle.guarantee.specs.Claims.{is_tick, is_offer_of, offer, is_withdraw_of, Stays}
 use Rattle.guarantee.specs.Own.{own, own_replies}
