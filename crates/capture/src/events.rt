@@ -64,12 +64,12 @@ fn put_event(
     at: usize,
 ) -> usize
     requires has_record { HasRecord file.now index }
-    requires number_bound { (number < 10) × ((event < 10000) × (kind_of file.now index < 10)) }
-    requires line_bound_in_bounds { at + line_bound ≤ length text.old }
-    ensures wrote { Wrote text.old at (event_line number event (kind_of file.now index) (quick_event file.now index port.old memory.old).reply) text.new result }
+    requires numbers { (number < 10) × ((event < 10000) × (kind_of file.now index < 10)) }
+    requires room { at + line_bound ≤ length text.old }
+    ensures written { Wrote text.old at (event_line number event (kind_of file.now index) (quick_event file.now index port.old memory.old).reply) text.new result }
     ensures port_after { port.new ≡ (quick_event file.now index port.old memory.old).port }
     ensures memory_after { memory.new ≡ (quick_event file.now index port.old memory.old).memory }
-    ensures upper_bound { result ≤ at + line_bound }
+    ensures bound { result ≤ at + line_bound }
 {
     let reply = play(file, index, port, memory);
     let kind = capture_file::field::kind(file, index);
@@ -87,12 +87,12 @@ pub(crate) fn put_chain(
     at: usize,
 ) -> usize
     requires has_record { HasRecord file.now first }
-    requires first_value { (chain_refusal file.now (most_events file.now) first).number ≡ 0 }
-    requires number_bound { (number < 10) × (length file.now ≤ most_octets) }
-    requires memory_value { record_fits port.old memory.old ≡ true }
-    requires line_bound_in_bounds { at + most_events file.now * line_bound ≤ length text.old }
-    ensures wrote { Wrote text.old at (lines_of file.now number 1 (chain_within file.now (most_events file.now) first) port.old memory.old) text.new result }
-    ensures upper_bound { result ≤ at + most_events file.now * line_bound }
+    requires good_chain { (chain_refusal file.now (most_events file.now) first).number ≡ 0 }
+    requires numbers { (number < 10) × (length file.now ≤ most_octets) }
+    requires fit { record_fits port.old memory.old ≡ true }
+    requires room { at + most_events file.now * line_bound ≤ length text.old }
+    ensures written { Wrote text.old at (lines_of file.now number 1 (chain_within file.now (most_events file.now) first) port.old memory.old) text.new result }
+    ensures bound { result ≤ at + most_events file.now * line_bound }
 {
     let mut to = at;
     let mut index = first;

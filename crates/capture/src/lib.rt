@@ -37,10 +37,10 @@ fn fresh_memory() -> [u8; record::LEAST_MEMORY_LENGTH]
 
 // Plays the events of a port on a record and a memory of its own, writes their lines from `at` on, and returns the index after them.
 fn put_port(file: &[u8], port: u8, text: &mut [u8], at: usize) -> usize
-    requires file_value { (file_refusal file.now).number ≡ 0 }
-    requires port_lt_port_count { (port < port_count) × (at + most_events file.now * line_bound ≤ length text.old) }
-    ensures wrote { Wrote text.old at (port_text file.now port) text.new result }
-    ensures upper_bound { result ≤ at + most_events file.now * line_bound }
+    requires good_file { (file_refusal file.now).number ≡ 0 }
+    requires room { (port < port_count) × (at + most_events file.now * line_bound ≤ length text.old) }
+    ensures written { Wrote text.old at (port_text file.now port) text.new result }
+    ensures bound { result ≤ at + most_events file.now * line_bound }
 {
     let mut record = fresh_record();
     let mut memory = fresh_memory();
@@ -50,10 +50,10 @@ fn put_port(file: &[u8], port: u8, text: &mut [u8], at: usize) -> usize
 
 // Plays every port, writes all lines, and returns how many octets they are.
 fn put_ports(file: &[u8], text: &mut [u8]) -> usize
-    requires file_value { (file_refusal file.now).number ≡ 0 }
-    requires text_length_in_bounds { text_length ≤ length text.old }
-    ensures wrote { Wrote text.old 0 (ports_text file.now port_count) text.new result }
-    ensures upper_bound { result ≤ text_length }
+    requires good_file { (file_refusal file.now).number ≡ 0 }
+    requires room { text_length ≤ length text.old }
+    ensures written { Wrote text.old 0 (ports_text file.now port_count) text.new result }
+    ensures bound { result ≤ text_length }
 {
     let mut at: usize = 0;
     let mut port: u8 = 0;
@@ -67,8 +67,8 @@ fn put_ports(file: &[u8], text: &mut [u8]) -> usize
 // Writes the output of the file from the front of the memory for the text, and returns how many octets it has.
 fn put_output(file: &[u8], text: &mut [u8]) -> usize
     requires { text_length ≤ length text.old }
-    ensures wrote { Wrote text.old 0 (output file.now) text.new result }
-    ensures upper_bound { result ≤ text_length }
+    ensures written { Wrote text.old 0 (output file.now) text.new result }
+    ensures bound { result ≤ text_length }
 {
     let refusal = capture_file::refusal(file);
     if refusal.number != 0 {
@@ -79,8 +79,8 @@ fn put_output(file: &[u8], text: &mut [u8]) -> usize
 
 // Replays the file. The reply's first number is the length of the output, which is at the front of `text` then.
 pub fn replay(file: &[u8], text: &mut [u8]) -> Reply
-    ensures text_after { replayed result text.new ≡ replay_of file.now text.old }
-    ensures first_in_bounds { result.first ≤ length text.new }
+    ensures replays { replayed result text.new ≡ replay_of file.now text.old }
+    ensures within { result.first ≤ length text.new }
 {
     if text.len() < TEXT_LENGTH {
         return steps::refused(fitness::SHORT_MEMORY);

@@ -19,10 +19,10 @@ pub(crate) fn put_reply(
     kind: u8,
     reply: Reply,
 ) -> usize
-    requires line_bound_in_bounds { at + line_bound ≤ length text.old }
-    requires port_bound { (port < 10) × ((event < 10000) × (kind < 10)) }
-    ensures wrote { Wrote text.old at (event_line port event kind reply) text.new result }
-    ensures upper_bound { result ≤ at + line_bound }
+    requires room { at + line_bound ≤ length text.old }
+    requires numbers { (port < 10) × ((event < 10000) × (kind < 10)) }
+    ensures written { Wrote text.old at (event_line port event kind reply) text.new result }
+    ensures bound { result ≤ at + line_bound }
 {
     let numbers = [
         port as u32,
@@ -38,8 +38,8 @@ pub(crate) fn put_reply(
 // Writes the line of a refused file from the front of the text, and returns its length.
 pub(crate) fn put_refusal(text: &mut [u8], refusal: FileRefusal) -> usize
     requires { line_bound ≤ length text.old }
-    ensures wrote { Wrote text.old 0 (refusal_text refusal) text.new result }
-    ensures upper_bound { result ≤ line_bound }
+    ensures written { Wrote text.old 0 (refusal_text refusal) text.new result }
+    ensures bound { result ≤ line_bound }
 {
     let numbers_at = text::put_octets(text, 0, b"refused ");
     let numbers = [refusal.number as u32, refusal.index as u32];

@@ -75,6 +75,11 @@ quiet_foreign : (s : ℕ) (c : Action) → Quiet c → (is_tick c ≡ false) × 
 quiet_foreign s (to_best_effort charge tag) q = (refl, (refl, (refl, refl)))
 quiet_foreign s (to_frame octets tag) q = (refl, (refl, (refl, refl)))
 quiet_foreign s neither q = (refl, (refl, (refl, refl)))
+quiet_foreign s to_tick q = elim q [ ]
+quiet_foreign s to_transmit q = elim q [ ]
+quiet_foreign s (to_reserve _ _) q = elim q [ ]
+quiet_foreign s (to_withdraw _) q = elim q [ ]
+quiet_foreign s (to_arrive _ _ _) q = elim q [ ]
 
 -- by whether there is a refusal
 allowed_so : {A : Type 0} (g : ℕ) (y z : A) → g ≡ 0 → cond (eqb g 0) y z ≡ y

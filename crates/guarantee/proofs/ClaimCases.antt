@@ -321,6 +321,7 @@ mixed_counted = (refl, (refl, (refl, refl)))
 epoch_fails : Linked 600 epoch → ⊥
 epoch_fails (inl enough) = omega arith
 epoch_fails (inr (inl idle)) = idle.1 (marked_frame 5 516 7 2) refl
+epoch_fails (inr (inr x'')) = elim x'' [ ]
 
 busy_not_idle : Idle sends_reserved → ⊥
 busy_not_idle idle = idle.1 current_frame refl

@@ -23,7 +23,7 @@ use Rattle.stream.proofs.TickLaws.{tick_cases}
 use Rattle.record.specs.Layout.{stream_count}
 use Rattle.ranges.specs.Ranges.{least_charge, greatest_charge, charge_fits}
 use Rattle.ranges.proofs.RangeLaws.{within_bounds}
-use Rattle.port_laws.specs.Counting.{Action, action_of, to_arrive, to_reserve, to_withdraw, to_best_effort, to_frame, neither}
+use Rattle.port_laws.specs.Counting.{Action, action_of, to_arrive, to_reserve, to_withdraw, to_best_effort, to_frame, neither, to_tick, to_transmit}
 use Rattle.guarantee.specs.Events.{Sent, Event, action}
 use Rattle.guarantee.specs.Claims.{is_tick, NoTick, PurgesNothing, offer, offers, OffersWithin, is_withdraw_of, Stays, Prompt, ConformingPrompt}
 use Rattle.lists.proofs.EachLaws.{differ, all_rest}
@@ -86,6 +86,11 @@ quiet_offers : (s : ℕ) (c : Action) → Quiet c → offer s c ≡ 0
 quiet_offers s (to_best_effort charge tag) q = refl
 quiet_offers s (to_frame octets tag) q = refl
 quiet_offers s neither q = refl
+quiet_offers s to_tick q = elim q [ ]
+quiet_offers s to_transmit q = elim q [ ]
+quiet_offers s (to_reserve _ _) q = elim q [ ]
+quiet_offers s (to_withdraw _) q = elim q [ ]
+quiet_offers s (to_arrive _ _ _) q = elim q [ ]
 
 -- no arrival of a fit charge on a reserved stream that does not drain is refused before its rule
 pub allowed : (s : ℕ) (x : Reservation) (a : ℕ) → s < stream_count → x.drain ≡ 0 → x.stream.reserved ≡ true → charge_fits a ≡ true → arrival_refusal s x a ≡ 0

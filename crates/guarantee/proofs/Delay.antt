@@ -74,6 +74,7 @@ not_in_prior v w r f d zeros h =
   where
     told : {A : Type 0} (fs : List Marked) → Some (λ g. g ≡ f) fs → length fs ≡ 0 → A
     told (g ∷ fs) z e = absurd (omega arith)
+    told [] z e = elim z [ ]
 
 -- a tick counts one
 pub counts : (e : Event) → is_tick (action e) ≡ true → ◌≡◌ {A = ℕ} (cond (is_tick (action e)) 1 0) 1

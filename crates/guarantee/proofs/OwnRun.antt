@@ -19,7 +19,7 @@ use Rattle.stream.specs.Alone.{StreamEvent, arrival, tick, replies}
 use Rattle.stream.proofs.FitLaws.{arrive_moves, tick_moves}
 use Rattle.record.specs.Layout.{stream_count}
 use Rattle.ranges.specs.Ranges.{charge_fits}
-use Rattle.port_laws.specs.Counting.{Action, action_of, to_arrive, to_best_effort, to_frame, neither}
+use Rattle.port_laws.specs.Counting.{Action, action_of, to_arrive, to_best_effort, to_frame, neither, to_tick, to_transmit, to_reserve, to_withdraw}
 use Rattle.guarantee.specs.Events.{Sent, Event, action}
 use Rattle.guarantee.specs.Claims.{is_tick, is_offer_of, offer, is_withdraw_of, Stays}
 use Rattle.guarantee.specs.Own.{own, own_replies}
@@ -62,6 +62,11 @@ quiet_step : (last s : ℕ) (r : Reply) (x y : Reservation) (c : Action) → Qui
 quiet_step last s r x y (to_best_effort charge tag) q same = same
 quiet_step last s r x y (to_frame octets tag) q same = same
 quiet_step last s r x y neither q same = same
+quiet_step last s r x y to_tick q same = elim q [ ]
+quiet_step last s r x y to_transmit q same = elim q [ ]
+quiet_step last s r x y (to_reserve _ _) q same = elim q [ ]
+quiet_step last s r x y (to_withdraw _) q same = elim q [ ]
+quiet_step last s r x y (to_arrive _ _ _) q same = elim q [ ]
 
 module _ (last share n : ℕ) (v w : View) (r : Reply) (t : Sent) (s : ℕ) (below : s < stream_count) (keeps : (v.stream s).drain ≡ 0)
     (is : (v.stream s).stream.reserved ≡ true) where

@@ -83,6 +83,7 @@ module _ (f : Marked) where
   pub none_sends : (es : List Event) → all_other f.number es ≡ true → Some (Sends f) es → ⊥
   none_sends (e ∷ es) others (inl sends) = not_other e (both _ _ others).0 sends
   none_sends (e ∷ es) others (inr sends) = none_sends es (both (is_other f.number e.sent) _ others).1 sends
+  none_sends [] others x'' = elim x'' [ ]
 
   -- where some event sends the frame and no other does, this one does
   pub only : (before after : List Event) (e : Event) → all_other f.number before ≡ true → all_other f.number after ≡ true

@@ -45,6 +45,7 @@ third_unsent (inl s) = none_reserved third s.0
 third_unsent (inr (inl s)) = other_frame (marked_frame 5 84 7 2) third (λ e. omega arith) s.0
 third_unsent (inr (inr (inl s))) = none_reserved third s.0
 third_unsent (inr (inr (inr (inl s)))) = other_frame (marked_frame 5 84 7 3) third (λ e. omega arith) s.0
+third_unsent (inr (inr (inr (inr x4)))) = elim x4 [ ]
 
 not_by_third : AllSentBefore (least_queues - 1) busy → ⊥
 not_by_third all =

@@ -115,3 +115,4 @@ none_idle (e ∷ es) h (inl (call, sent)) =
     let so : is_idle e ≡ true = rw (call, so_idle e.sent sent) in
     differ (sym so ∙ (neither (is_idle e) (any_idle es) h).0)
 none_idle (e ∷ es) h (inr i) = none_idle es (neither (is_idle e) (any_idle es) h).1 i
+none_idle [] h x'' = elim x'' [ ]

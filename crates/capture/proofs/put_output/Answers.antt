@@ -26,10 +26,10 @@ returns-then-refusal-ne0 c =
     let text : refusal_text c.refusal-refusal.result ≡ output a.file.now =
     rw r (sym (ap (λ (b : Bool). cond b (ports_text a.file.now port_count) (refusal_text (file_refusal a.file.now)))
     (ne_eqb _ _ (λ e. c.if-refusal-ne0.true (ap (λ (x : FileRefusal). x.number) r ∙ e))))) in
-    ((w.0.0 ∙ ap (λ (t : List ℕ). 0 + length t) text, w.0.1 ∙ ap (put a.text.now 0) text), omega (arith, w.1))
+    record { written = (w.written.0 ∙ ap (λ (t : List ℕ). 0 + length t) text, w.written.1 ∙ ap (put a.text.now 0) text); bound = omega (arith, w.bound) }
 
 pub put_ports-requires : goal.put_ports-requires
-put_ports-requires c = (ap (λ (x : FileRefusal). x.number) (sym c.refusal-refusal.ensures) ∙ c.if-refusal-ne0.false, c.requires)
+put_ports-requires c = record { good_file = ap (λ (x : FileRefusal). x.number) (sym c.refusal-refusal.ensures) ∙ c.if-refusal-ne0.false; room = c.requires }
 
 pub returns : goal.returns
 unfolding output
@@ -39,4 +39,4 @@ returns c =
     let w = c.put_ports.ensures in
     let text : ports_text a.file.now port_count ≡ output a.file.now =
     sym (ap (λ (b : Bool). cond b (ports_text a.file.now port_count) (refusal_text (file_refusal a.file.now))) (eq-eqb _ _ good)) in
-    ((w.0.0 ∙ ap (λ (t : List ℕ). 0 + length t) text, w.0.1 ∙ ap (put a.text.now 0) text), w.1)
+    record { written = (w.written.0 ∙ ap (λ (t : List ℕ). 0 + length t) text, w.written.1 ∙ ap (put a.text.now 0) text); bound = w.bound }

@@ -17,22 +17,22 @@ pub first-first-requires : goal.first-first-requires
 first-first-requires c =
     let a = c.args in
     let f = a.file.now in
-    let passed = file_passed f c.requires.0 in
-    let good = port_passed f a.port (ports_good f a.port passed.1 c.requires.1.0) in
+    let passed = file_passed f c.requires.good_file in
+    let good = port_passed f a.port (ports_good f a.port passed.1 c.requires.room.0) in
     let ends = length_passed f passed.0 in
-    (ends.0, c.requires.1.0)
+    (ends.0, c.requires.room.0)
 
 pub put_chain-requires : goal.put_chain-requires
 put_chain-requires c =
     let a = c.args in
     let f = a.file.now in
-    let passed = file_passed f c.requires.0 in
-    let good = port_passed f a.port (ports_good f a.port passed.1 c.requires.1.0) in
+    let passed = file_passed f c.requires.good_file in
+    let good = port_passed f a.port (ports_good f a.port passed.1 c.requires.room.0) in
     let ends = length_passed f passed.0 in
     let first = c.first-first.ensures in
     let has = first_has f a.port (omega (arith, ends.0)) good.0 in
     let fit = ap₂ record_fits c.fresh_record-record.ensures c.fresh_memory-memory.ensures ∙ fresh_fits in
-    rw first (has, (good.1, ((omega (arith, c.requires.1.0), ends.1), (fit, c.requires.1.1))))
+    rw first (record { has_record = has; good_chain = good.1; numbers = (omega (arith, c.requires.room.0), ends.1); fit = fit; room = c.requires.room.1 })
 
 pub returns : goal.returns
 returns c =
@@ -41,4 +41,4 @@ returns c =
     let w = c.put_chain.ensures in
     let text : lines_of f a.port 1 (chain_within f (most_events f) c.first-first.result) c.fresh_record-record.result c.fresh_memory-memory.result ≡ port_text f a.port =
     rw (c.first-first.ensures, c.fresh_record-record.ensures, c.fresh_memory-memory.ensures) refl in
-    ((w.0.0 ∙ ap (λ (t : List ℕ). a.at + length t) text, w.0.1 ∙ ap (put a.text.now a.at) text), w.1)
+    record { written = (w.written.0 ∙ ap (λ (t : List ℕ). a.at + length t) text, w.written.1 ∙ ap (put a.text.now a.at) text); bound = w.bound }

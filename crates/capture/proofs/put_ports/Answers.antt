@@ -21,8 +21,8 @@ pub put_port-at-requires : goal.put_port-at-requires
 put_port-at-requires c =
     let l = c.loop-port in
     let f = c.args.file.now in
-    let ends = length_passed f (file_passed f c.requires.0).0 in
-    (c.requires.0, (c.loop-port-test.true, omega (arith, l.invariant.0.1, l.invariant.1.0, ends.1, c.requires.1, c.loop-port-test.true)))
+    let ends = length_passed f (file_passed f c.requires.good_file).0 in
+    record { good_file = c.requires.good_file; room = (c.loop-port-test.true, omega (arith, l.invariant.0.1, l.invariant.1.0, ends.1, c.requires.room, c.loop-port-test.true)) }
 
 pub loop-port-smaller : goal.loop-port-smaller
 loop-port-smaller c = omega arith
@@ -33,12 +33,12 @@ loop-port-preserved c =
     let l = c.loop-port in
     let a = c.args in
     let f = a.file.now in
-    let ends = length_passed f (file_passed f c.requires.0).0 in
+    let ends = length_passed f (file_passed f c.requires.good_file).0 in
     let w = c.put_port-at in (
-      (omega (arith, c.loop-port-test.true), w.auto.1.1.0 ∙ l.invariant.0.1),
+      (omega (arith, c.loop-port-test.true), w.auto.text ∙ l.invariant.0.1),
       (
-        omega (arith, w.ensures.1, l.invariant.1.0, ends.1),
-        rw (add-one l.port) (wrote_then a.text.now 0 (ports_text f l.port) (port_text f l.port) l.text _ l.at w.result l.invariant.1.1 w.ensures.0),
+        omega (arith, w.ensures.bound, l.invariant.1.0, ends.1),
+        rw (add-one l.port) (wrote_then a.text.now 0 (ports_text f l.port) (port_text f l.port) l.text _ l.at w.result l.invariant.1.1 w.ensures.written),
       ),
     )
 
@@ -50,4 +50,4 @@ returns c =
     let l = c.loop-port in
     let a = c.args in
     let all : l.port ≡ port_count = omega (arith, l.invariant.0.0, c.loop-port-test.false) in
-    (subst (λ (q : ℕ). Wrote a.text.now 0 (ports_text a.file.now q) l.text l.at) all l.invariant.1.1, omega (arith, l.invariant.1.0, all))
+    record { written = subst (λ (q : ℕ). Wrote a.text.now 0 (ports_text a.file.now q) l.text l.at) all l.invariant.1.1; bound = omega (arith, l.invariant.1.0, all) }

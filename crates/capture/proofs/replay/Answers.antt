@@ -14,17 +14,18 @@ use Rattle.capture.proofs.replay.Goals as goal
 pub returns-then-text-lt-TEXT_LENGTH : goal.returns-then-text-lt-TEXT_LENGTH
 unfolding replay_of
 returns-then-text-lt-TEXT_LENGTH c =
-    let a = c.args in (
-      ap₂ replayed c.refused.ensures refl
-          ∙ sym (ap (λ (b : Bool). cond b (replayed (refused_by 18) a.text.now) (replayed (granted (length (output a.file.now)) 0) (put a.text.now 0 (output a.file.now)))) (lt-ltb (length a.text.now) text_length (omega (arith, c.if-text-lt-TEXT_LENGTH.true)))),
-      rw c.refused.ensures (omega arith),
-    )
+    let a = c.args in
+    record {
+      replays = ap₂ replayed c.refused.ensures refl
+          ∙ sym (ap (λ (b : Bool). cond b (replayed (refused_by 18) a.text.now) (replayed (granted (length (output a.file.now)) 0) (put a.text.now 0 (output a.file.now)))) (lt-ltb (length a.text.now) text_length (omega (arith, c.if-text-lt-TEXT_LENGTH.true))));
+      within = rw c.refused.ensures (omega arith);
+    }
 
 pub put_output-length-requires : goal.put_output-length-requires
 put_output-length-requires c = c.if-text-lt-TEXT_LENGTH.false
 
 pub overflow_cast-length : goal.overflow_cast-length
-overflow_cast-length c = omega (arith, c.put_output-length.ensures.1)
+overflow_cast-length c = omega (arith, c.put_output-length.ensures.bound)
 
 pub returns : goal.returns
 unfolding replay_of
@@ -32,8 +33,9 @@ returns c =
     let a = c.args in
     let w = c.put_output-length.ensures in
     let o = output a.file.now in
-    let n : c.put_output-length.result ≡ length o = omega (arith, w.0.0) in (
-      ap₂ replayed (c.granted.ensures ∙ ap (λ (k : ℕ). granted k 0) n) w.0.1
-          ∙ sym (ap (λ (b : Bool). cond b (replayed (refused_by 18) a.text.now) (replayed (granted (length o) 0) (put a.text.now 0 o))) (le-ltb (length a.text.now) text_length (omega (arith, c.if-text-lt-TEXT_LENGTH.false)))),
-      rw c.granted.ensures (omega (arith, w.1, c.put_output-length.auto.1.0, c.if-text-lt-TEXT_LENGTH.false)),
-    )
+    let n : c.put_output-length.result ≡ length o = omega (arith, w.written.0) in
+    record {
+      replays = ap₂ replayed (c.granted.ensures ∙ ap (λ (k : ℕ). granted k 0) n) w.written.1
+          ∙ sym (ap (λ (b : Bool). cond b (replayed (refused_by 18) a.text.now) (replayed (granted (length o) 0) (put a.text.now 0 o))) (le-ltb (length a.text.now) text_length (omega (arith, c.if-text-lt-TEXT_LENGTH.false))));
+      within = rw c.granted.ensures (omega (arith, w.bound, c.put_output-length.auto.text, c.if-text-lt-TEXT_LENGTH.false));
+    }

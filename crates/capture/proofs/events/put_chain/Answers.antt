@@ -10,21 +10,21 @@ pub loop-index-init : goal.loop-index-init
 loop-index-init c =
     let a = c.args in
     let pre = c.requires in
-    begins a.file.now a.number a.first a.at a.port.now a.memory.now a.text.now pre.0 pre.1.0 pre.1.1.1.0
+    begins a.file.now a.number a.first a.at a.port.now a.memory.now a.text.now pre.has_record pre.good_chain pre.fit
 
 pub put_event-to-requires : goal.put_event-to-requires
 put_event-to-requires c =
     let l = c.loop-index in
     let a = c.args in
     let f = a.file.now in
-    let turn = in_turn_lem f a.number a.first a.at a.port.now a.memory.now a.text.now l.port l.memory l.text l.to l.index l.event c.loop-index-test.true l.invariant c.requires.1.1.0.1 c.requires.1.1.1.1 in
-    (l.invariant.has, ((c.requires.1.1.0.0, (turn.0, turn.1.0)), turn.1.1))
+    let turn = in_turn_lem f a.number a.first a.at a.port.now a.memory.now a.text.now l.port l.memory l.text l.to l.index l.event c.loop-index-test.true l.invariant c.requires.numbers.1 c.requires.room in
+    record { has_record = l.invariant.has; numbers = (c.requires.numbers.0, (turn.0, turn.1.0)); room = turn.1.1 }
 
 pub next-index-requires : goal.next-index-requires
 next-index-requires c = c.loop-index.invariant.has
 
 pub overflow_add-event : goal.overflow_add-event
-overflow_add-event c = record { fits = omega (arith, c.loop-index.invariant.counted.1, c.requires.1.1.0.1) }
+overflow_add-event c = record { fits = omega (arith, c.loop-index.invariant.counted.1, c.requires.numbers.1) }
 
 pub loop-index-smaller : goal.loop-index-smaller
 loop-index-smaller c = omega (arith, c.loop-index.invariant.has, c.loop-index.invariant.beyond c.loop-index-test.true)
@@ -36,7 +36,7 @@ loop-index-preserved c =
     let f = a.file.now in
     let w = c.put_event-to in
     rw c.next-index.ensures
-    (goes_on f a.number a.first a.at a.port.now a.memory.now a.text.now l.port l.memory l.text l.to l.index l.event c.loop-index-test.true l.invariant _ _ _ w.result w.ensures.0 w.ensures.1.0 w.ensures.1.1.0 w.ensures.1.1.1 (w.auto.1.1.1.1.0, (w.auto.1.1.1.1.1.0, w.auto.1.1.1.1.1.1.0)))
+    (goes_on f a.number a.first a.at a.port.now a.memory.now a.text.now l.port l.memory l.text l.to l.index l.event c.loop-index-test.true l.invariant _ _ _ w.result w.ensures.written w.ensures.port_after w.ensures.memory_after w.ensures.bound (w.auto.port, (w.auto.memory, w.auto.text)))
 
 pub shape_of-port : goal.shape_of-port
 shape_of-port c = c.loop-index.invariant.kept.0
@@ -53,4 +53,4 @@ returns c =
     let a = c.args in
     let f = a.file.now in
     let done = subst (λ (i : ℕ). Came f a.number a.first a.at a.port.now a.memory.now a.text.now l.port l.memory l.text l.to i l.event) c.loop-index-test.false l.invariant in
-    (finishes f a.number a.first a.at a.port.now a.memory.now a.text.now l.port l.memory l.text l.to l.event done, omega (arith, l.invariant.room))
+    record { written = finishes f a.number a.first a.at a.port.now a.memory.now a.text.now l.port l.memory l.text l.to l.event done; bound = omega (arith, l.invariant.room) }

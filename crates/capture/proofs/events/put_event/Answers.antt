@@ -14,7 +14,10 @@ returns c =
     let a = c.args in
     let w = c.put_reply in
     let o = c.play-reply.ensures in
-    let line = ap₂ (event_line a.number a.event) c.kind-kind.ensures (ap (λ (x : Outcome). x.reply) o) in (
-      (w.ensures.0.0 ∙ ap (λ (t : List ℕ). a.at + length t) line, w.ensures.0.1 ∙ ap (put a.text.now a.at) line),
-      (ap (λ (x : Outcome). x.port) o, (ap (λ (x : Outcome). x.memory) o, w.ensures.1)),
-    )
+    let line = ap₂ (event_line a.number a.event) c.kind-kind.ensures (ap (λ (x : Outcome). x.reply) o) in
+    record {
+      written = (w.ensures.written.0 ∙ ap (λ (t : List ℕ). a.at + length t) line, w.ensures.written.1 ∙ ap (put a.text.now a.at) line);
+      port_after = ap (λ (x : Outcome). x.port) o;
+      memory_after = ap (λ (x : Outcome). x.memory) o;
+      bound = w.ensures.bound;
+    }

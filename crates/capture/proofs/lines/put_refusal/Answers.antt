@@ -20,4 +20,4 @@ returns c =
     let word = c.put_octets-numbers_at.ensures in
     let line = c.put_line.ensures in
     let w = wrote_then a.text.now 0 refused_word (line_of (a.refusal.number ∷ a.refusal.index ∷ [])) _ _ _ _ word line in
-    (w, omega (arith, word.0, line.0, length_refusal_lem a.refusal.number a.refusal.index (omega arith) (omega arith)))
+    record { written = w; bound = omega (arith, word.0, line.0, length_refusal_lem a.refusal.number a.refusal.index (omega arith) (omega arith)) }

@@ -8,11 +8,11 @@ use Rattle.capture.proofs.lines.put_reply.Goals as goal
 pub put_line-requires : goal.put_line-requires
 put_line-requires c =
     let a = c.args in
-    omega (arith, c.requires.0, length_event a.port a.event a.kind a.reply.refusal a.reply.first a.reply.second c.requires.1.0 c.requires.1.1.0 c.requires.1.1.1 (omega arith) (omega arith) (omega arith))
+    omega (arith, c.requires.room, length_event a.port a.event a.kind a.reply.refusal a.reply.first a.reply.second c.requires.numbers.0 c.requires.numbers.1.0 c.requires.numbers.1.1 (omega arith) (omega arith) (omega arith))
 
 pub returns : goal.returns
 unfolding event_line
 returns c =
     let a = c.args in
     let w = c.put_line.ensures in
-    (w, omega (arith, w.0, length_event a.port a.event a.kind a.reply.refusal a.reply.first a.reply.second c.requires.1.0 c.requires.1.1.0 c.requires.1.1.1 (omega arith) (omega arith) (omega arith)))
+    record { written = w; bound = omega (arith, w.0, length_event a.port a.event a.kind a.reply.refusal a.reply.first a.reply.second c.requires.numbers.0 c.requires.numbers.1.0 c.requires.numbers.1.1 (omega arith) (omega arith) (omega arith)) }

@@ -1,0 +1,18 @@
+-- `registers::accesses::quick_control` meets its contract. By its two bits. Assumes nothing.
+use Rattle.registers.proofs.AccessLaws.{named_bits, written_named, written_both}
+use Rattle.port.specs.Quick.{quickly_called, length_refusal}
+use mathlib.Core.Bool.{true, false}
+use borrow.Author.Rules.{rules}
+use Rattle.registers.proofs.accesses.quick_control.Goals as goal
+
+pub returns-then-transmits : goal.returns-then-transmits
+returns-then-transmits c = written_named quickly_called length_refusal _ _ _ _ _ _ (named_bits _ _ _ true true c.bit_of.ensures c.bit_of-transmits.ensures c.if-bit_of.true c.if-transmits.true) (written_both quickly_called length_refusal c.args.number _ _ _ _ _ _ _ _ c.tick-reply.ensures c.transmit.ensures)
+
+pub returns-then-bit_of : goal.returns-then-bit_of
+returns-then-bit_of c = written_named quickly_called length_refusal _ _ _ _ _ _ (named_bits _ _ _ true false c.bit_of.ensures c.bit_of-transmits.ensures c.if-bit_of.true c.if-transmits.false) c.tick-reply.ensures
+
+pub returns-then-transmits-2 : goal.returns-then-transmits-2
+returns-then-transmits-2 c = written_named quickly_called length_refusal _ _ _ _ _ _ (named_bits _ _ _ false true c.bit_of.ensures c.bit_of-transmits.ensures c.if-bit_of.false c.if-transmits-2.true) c.transmit-then-transmits-2.ensures
+
+pub returns : goal.returns
+returns c = written_named quickly_called length_refusal _ _ _ _ _ _ (named_bits _ _ _ false false c.bit_of.ensures c.bit_of-transmits.ensures c.if-bit_of.false c.if-transmits-2.false) c.quick_put.ensures

@@ -1,0 +1,23 @@
+-- `registers::withdraw` meets its contract. The call on the record; then its note in the block. Assumes nothing.
+use native.Mathlib.Omega.{arith}
+use mathlib.Core.Path.{◌∙◌}
+use Rattle.port.specs.Calls.{called}
+use Rattle.registers.specs.Notes.{withdraw_noted}
+use Rattle.registers.proofs.PartLaws.{whole_port, part_long, replaced_long, replaced_in, short, done}
+use borrow.Author.Rules.{rules}
+use Rattle.registers.proofs.withdraw.Goals as goal
+
+pub returns-then-refusal-ne0 : goal.returns-then-refusal-ne0
+returns-then-refusal-ne0 c = short called _ _ _ _ _ c.refused.ensures c.if-refusal-ne0.true c.lengths-refusal.ensures
+
+pub slice_bounds-withdraw-end : goal.slice_bounds-withdraw-end
+slice_bounds-withdraw-end c = let long = whole_port _ _ _ c.if-refusal-ne0.false c.lengths-refusal.ensures in omega (arith, long)
+
+pub slice_bounds-withdraw-end-2 : goal.slice_bounds-withdraw-end-2
+slice_bounds-withdraw-end-2 c = part_long _ _ _ c.if-refusal-ne0.false c.lengths-refusal.ensures
+
+pub withdraw-requires : goal.withdraw-requires
+withdraw-requires c = replaced_long _ _ _ c.if-refusal-ne0.false c.lengths-refusal.ensures c.withdraw-reply.new.port c.withdraw-reply.auto.port
+
+pub returns : goal.returns
+returns c = done called _ _ _ _ _ _ _ _ c.if-refusal-ne0.false c.lengths-refusal.ensures c.withdraw-reply.ensures (c.withdraw.ensures ∙ replaced_in _ _ _ c.if-refusal-ne0.false c.lengths-refusal.ensures c.withdraw-reply.new.port c.withdraw-reply.auto.port (withdraw_noted _ _))
