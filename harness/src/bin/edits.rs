@@ -1,6 +1,6 @@
 //! Sees that the must-fail edits are wrong programs. For each wrong program of the edit files: that the prover refuses each function and law that it
 //! names, and that something shows it to be wrong, what the prover says or a run of the crate's cases on its code. And for each equivalent rewrite of
-//! equivalent/, which the prover refuses too: that nothing shows it to be wrong. The prover checks each edit file over what `rt all check` keeps of the
+//! equivalent/, most of which the prover refuses too: that nothing shows it to be wrong. The prover checks each edit file over what `rt all check` keeps of the
 //! right code in the crates' out/; what is not kept there it proves anew.
 //!
 //! `edits` judges all crates; `edits CRATE..` those that are named; with `--cases` before the names it has nothing proved, and runs the cases alone. It
@@ -116,7 +116,7 @@ fn equivalent(asked: &Asked, prover: &Prover, total: &mut Total) -> Result<(), S
     let rewrites = programs(&sort.files, |_| true);
     let unproved = prove(asked, prover, &sort);
     let by_cases = run_cases(asked, &rewrites);
-    let unshown = seeding::tried(&rewrites, |rewrite| judge_equivalent(asked, &unproved, &by_cases, *rewrite));
+    let unshown = seeding::tried(&rewrites, |rewrite| judge_equivalent(asked, prover, &unproved, &by_cases, *rewrite));
     total.passed += unshown;
     total.failed += rewrites.len() - unshown;
     Ok(())
@@ -212,7 +212,11 @@ fn key<'a>(of: &'a str, wrong: Option<Wrong<'a>>) -> (&'a str, Option<(&'a str, 
 
 /// Judges one wrong program: whether it is refused and shown to be wrong, and what is told of it.
 fn judge(asked: &Asked, prover: &Prover, unproved: &Unproved, by_cases: &ByCases, wrong: Wrong) -> (bool, String) {
-    let by_prover = if asked.proves { by_prover(asked, prover, unproved, wrong) } else { Ok(judging::Shown::ByCases) };
+    let refused_and_shown = |tried: &Tried, program: &WrongProgram| tried.refused(program).and_then(|()| tried.shown(program));
+    let by_prover = match asked.proves {
+        true => by_prover(asked, prover, "wrong", unproved, wrong, refused_and_shown),
+        false => Ok(judging::Shown::ByCases),
+    };
     let shown = by_prover.and_then(|shown| match shown {
         judging::Shown::Wrong(words) => Ok(words),
         judging::Shown::ByCases => match of_cases(by_cases, wrong)? {
@@ -223,16 +227,15 @@ fn judge(asked: &Asked, prover: &Prover, unproved: &Unproved, by_cases: &ByCases
     verdict(wrong, shown)
 }
 
-/// Judges one equivalent rewrite: whether it is refused, and nothing shows it to be wrong, and what is told of it.
-fn judge_equivalent(asked: &Asked, unproved: &Unproved, by_cases: &ByCases, rewrite: Wrong) -> (bool, String) {
-    let copy = copy(asked, "equivalent", &rewrite.file.of, Some(&rewrite.file.label));
-    let unshown = said_of(unproved, rewrite).and_then(|()| Tried::read(&rewrite.file.of, &copy)).and_then(|tried| {
-        tried.refused(rewrite.program)?;
-        match tried.shown(rewrite.program) {
+/// Judges one equivalent rewrite: whether it is refused or proved, and nothing shows it to be wrong, and what is told of it.
+fn judge_equivalent(asked: &Asked, prover: &Prover, unproved: &Unproved, by_cases: &ByCases, rewrite: Wrong) -> (bool, String) {
+    let unshown = by_prover(asked, prover, "equivalent", unproved, rewrite, |tried, program| {
+        let refused = tried.refused_or_proved(program)?;
+        match tried.shown(program) {
             Ok(judging::Shown::Wrong(words)) => Err(format!("an equivalent rewrite is shown to be wrong: {words}")),
-            Err(why) => Ok(format!("equivalent, and refused: {why}")),
+            Err(why) => Ok(format!("equivalent, and {refused}: {why}")),
             Ok(judging::Shown::ByCases) => match of_cases(by_cases, rewrite)? {
-                Shown::Same => Ok(String::from("equivalent, and refused: its cases print what they must")),
+                Shown::Same => Ok(format!("equivalent, and {refused}: its cases print what they must")),
                 other => Err(format!("an equivalent rewrite is shown to be wrong: {}", told(other))),
             },
         }
@@ -247,26 +250,27 @@ fn verdict(wrong: Wrong, shown: Result<String, String>) -> (bool, String) {
     (shown.is_ok(), format!("{}/{}: {word}: {words}: {}", wrong.file.of, wrong.file.label, shown.unwrap_or_else(|why| why)))
 }
 
-/// What the prover shows of a wrong program that it refuses: together with the others of its file, or else alone. One that changes what another calls
+/// What is made of what the prover says of a wrong program: together with the others of its file, or else alone. One that changes what another calls
 /// keeps the prover from trying the other.
-fn by_prover(asked: &Asked, prover: &Prover, unproved: &Unproved, wrong: Wrong) -> Result<judging::Shown, String> {
+fn by_prover<R>(
+    asked: &Asked,
+    prover: &Prover,
+    sort: &str,
+    unproved: &Unproved,
+    wrong: Wrong,
+    made: impl Fn(&Tried, &WrongProgram) -> Result<R, String>,
+) -> Result<R, String> {
     let (of, label) = (wrong.file.of.as_str(), wrong.file.label.as_str());
     said_of(unproved, wrong)?;
-    let together = refused_and_shown(of, &copy(asked, "wrong", of, Some(label)), wrong.program);
+    let of_copy = |copy: &Path| Tried::read(of, copy).and_then(|tried| made(&tried, wrong.program));
+    let together = of_copy(&copy(asked, sort, of, Some(label)));
     if together.is_ok() || wrong.file.programs.len() == 1 {
         return together;
     }
     let label = format!("{label}.{}", wrong.number);
     let alone = copy(asked, "alone", of, Some(&label));
     prover.check(of, &wrong.program.edits, &alone).and_then(|()| kept(asked, "alone", of, &label, &alone))?;
-    refused_and_shown(of, &alone, wrong.program)
-}
-
-/// What the prover shows of a wrong program by what it said of a copy.
-fn refused_and_shown(of: &str, copy: &Path, program: &WrongProgram) -> Result<judging::Shown, String> {
-    let tried = Tried::read(of, copy)?;
-    tried.refused(program)?;
-    tried.shown(program)
+    of_copy(&alone)
 }
 
 /// That the prover said something of a wrong program, and that it proves the right code.

@@ -51,6 +51,19 @@ impl<'a> Tried<'a> {
         }
     }
 
+    /// How an equivalent rewrite fares: that each function and law that it names is refused, or some only since its proof no longer fits; or that the crate
+    /// is proved all the same.
+    pub fn refused_or_proved(&self, program: &WrongProgram) -> Result<&'static str, String> {
+        if self.log.is_proved() {
+            return Ok("proved");
+        }
+        match self.refused(program) {
+            Ok(()) => Ok("refused"),
+            Err(_) if program.refused.iter().any(|name| self.log.only_misfits(name)) => Ok("refused since its proof no longer fits"),
+            Err(why) => Err(why),
+        }
+    }
+
     /// Whether a function's proof is refused, and a goal in its code fails that the proof does not answer: it is seen to fail at some values, or it is of
     /// what the function ensures, which the proof leaves to a search.
     fn fails(&self, name: &str) -> bool {
@@ -229,6 +242,25 @@ mod tests {
         assert_eq!(shown_by_open("bounds", "the index is within bounds (`bounds-at-2`)", "send"), misfit);
         assert_eq!(shown_by_open("false", &format!("the index is within bounds (`bounds-at-2`){fails}"), "send"), Ok(Shown::ByCases));
         assert_eq!(shown_by_open("other", "it returns (`returns`)", "other"), Err("other is not refused on its own account".into()));
+    }
+
+    #[test]
+    fn an_equivalent_rewrite_is_refused_or_proved() {
+        let fares = |test: &str, log: &str| {
+            let copy = Copy::with(test, log, "src/lib.rt", "");
+            let rewrite =
+                WrongProgram { words: "words".into(), refused: vec!["send".into()], evidence: Evidence::Cases, edits: Vec::new() };
+            let tried = Tried::read("sending", &copy.0).expect("there is a log");
+            tried.refused_or_proved(&rewrite)
+        };
+        let refused = "fn sending::send: no proof: expected answers in ./proofs/send/Answers.antt; `search` did not prove `returns`\nlogic=not-proved\n";
+        let misfit =
+            "./proofs/send/Answers.antt:3:1: error: `returns-2`: `sent` is not in scope\nfn sending::send: not proved\nlogic=not-proved\n";
+        assert_eq!(fares("refused", refused), Ok("refused"));
+        assert_eq!(fares("misfitting", misfit), Ok("refused since its proof no longer fits"));
+        assert_eq!(fares("proved", "fn sending::send: proved\nlogic=proved functions=1 sum=d\n"), Ok("proved"));
+        let other = "fn sending::send: proved\nfn sending::less: not proved\nlogic=not-proved\n";
+        assert_eq!(fares("another", other), Err("send is not refused on its own account".into()));
     }
 
     #[test]
