@@ -1,4 +1,4 @@
-//! The definitions that a document names, as in `stream/Steps` · `arriveOf`, `attempt`: a module, a middle dot, and definitions of it. A column of a
+//! The definitions that a document names, as in `stream/Steps` · `arrive_of`, `attempt`: a module, a middle dot, and definitions of it. A column of a
 //! table whose head ends in a module and a middle dot has definitions of it alone. The index has for each definition the sections that name it.
 
 use super::definitions::is_module;

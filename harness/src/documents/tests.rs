@@ -89,51 +89,51 @@ fn undefined(module: &str, name: &str) -> String {
 
 #[test]
 fn definitions_of_every_sort_are_known() {
-    finds(unknown, &sentence("`stream/Steps` · `arriveOf`, `tickOf`; `stream/State` · `StreamFit`; `steps/Call` · `Call`"), &[]);
-    finds(unknown, &sentence("`stream/declared` · `Reply`,\n`Arrival`; `port_laws/proofs/QuickLaws` · `quick-call`"), &[]);
-    finds(unknown, &sentence("`port_laws/proofs/LookupLaws` · `bound-found`"), &[]);
-    finds(unknown, &column("stream/Steps", "`arriveOf`, `tickOf`; `stream/State` · `StreamFit`"), &[]);
+    finds(unknown, &sentence("`stream/Steps` · `arrive_of`, `tick_of`; `stream/State` · `StreamFit`; `steps/Call` · `Call`"), &[]);
+    finds(unknown, &sentence("`stream/declared` · `Reply`,\n`Arrival`; `port_laws/proofs/QuickLaws` · `quick_call`"), &[]);
+    finds(unknown, &sentence("`port_laws/proofs/LookupLaws` · `bound_found`"), &[]);
+    finds(unknown, &column("stream/Steps", "`arrive_of`, `tick_of`; `stream/State` · `StreamFit`"), &[]);
 }
 
 #[test]
 fn a_wrong_name_is_found() {
-    let wrong = undefined("stream/Steps", "ariveOf");
-    finds(unknown, &sentence("`stream/Steps` · `ariveOf`"), &[&wrong]);
-    finds(unknown, &sentence("`stream/Steps` · `arriveOf`, `tickOf`,\n`ariveOf`"), &[&wrong]);
-    finds(unknown, &column("stream/Steps", "`ariveOf`"), &[&wrong]);
-    finds(unknown, &column("stream/Steps", "`tickOf`, `ariveOf`"), &[&wrong]);
+    let wrong = undefined("stream/Steps", "arive_of");
+    finds(unknown, &sentence("`stream/Steps` · `arive_of`"), &[&wrong]);
+    finds(unknown, &sentence("`stream/Steps` · `arrive_of`, `tick_of`,\n`arive_of`"), &[&wrong]);
+    finds(unknown, &column("stream/Steps", "`arive_of`"), &[&wrong]);
+    finds(unknown, &column("stream/Steps", "`tick_of`, `arive_of`"), &[&wrong]);
 }
 
 #[test]
 fn a_wrong_type_or_theorem_is_found() {
     finds(unknown, &sentence("`stream/declared` · `Steam`"), &[&undefined("stream/declared", "Steam")]);
-    finds(unknown, &sentence("`port_laws/proofs/QuickLaws` · `quick-cal`"), &[&undefined("port_laws/proofs/QuickLaws", "quick-cal")]);
+    finds(unknown, &sentence("`port_laws/proofs/QuickLaws` · `quick_cal`"), &[&undefined("port_laws/proofs/QuickLaws", "quick_cal")]);
 }
 
 #[test]
 fn a_name_that_another_module_or_only_a_part_has_is_wrong() {
-    finds(unknown, &sentence("`stream/State` · `tickOf`"), &[&undefined("stream/State", "tickOf")]);
-    finds(unknown, &sentence("`stream/State` · `left-within`"), &[&undefined("stream/State", "left-within")]);
+    finds(unknown, &sentence("`stream/State` · `tick_of`"), &[&undefined("stream/State", "tick_of")]);
+    finds(unknown, &sentence("`stream/State` · `left_within`"), &[&undefined("stream/State", "left_within")]);
     finds(unknown, &sentence("`stream/Lib` · `mod`"), &[&undefined("stream/Lib", "mod")]);
 }
 
 #[test]
 fn a_wrong_module_is_found() {
     let none = |module: &str| format!("1: there is no module `{module}`; name the one that has the definition");
-    finds(unknown, &sentence("`stream/Stepz` · `arriveOf`"), &[&none("stream/Stepz")]);
-    finds(unknown, &column("stream/Stepz", "`arriveOf`"), &[&none("stream/Stepz")]);
+    finds(unknown, &sentence("`stream/Stepz` · `arrive_of`"), &[&none("stream/Stepz")]);
+    finds(unknown, &column("stream/Stepz", "`arrive_of`"), &[&none("stream/Stepz")]);
     finds(unknown, &sentence("`steam/declared` · `Reply`"), &[&none("steam/declared")]);
-    finds(unknown, &sentence("`Stream/Steps` · `arriveOf`"), &["1: `Stream/Steps` is no module; write it as `stream/Steps`"]);
+    finds(unknown, &sentence("`Stream/Steps` · `arrive_of`"), &["1: `Stream/Steps` is no module; write it as `stream/Steps`"]);
 }
 
 #[test]
 fn a_module_stands_alone_only_where_definitions_are_left_out() {
-    finds(unknown, &sentence("`stream/Steps`, `arriveOf`"), &["1: `stream/Steps` stands alone; name the definition after it"]);
+    finds(unknown, &sentence("`stream/Steps`, `arrive_of`"), &["1: `stream/Steps` stands alone; name the definition after it"]);
     finds(unknown, "### 13.2 A\n\n(`stream/Alone`)", &[]);
 }
 
 /// A text that names definitions in two sections, and the head of its index.
-const TEXT: &str = "### 1.1 A\n\n(`stream/Steps` · `tickOf`)\n\n### 1.2 B\n\n(`stream/Steps` · `tickOf`, `arriveOf`)\n\n\
+const TEXT: &str = "### 1.1 A\n\n(`stream/Steps` · `tick_of`)\n\n### 1.2 B\n\n(`stream/Steps` · `tick_of`, `arrive_of`)\n\n\
                     ### 13.1 Index\n\n| a | b |\n|---|---|\n";
 
 /// The text with these rows in its index.
@@ -143,28 +143,28 @@ fn with_index(rows: &str) -> String {
 
 #[test]
 fn an_index_that_is_of_its_text_passes() {
-    finds(misindexed, &with_index("| `stream/Steps` | `tickOf` 1.1 1.2; `arriveOf` 1.2 |"), &[]);
-    finds(misindexed, &with_index("| `stream/Steps` | `tickOf`, `arriveOf` 1.2 |\n| `stream/Steps` | `tickOf` 1.1 |"), &[]);
+    finds(misindexed, &with_index("| `stream/Steps` | `tick_of` 1.1 1.2; `arrive_of` 1.2 |"), &[]);
+    finds(misindexed, &with_index("| `stream/Steps` | `tick_of`, `arrive_of` 1.2 |\n| `stream/Steps` | `tick_of` 1.1 |"), &[]);
 }
 
 #[test]
 fn an_index_that_is_not_of_its_text_is_found() {
     let wrong = |named: &str, said: &str| format!("index: {named}, and the index says {said}; set the index right");
-    let arrive = wrong("`stream/Steps` · `arriveOf` is named in 1.2", "nothing");
-    finds(misindexed, &with_index("| `stream/Steps` | `tickOf` 1.1 1.2 |"), &[&arrive]);
-    let tick = wrong("`stream/Steps` · `tickOf` is named in 1.1 1.2", "1.2");
-    finds(misindexed, &with_index("| `stream/Steps` | `tickOf`, `arriveOf` 1.2 |"), &[&tick]);
+    let arrive = wrong("`stream/Steps` · `arrive_of` is named in 1.2", "nothing");
+    finds(misindexed, &with_index("| `stream/Steps` | `tick_of` 1.1 1.2 |"), &[&arrive]);
+    let tick = wrong("`stream/Steps` · `tick_of` is named in 1.1 1.2", "1.2");
+    finds(misindexed, &with_index("| `stream/Steps` | `tick_of`, `arrive_of` 1.2 |"), &[&tick]);
     let more = wrong("`stream/Steps` · `joined` is named in nothing", "1.1");
-    finds(misindexed, &with_index("| `stream/Steps` | `tickOf` 1.1 1.2; `arriveOf` 1.2; `joined` 1.1 |"), &[&more]);
+    finds(misindexed, &with_index("| `stream/Steps` | `tick_of` 1.1 1.2; `arrive_of` 1.2; `joined` 1.1 |"), &[&more]);
 }
 
 #[test]
 fn a_definition_that_is_left_out_is_found() {
-    let without = RULE.text().replace("`tickedAt`", "").replace("| `stream/Alone` |", "| |");
+    let without = RULE.text().replace("`ticked_at`", "").replace("| `stream/Alone` |", "| |");
     let missing = unnamed(&RULE, &pieces(&without)).join("\n");
-    assert!(missing.contains("`ticking/Ticking` · `tickedAt` is nowhere named; give it a sentence, or a line in 13.2"), "{missing}");
-    assert!(missing.contains("`stream/Alone` · `octetsInto` is nowhere named"), "{missing}");
-    assert!(!missing.contains("tickStep"), "{missing}");
+    assert!(missing.contains("`ticking/Ticking` · `ticked_at` is nowhere named; give it a sentence, or a line in 13.2"), "{missing}");
+    assert!(missing.contains("`stream/Alone` · `octets_into` is nowhere named"), "{missing}");
+    assert!(!missing.contains("tick_step"), "{missing}");
 }
 
 /// A check finds just these faults in docs/GUARANTEE.md where some of its words, which it has once, are others.
@@ -188,7 +188,7 @@ fn a_name_in_the_guarantee_that_is_not_where_it_says_is_found() {
     let table = |module: &str, name: &str| format!("Where it stands: `{module}` does not define `{name}`; name a definition that it has");
     finds_where(unknown, "`Demand3.alike`", "`Demand3.prompt`", &[&table("guarantee/Demand3", "Demand3.prompt")]);
     finds_where(unknown, "`NotByHost`", "`NotByHosts`", &[&table("guarantee/Claims", "NotByHosts")]);
-    finds_where(unknown, "`demand-3`", "`demand-4`", &[&table("guarantee/proofs/Theorem", "demand-4")]);
+    finds_where(unknown, "`demand_3`", "`demand_4`", &[&table("guarantee/proofs/Theorem", "demand_4")]);
     finds_where(
         unknown,
         "`guarantee/Beyond` · `SentByReply`",
@@ -200,7 +200,7 @@ fn a_name_in_the_guarantee_that_is_not_where_it_says_is_found() {
 #[test]
 fn a_name_in_the_guarantee_without_its_module_is_found() {
     let alone = |name: &str| format!("Where it stands: `{name}` stands after no module; write the one that has it before it");
-    finds_where(unplaced, "`guarantee/proofs/Theorem` · `quick-events`", "`quick-events`", &[&alone("quick-events")]);
+    finds_where(unplaced, "`guarantee/proofs/Theorem` · `quick_events_lem`", "`quick_events_lem`", &[&alone("quick_events_lem")]);
     finds_where(unplaced, "`guarantee/Beyond` · `SentByReply`", "(Beyond) `SentByReply`", &[&alone("SentByReply")]);
 }
 
