@@ -20,4 +20,5 @@ pub mod model;
 pub mod recording;
 pub mod running;
 pub mod seeding;
+pub mod sharing;
 pub mod timeline;

@@ -12,6 +12,7 @@ use harness::command_line::{self, asked, Asked, REPLAY};
 use harness::comparing::program::named;
 use harness::comparing::test::KINDS;
 use harness::seeding::{self, closed, harness, Package, Seed};
+use harness::sharing::Folder;
 
 /// How the program is called.
 const USAGE: &str = "usage: faults [--all] [--replay PROGRAM]";
@@ -32,10 +33,14 @@ struct Part {
     plays: &'static [(&'static str, &'static str)],
 }
 
+/// The part of which each fault needs copies of some files alone, and the files of it that have the functions of its sides.
+const MODEL: &str = "model";
+const PLAYED: [&str; 2] = ["calls", "replay"];
+
 /// The independent model, the quick calls in plain Rust, the exports as a host declares and calls them, and the checkers of demand 3, of what lists
 /// take and of what they tell of counts.
 const PARTS: [Part; 7] = [
-    Part { copied: "model", module: "model", plays: &[("model", "call"), ("replay", "replay::replay")] },
+    Part { copied: MODEL, module: MODEL, plays: &[("model", "calls::call"), ("replay", "replay::replay")] },
     Part { copied: "in_place", module: "in_place", plays: &[("in_place", "call")] },
     Part { copied: "exports.rs", module: "exports", plays: &[("exports", "call"), ("quick", "unscanned"), ("stream", "stream_arrive")] },
     Part { copied: "guarantee/claims.rs", module: "claims", plays: &[("check", "check")] },
@@ -85,7 +90,8 @@ fn run(asked: Asked) -> ExitCode {
     let seeded = Seeded { program: package.join("target/debug/seeded"), replay: asked.replay };
     let built = read_faults().and_then(|faults| {
         let seeds = faults.iter().map(|fault| (&fault.seed, fault.part.copied));
-        Package { folder: &package, manifest: MANIFEST, program: &program(&faults) }.built(seeds).map(|()| faults)
+        let program = program(&faults, &Folder::read(MODEL)?);
+        Package { folder: &package, manifest: MANIFEST, program: &program }.built(seeds).map(|()| faults)
     });
     match built {
         Ok(faults) => tried(&seeded, &faults, asked.own.iter().any(|word| word == ALL)),
@@ -120,8 +126,8 @@ fn status(seeded: &Seeded, fault: &str, word: &str) -> Option<i32> {
 }
 
 /// The program over the copies: its first word names a fault, the others are those of `compare`.
-fn program(faults: &[Fault]) -> String {
-    let modules: String = faults.iter().map(|fault| seeding::module(&fault.seed, fault.part.copied, fault.part.module)).collect();
+fn program(faults: &[Fault], model: &Folder) -> String {
+    let modules: String = faults.iter().map(|fault| module(fault, model)).collect();
     let arms: String = faults.iter().map(arm).collect();
     [
         "pub use harness::{call, guarantee, layout, model};\nuse harness::comparing::{program, sides::Sides};\n\n",
@@ -133,6 +139,14 @@ fn program(faults: &[Fault]) -> String {
         "        other => panic!(\"{other} is no fault\"),\n    };\n    program::run(&words[1..], sides)\n}\n",
     ]
     .concat()
+}
+
+/// The module of a fault: of the model what it changes and what uses that, of any other part all.
+fn module(fault: &Fault, model: &Folder) -> String {
+    match fault.part.copied {
+        MODEL => model.module(&fault.seed, &PLAYED),
+        copied => seeding::module(&fault.seed, copied, fault.part.module),
+    }
 }
 
 /// The arm of the program for a fault: the sound sides and checkers, but for what the fault is seeded in.

@@ -32,7 +32,7 @@ const SIDES: [Side; 4] = [
     Side { name: "call", play: exports::call, functions: "bunnysolder_*" },
     Side { name: "quick", play: exports::unscanned, functions: "bunnysolder_*" },
     Side { name: "Rust", play: in_place::call, functions: "harness::in_place::call" },
-    Side { name: "outside", play: model::call, functions: "harness::model::call" },
+    Side { name: "outside", play: model::call, functions: "harness::model::calls::call" },
 ];
 
 fn main() -> ExitCode {
