@@ -7,7 +7,9 @@ ghost use Rattle.capture_file.specs.Checks.{most_octets};
 ghost use Rattle.capture.specs.Output.{text_length, output};
 ghost use Rattle.replay.specs.Input.{FitsRoom};
 
-use libc::{STDIN_FILENO, STDOUT_FILENO};
+use anyhow::anyhow;
+use std::io;
+use std::io::{Read, Write};
 
 // Room for the longest capture and one octet more, by which a longer file shows.
 const FILE_LENGTH: usize = capture_file::MOST_OCTETS + 1;
@@ -34,20 +36,21 @@ fn text_room() -> [u8; capture::TEXT_LENGTH]
 }
 
 // Reads standard input until it ends, a read fails, or there is no room left.
-fn read_input(file: &mut [u8]) -> Input
+fn read_input(rt: &HostRuntime, file: &mut [u8]) -> Input
     ensures { FitsRoom result file.new }
 {
+    let mut input = rt.stdin();
     let mut done: usize = 0;
     while done < file.len() {
-        let got = libc::read(STDIN_FILENO, &mut file[done..]);
-        if got < 0 {
-            return Input::Failed;
+        match input.read(&mut file[done..]) {
+            Err(_) => return Input::Failed,
+            Ok(more) => {
+                if more == 0 {
+                    return Input::Octets(done);
+                }
+                done += more;
+            }
         }
-        let more = io::count(got, &file[done..]);
-        if more == 0 {
-            return Input::Octets(done);
-        }
-        done += more;
     }
     Input::Octets(done)
 }
@@ -62,18 +65,19 @@ fn put_output(file: &[u8], text: &mut [u8]) -> usize
 }
 
 // Writes the output of the file.
-fn write_output(file: &[u8]) {
+fn write_output(rt: &HostRuntime, file: &[u8]) -> anyhow::Result<()> {
     let mut text = text_room();
     let end = put_output(file, &mut text);
-    if !io::write_all(STDOUT_FILENO, &text[..end]) {
-        os::fail(b"replay: standard output");
+    match io::writer(rt).write_all(&text[..end]) {
+        Ok(()) => Ok(()),
+        Err(_) => Err(anyhow!("replay: standard output")),
     }
 }
 
-fn main() {
+fn main(rt: HostRuntime) -> anyhow::Result<()> {
     let mut file = file_room();
-    match read_input(&mut file) {
-        Input::Octets(length) => write_output(&file[..length]),
-        Input::Failed => os::fail(b"replay: standard input"),
+    match read_input(&rt, &mut file) {
+        Input::Octets(length) => write_output(&rt, &file[..length]),
+        Input::Failed => Err(anyhow!("replay: standard input")),
     }
 }
