@@ -5,7 +5,6 @@ use std::fs::{self, File};
 use std::io::{self, Seek, Write};
 use std::os::fd::OwnedFd;
 use std::os::unix::net::UnixStream;
-use std::os::unix::process::ExitStatusExt;
 use std::path::Path;
 use std::process::{self, Command, Output, Stdio};
 
@@ -31,9 +30,6 @@ pub const TESTS: [Test; 10] = [
     test("input_without_end", input_without_end),
 ];
 
-/// The signal of a write to a pipe that nobody reads.
-const SIGPIPE: i32 = 13;
-
 /// How many octets a file may have that `ulimit -f 1` limits.
 const LIMITED_OCTETS: usize = 512;
 
@@ -41,14 +37,14 @@ const LIMITED_OCTETS: usize = 512;
 fn input_is_a_directory(run: &mut Run) -> Result<(), String> {
     run.next_capture("a directory");
     let mut program = Command::new(run.replay);
-    says(run, program.stdin(opened("/")?).stdout(Stdio::piped()), "replay: standard input: Is a directory\n")
+    says(run, program.stdin(opened("/")?).stdout(Stdio::piped()), "standard input: Is a directory (os error 21)")
 }
 
 /// No standard input at all.
 fn input_is_closed(run: &mut Run) -> Result<(), String> {
     run.next_capture("closed");
     let mut program = through_shell(run, r#"exec "$0" <&-"#);
-    says(run, program.stdout(Stdio::piped()), "replay: standard input: Bad file descriptor\n")
+    says(run, program.stdout(Stdio::piped()), "standard input: Bad file descriptor (os error 9)")
 }
 
 /// A whole capture, after which a read fails: nothing of it is printed.
@@ -56,7 +52,7 @@ fn input_breaks_off(run: &mut Run) -> Result<(), String> {
     run.next_capture("the sample, then a failure");
     let input = failing_after(&stored::one("sample")?.octets).map_err(|why| why.to_string())?;
     let mut program = Command::new(run.replay);
-    says(run, program.stdin(input).stdout(Stdio::piped()), "replay: standard input: Connection reset by peer\n")
+    says(run, program.stdin(input).stdout(Stdio::piped()), "standard input: Connection reset by peer (os error 104)")
 }
 
 /// A stream that has these octets and then fails, since its other end was closed with an octet unread.
@@ -69,21 +65,21 @@ fn failing_after(octets: &[u8]) -> io::Result<OwnedFd> {
 
 /// A device that has no room.
 fn output_is_full(run: &mut Run) -> Result<(), String> {
-    output_fails(run, r#"exec "$0" >/dev/full"#, "No space left on device")
+    output_fails(run, r#"exec "$0" >/dev/full"#, "No space left on device (os error 28)")
 }
 
 /// No standard output at all.
 fn output_is_closed(run: &mut Run) -> Result<(), String> {
-    output_fails(run, r#"exec "$0" >&-"#, "Bad file descriptor")
+    output_fails(run, r#"exec "$0" >&-"#, "Bad file descriptor (os error 9)")
 }
 
 /// Replays captures to an output that takes nothing; without events nothing is written, so that nothing fails.
 fn output_fails(run: &mut Run, words: &str, why: &str) -> Result<(), String> {
-    let message = format!("replay: standard output: {why}\n");
-    for (name, message) in [("sample", &*message), ("full_file", &message), ("refused_21_cut", &message), ("no_events", "")] {
+    let why = format!("standard output: {why}");
+    for (name, why) in [("sample", &*why), ("full_file", &why), ("refused_21_cut", &why), ("no_events", "")] {
         run.next_capture(name);
         let mut program = through_shell(run, words);
-        says(run, program.stdin(opened(stored::path(name))?).stdout(Stdio::null()), message)?;
+        says(run, program.stdin(opened(stored::path(name))?).stdout(Stdio::null()), why)?;
     }
     Ok(())
 }
@@ -95,7 +91,7 @@ fn output_has_a_limit(run: &mut Run) -> Result<(), String> {
     let path = env::temp_dir().join(format!("limited_output_{}", process::id()));
     let output = File::create(&path).map_err(|why| format!("{}: {why}", path.display()))?;
     let mut program = through_shell(run, r#"trap "" XFSZ; ulimit -f 1; exec "$0""#);
-    let said = says(run, program.stdin(opened(stored::path("full_file"))?).stdout(output), "replay: standard output: File too large\n");
+    let said = says(run, program.stdin(opened(stored::path("full_file"))?).stdout(output), "standard output: File too large (os error 27)");
     let written = fs::read(&path).and_then(|octets| fs::remove_file(&path).map(|()| octets)).map_err(|why| why.to_string())?;
     match said {
         Ok(()) if written != stored.output.as_bytes()[..LIMITED_OCTETS] => {
@@ -105,17 +101,14 @@ fn output_has_a_limit(run: &mut Run) -> Result<(), String> {
     }
 }
 
-/// A pipe whose reader goes, and a text that is longer than a pipe holds: the system ends the program, which says nothing.
+/// A pipe whose reader goes, and a text that is longer than a pipe holds.
 fn output_without_reader(run: &mut Run) -> Result<(), String> {
     run.next_capture("full_file");
     let input = opened(stored::path("full_file"))?;
     let mut child = Command::new(run.replay).stdin(input).stdout(Stdio::piped()).stderr(Stdio::piped()).spawn();
     child.iter_mut().for_each(|child| drop(child.stdout.take()));
-    let Output { status, stderr, .. } = run.ended(child)?;
-    match status.signal() == Some(SIGPIPE) && stderr.is_empty() {
-        true => Ok(()),
-        false => Err(format!("{}: replay ends with {status} and says {:?}", run.place, String::from_utf8_lossy(&stderr))),
-    }
+    let output = run.ended(child)?;
+    told(run, &output, "standard output: Broken pipe (os error 32)")
 }
 
 /// The sample octet by octet, and the longest stored captures in pieces of any size.
@@ -186,12 +179,21 @@ fn through_shell(run: &Run, words: &str) -> Command {
     shell
 }
 
-/// Fails unless a program ends with status 0, says just the message on standard error, and prints nothing to a pipe.
-fn says(run: &Run, program: &mut Command, message: &str) -> Result<(), String> {
-    let output = run.ended(program.stderr(Stdio::piped()).spawn())?;
+/// Fails unless a program tells this failure, or none where it is empty, and prints nothing to a pipe.
+fn says(run: &Run, program: &mut Command, why: &str) -> Result<(), String> {
+    told(run, &run.ended(program.stderr(Stdio::piped()).spawn())?, why)
+}
+
+/// Fails unless a program that has ended told this failure on standard error, with status 1, or none where it is empty, with status 0, and printed
+/// nothing to a pipe.
+fn told(run: &Run, output: &Output, why: &str) -> Result<(), String> {
+    let (message, code) = if why.is_empty() { (String::new(), 0) } else { (format!("Error: replay: {why}\n"), 1) };
     let said = String::from_utf8_lossy(&output.stderr);
     if said != message {
         return Err(format!("{}: replay says {said:?}, not {message:?}", run.place));
     }
-    judged(&Output { stderr: Vec::new(), ..output }, "").map_err(|why| format!("{}: {why}", run.place))
+    match output.status.code() == Some(code) && output.stdout.is_empty() {
+        true => Ok(()),
+        false => Err(format!("{}: replay ends with {} and prints {} octets", run.place, output.status, output.stdout.len())),
+    }
 }
