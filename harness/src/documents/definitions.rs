@@ -112,9 +112,10 @@ fn in_crates(kind: &str, module: impl Fn(&str, &str) -> String) -> Vec<String> {
     modules
 }
 
-/// The modules in a folder of a crate but for the one that only lists the others.
+/// The modules in a folder of a crate, if it has that, but for the one that only lists the others.
 fn files_of(name: &str, kind: &str) -> Vec<String> {
-    let files = entries(&folder(name).join(kind));
+    let folder = folder(name).join(kind);
+    let files = if folder.exists() { entries(&folder) } else { Vec::new() };
     files.iter().filter_map(|file| file.strip_suffix(".antt")).filter(|&file| file != LIST).map(String::from).collect()
 }
 
