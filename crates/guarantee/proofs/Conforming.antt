@@ -16,7 +16,7 @@ use Rattle.stream.specs.declared.Stream.{Stream}
 use Rattle.stream.specs.declared.Arrival.{Arrival}
 use Rattle.stream.specs.declared.Arrival.TheVariants.{Joined, Discarded}
 use Rattle.stream.specs.State.{current_place, reserve_of}
-use Rattle.stream.specs.Steps.{joined, arrive_of, tick_of}
+use Rattle.stream.specs.Steps.{arrive_of, tick_of}
 use Rattle.stream.specs.Replies.{reply_of, stream_of}
 use Rattle.stream.proofs.ArriveLaws.{joins_here, joined_cases}
 use Rattle.stream.proofs.TickLaws.{tick_cases}

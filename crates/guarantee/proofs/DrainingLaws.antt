@@ -1,6 +1,6 @@
 -- A withdrawn stream is taken until the tick whose number is that of the queues, and free after it, on every record and memory. Assumes nothing.
 use Prim.Native.Nat.{ℕ, ◌+◌, ◌-◌, ◌≤◌, ◌<◌}
-use mathlib.Core.Bool.{Bool, true, false, not, ◌&&◌, cond, true≢false}
+use mathlib.Core.Bool.{Bool, true, false, cond, true≢false}
 use mathlib.Core.Path.{◌≡◌, refl, sym, ap, ap₂, subst, ◌∙◌}
 use mathlib.Core.List.{List, [], ◌∷◌}
 use native.Mathlib.Omega.{arith}
@@ -12,7 +12,6 @@ use Rattle.record.specs.Layout.{record_length, stream_count}
 use Rattle.record.specs.Queues.{queues_at, HasMemory}
 use Rattle.record.specs.Head.{open_at}
 use Rattle.record.specs.Entry.{stream_at, drain_at, drains_at}
-use Rattle.record.proofs.QueueLaws.{queues_least}
 use Rattle.record.proofs.KeepLaws.{keeps_drain}
 use Rattle.record.proofs.DrainPairs.{drain_drain, stream_drain}
 use Rattle.record.proofs.BesideLaws.{Beside}
@@ -21,9 +20,9 @@ use Rattle.fitness.proofs.FitLaws.{fit_record, lent_fit, fit_lent}
 use Rattle.steps.specs.Call.{Call, opening, reserving, withdrawing, arriving, ticking, transmitting, joining_best_effort, binding, framing}
 use Rattle.steps.specs.Outcome.{Outcome, performed}
 use Rattle.steps.proofs.OutcomeLaws.{grants, let_through}
-use Rattle.opening.specs.Withdrawing.{withdrawn_record, withdraw_step}
+use Rattle.opening.specs.Withdrawing.{withdraw_step}
 use Rattle.ticking.specs.Ticking.{ticked_record, tick_step}
-use Rattle.gates.specs.Refusals.{reserve_refusal, withdraw_refusal, arrive_refusal, closed_refusal}
+use Rattle.gates.specs.Refusals.{reserve_refusal, withdraw_refusal, arrive_refusal}
 use Rattle.gates.specs.FrameRefusals.{bind_refusal}
 use Rattle.gates.specs.Table.{refusal_of, step_of}
 use Rattle.gates.proofs.GateLaws.{WithdrawAllowed, withdraw_allowed}
@@ -36,7 +35,7 @@ use Rattle.port_laws.proofs.BesideCalls.{call_beside}
 use Rattle.port_laws.proofs.DrainTick.{DrainsFor, Freed, beside_drains, tick_drains, tick_frees}
 use Rattle.guarantee.specs.Claims.{is_tick}
 use Rattle.guarantee.proofs.NextTick.{ticked_link}
-use Rattle.guarantee.specs.Draining.{lent_after, ticks_in, Taken, RefusedDraining, Free, Draining, DrainsExactly}
+use Rattle.guarantee.specs.Draining.{lent_after, ticks_in, Taken, RefusedDraining, Free, DrainsExactly}
 
 -- a call whose action is a tick is Tick
 is_ticking : (c : Call) → is_tick (action_of c) ≡ true → c ≡ ticking

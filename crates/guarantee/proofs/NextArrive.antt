@@ -31,7 +31,7 @@ use Rattle.record.proofs.KeepLaws.{keeps_both, keeps_queue, keeps_place}
 use Rattle.ranges.specs.Ranges.{greatest_share, charge_fits, share_of}
 use Rattle.ranges.proofs.RangeLaws.{within_bounds}
 use Rattle.fitness.proofs.FitLaws.{fit_record, fit_plan}
-use Rattle.steps.specs.Outcome.{outcome, refused}
+use Rattle.steps.specs.Outcome.{outcome}
 use Rattle.steps.specs.Roles.{role_at}
 use Rattle.steps.specs.Moves.{moved}
 use Rattle.steps.proofs.RoleLaws.{role_below, role_apart, role_same}

@@ -37,7 +37,7 @@ use Rattle.guarantee.specs.Demand3.{CallList, queues_in, events_in, LinkHolds, P
 use Rattle.guarantee.specs.Beyond.{SentByReply, RepliedAlone, AlikeWithdrawals}
 use Rattle.guarantee.specs.Withdrawal.{WithdrawalHolds}
 use Rattle.guarantee.proofs.Reservation.{free}
-use Rattle.guarantee.proofs.Run.{View, octets, quiet, Run}
+use Rattle.guarantee.proofs.Run.{View, quiet, Run}
 use Rattle.guarantee.proofs.Room.{Sound}
 use Rattle.guarantee.proofs.Purge.{no_purge}
 use Rattle.guarantee.proofs.Delay.{sent_by_reply, all_sent}

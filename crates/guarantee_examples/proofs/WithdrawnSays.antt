@@ -1,5 +1,5 @@
 -- What the theorems on lists say of the lists with a withdrawal. Assumes nothing.
-use Prim.Native.Nat.{ℕ, ◌-◌}
+use Prim.Native.Nat.{ℕ}
 use mathlib.Core.Path.{◌≡◌, refl, sym, ap, subst, ◌∙◌}
 use mathlib.Core.Logic.{◌⊎◌, inl, inr, ⊎_elim}
 use mathlib.Core.List.{List, [], ◌∷◌, ◌++◌}
@@ -19,7 +19,7 @@ use Rattle.guarantee.specs.Withdrawal.{RefusedAsDraining, NotGranted, RefusedAsF
 use Rattle.guarantee.specs.Instances.{replied, quiet_tick, withdrawal_of_5}
 use Rattle.guarantee.proofs.Theorem.{withdrawals}
 use Rattle.guarantee_examples.specs.Examples.{Happens}
-use Rattle.guarantee_examples.specs.LeftOpen.{transmitted, crowded_place, busy_last_arrival, third_frame, purges_none}
+use Rattle.guarantee_examples.specs.LeftOpen.{transmitted, busy_last_arrival, third_frame, purges_none}
 use Rattle.guarantee_examples.specs.AddUp.{replies_alone}
 use Rattle.guarantee_examples.specs.Withdrawn.{draining_reply, free_reply, handed_before, handed_third, handed_to_third, handed_to_fourth_tick, handed_grant, handed_last_arrival, handed_epochs, handed_to_last_tick, handed_after, handed_from_grant, handed_with, handed_frame, handed_last, withdrawn_opening, withdrawn_grant, leaving_to_first, leaving_second, leaving_to_second_tick, leaving_after, leaving_with, leaving_frame, leaving, left_alone_with, leaving_answers, tried_before, tried_while, tried_free, tried_reserved, tried_arrival, tried_after, tried_with}
 use Rattle.guarantee_examples.specs.WithdrawnShown.{WithdrawnSays}

@@ -8,7 +8,7 @@ use Rattle.record.specs.Entry.{with_drain}
 use Rattle.sending.specs.Sending.{nothing}
 use Rattle.ranges.specs.Ranges.{link_of}
 use Rattle.steps.specs.Outcome.{Outcome, outcome}
-use Rattle.steps.specs.Call.{terms, Call, opening, reserving, withdrawing, arriving, ticking, transmitting, joining_best_effort, binding, framing}
+use Rattle.steps.specs.Call.{terms, Call, opening, reserving, withdrawing, arriving, ticking, joining_best_effort, binding, framing}
 use Rattle.port.specs.Quick.{quickly_called}
 use Rattle.port_laws.specs.Counting.{Action, to_tick, to_transmit, to_reserve, to_withdraw, to_arrive, to_best_effort, to_frame, neither, action_of}
 use Rattle.guarantee.specs.Events.{Marked, reserved_sent, none, Event, action}

@@ -8,7 +8,7 @@ use native.Mathlib.Omega.{arith}
 use Rattle.stream.specs.declared.Stream.{Stream}
 use Rattle.stream.specs.Steps.{tick_of}
 use Rattle.record.specs.Layout.{Whole, stream_count}
-use Rattle.record.specs.Entry.{stream_at, drain_at, with_drain, bound_at, vid_at, address_at, dropped}
+use Rattle.record.specs.Entry.{stream_at, drain_at, bound_at, vid_at, address_at}
 use Rattle.record.proofs.EntryPairs.{stream_place}
 use Rattle.record.proofs.KeepLaws.{Keeps, keeps_place, keeps_drain}
 use Rattle.record.proofs.DropPairs.{stream_dropped, bound_dropped}

@@ -7,7 +7,6 @@ use mathlib.Core.List.{List}
 use native.Mathlib.Omega.{arith}
 use Rattle.lists.proofs.Order.{eq_or_not, le_or_lt}
 use Rattle.lists.proofs.TurnLaws.{both, all_to_at, all_to_all, sum_to_same, sum_to_change}
-use Rattle.stream.specs.declared.Stream.{Stream}
 use Rattle.record.specs.Layout.{stream_count}
 use Rattle.record.specs.Queues.{last_place_at, best_effort_at}
 use Rattle.record.specs.Head.{open_at}

@@ -1,10 +1,9 @@
 -- A fit record stays fit where a field of it is written with what is fit there. Assumes nothing.
-use Prim.Native.Nat.{ℕ, ◌+◌, ◌≤◌, ◌<◌}
+use Prim.Native.Nat.{ℕ, ◌+◌, ◌<◌}
 use mathlib.Core.Path.{◌≡◌, refl, sym, ap, ap₂, ◌∙◌}
 use mathlib.Core.Bool.{Bool, true, false, ◌&&◌, cond}
 use mathlib.Core.List.{List}
 use native.Mathlib.Omega.{arith}
-use lib.ListN.{length}
 use Rattle.lists.specs.Turns.{all_of}
 use Rattle.lists.proofs.TurnLaws.{both, all_to_same, sum_to_same, all_of_snoc}
 use Rattle.stream.specs.declared.Stream.{Stream}

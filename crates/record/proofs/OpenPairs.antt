@@ -1,19 +1,17 @@
 -- What the record reads after the writes of Open in the head: the mark of an open port, K, L, and a queue. A law is named after the reader and the
 -- writer. Assumes nothing.
-use Prim.Native.Nat.{ℕ, ◌+◌, ◌≤◌, ◌<◌}
-use mathlib.Core.Bool.{true, false}
+use Prim.Native.Nat.{ℕ}
+use mathlib.Core.Bool.{true}
 use mathlib.Core.Path.{◌≡◌, ap, ◌∙◌}
 use mathlib.Core.List.{List, [], ◌∷◌}
 use native.Mathlib.Omega.{arith}
 use lib.ListN.{length}
-use Rattle.lists.specs.Window.{put, get}
 use Rattle.lists.proofs.WindowLaws.{length_put, get_apart, get_put}
-use Rattle.octets.specs.Numbers.{two_of, two_octets, four_of}
+use Rattle.octets.specs.Numbers.{two_of, two_octets}
 use Rattle.octets.proofs.NumberLaws.{two_octets_lem}
 use Rattle.queue.specs.declared.Queue.{Queue}
-use Rattle.record.specs.Layout.{Whole, head_length, stream_count, open_offset, prior_offset, delay_offset, link_offset, waits_offset, queue_offset, queue_length, queue_room, entry_offset, bound_offset, stream_length}
-use Rattle.record.specs.Head.{octet_of, mark_of, open_at, with_open, prior_at, delay_at, with_delay, link_at, with_link, waits_at, queue_of, queue_octets, queue_at, with_queue}
-use Rattle.record.specs.Entry.{entry_stream, stream_at, bound_at, dropped}
+use Rattle.record.specs.Layout.{Whole, open_offset, prior_offset, delay_offset, link_offset, queue_offset}
+use Rattle.record.specs.Head.{octet_of, mark_of, open_at, with_open, prior_at, delay_at, with_delay, link_at, with_link, queue_octets, with_queue}
 
 -- after the port was marked open
 module _ (l : List ℕ) where

@@ -1,6 +1,6 @@
 -- The two parts of what the host lends for a port, the record and the register block: their lengths, and what is left of the slice when a part comes back.
 -- And what carries every call of both sorts: a refused one, and one that is made on the record and then noted in the block. Assumes nothing.
-use Prim.Native.Nat.{ℕ, ◌+◌, ◌-◌}
+use Prim.Native.Nat.{ℕ, ◌-◌}
 use mathlib.Core.Path.{◌≡◌, refl, sym, ap, ap₂, ◌∙◌}
 use mathlib.Core.Bool.{Bool, true, false, cond}
 use mathlib.Core.Logic.{⊎_elim}

@@ -2,7 +2,6 @@
 use Prim.Native.Nat.{ℕ, ◌-◌}
 use mathlib.Core.Path.{refl, ◌∙◌, ap, ap₂, sym}
 use native.Mathlib.Omega.{arith}
-use borrow.Author.Rules.{rules}
 use Rattle.queue.specs.declared.Frame.{Frame}
 use Rattle.record.specs.Queues.{last_place_at}
 use Rattle.record.specs.Entry.{stream_at}

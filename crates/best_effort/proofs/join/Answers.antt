@@ -2,7 +2,6 @@
 use Prim.Native.Nat.{ℕ, ◌+◌}
 use mathlib.Core.Path.{◌∙◌, ap, ap₂}
 use native.Mathlib.Omega.{arith}
-use borrow.Author.Rules.{rules}
 use Rattle.queue.specs.Ring.{joined_memory, joined_queue}
 use Rattle.queue.specs.declared.Queue.{Queue}
 use Rattle.record.specs.Head.{with_waits, queue_at, with_queue}

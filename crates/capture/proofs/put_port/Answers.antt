@@ -1,5 +1,4 @@
 -- `capture::put_port` meets its contract. A file of which nothing is refused has a good chain for each port, and a fresh record is fit. Assumes nothing.
-use borrow.Author.Rules.{rules}
 use Prim.Native.Nat.{◌+◌, ℕ}
 use mathlib.Core.Path.{◌∙◌, ◌≡◌, ap, ap₂, refl}
 use mathlib.Core.List.{List}

@@ -1,14 +1,12 @@
 -- `capture::put_ports` meets its contract. After each port the lines of the ports so far are written. Assumes nothing.
-use borrow.Author.Rules.{rules}
-use Prim.Native.Nat.{◌*◌, ◌-◌, ◌≤◌, ℕ}
+use Prim.Native.Nat.{ℕ}
 use mathlib.Core.Path.{◌∙◌, ◌≡◌, refl, subst}
 use native.Mathlib.Omega.{arith}
-use lib.ListN.{length}
 use native.Mathlib.Numerals.{add-one}
 use Rattle.capture_file.proofs.FileLaws.{file_passed, length_passed}
 use Rattle.capture_file.specs.File.{port_count}
 use Rattle.capture.specs.Events.{port_text}
-use Rattle.capture.specs.Output.{port_text_bound, ports_text}
+use Rattle.capture.specs.Output.{ports_text}
 use Rattle.text.proofs.LineLaws.{wrote_then}
 use Rattle.text.specs.Lines.{Wrote}
 use Rattle.capture.proofs.put_ports.Goals as goal

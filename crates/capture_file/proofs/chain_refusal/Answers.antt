@@ -1,10 +1,9 @@
 -- `capture_file::chain_refusal` meets its contract. The walk from the index on refuses what the whole chain does, and goes forward. Assumes nothing.
 use borrow.Author.Rules.{rules}
-use Prim.Native.Nat.{◌<◌, ℕ}
+use Prim.Native.Nat.{ℕ}
 use mathlib.Core.Path.{◌∙◌, ap, subst, sym}
-use Rattle.capture_file.proofs.ChainLaws.{Walk, ahead, ahead_falls, next_has, record_passed, walk_begins, walk_ends, walk_goes_on, walk_stops}
+use Rattle.capture_file.proofs.ChainLaws.{Walk, ahead_falls, next_has, record_passed, walk_begins, walk_ends, walk_goes_on, walk_stops}
 use Rattle.capture_file.specs.Checks.{refused_at}
-use Rattle.capture_file.specs.File.{record_count}
 use Rattle.capture_file.proofs.chain_refusal.Goals as goal
 
 pub loop-index-init : goal.loop-index-init

@@ -1,5 +1,4 @@
 -- `capture_file::fields_good` meets its contract. By the tests that lead to each return. Assumes nothing.
-use borrow.Author.Rules.{rules}
 use borrow.Author.Tests.{eq-eqb, ne_eqb}
 use Rattle.capture_file.proofs.fields_good.Goals as goal
 

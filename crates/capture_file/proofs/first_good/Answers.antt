@@ -1,5 +1,4 @@
 -- `capture_file::first_good` meets its contract. By the tests that lead to each return. Assumes nothing.
-use borrow.Author.Rules.{rules}
 use mathlib.Core.Path.{sym}
 use borrow.Author.Tests.{eq-eqb, ne_eqb}
 use Rattle.capture_file.specs.Checks.{first_good}

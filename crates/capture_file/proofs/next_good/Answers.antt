@@ -1,5 +1,4 @@
 -- `capture_file::next_good` meets its contract. By the tests that lead to each return. Assumes nothing.
-use borrow.Author.Rules.{rules}
 use mathlib.Core.Path.{sym}
 use native.Mathlib.Omega.{arith}
 use borrow.Author.Tests.{eq-eqb, le-ltb, lt-ltb, ne_eqb}

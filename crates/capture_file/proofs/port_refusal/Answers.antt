@@ -1,5 +1,4 @@
 -- `capture_file::port_refusal` meets its contract. A good first index is that of a record, where the walk of the chain begins. Assumes nothing.
-use borrow.Author.Rules.{rules}
 use mathlib.Core.Path.{◌∙◌, ap, sym}
 use native.Mathlib.Omega.{arith}
 use borrow.Author.Tests.{not-false, not-true}

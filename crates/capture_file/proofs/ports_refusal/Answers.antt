@@ -1,6 +1,5 @@
 -- `capture_file::ports_refusal` meets its contract. The ports from this one on refuse what all ports do. Assumes nothing.
-use borrow.Author.Rules.{rules}
-use Prim.Native.Nat.{◌+◌, ◌-◌, ◌≤◌, suc}
+use Prim.Native.Nat.{◌+◌, ◌-◌, suc}
 use mathlib.Core.Path.{◌∙◌, ◌≡◌, ap, refl, sym}
 use native.Mathlib.Omega.{arith}
 use Rattle.capture_file.proofs.FileLaws.{ports_go_on, ports_stop}

@@ -1,12 +1,8 @@
 -- `capture_file::ports_refusal` meets its contract. The ports from this one on refuse what all ports do. Assumes nothing.
-use borrow.Author.Rules.{rules}
-use Prim.Native.Nat.{◌+◌, ◌-◌, ◌≤◌, suc}
-use mathlib.Core.Path.{◌∙◌, ◌≡◌, ap, refl, sym}
-use native.Mathlib.Omega.{arith}
-use Rattle.capture_file.proofs.FileLaws.{ports_go_on, ports_stop}
+use Prim.Native.Nat.{◌-◌, ◌≤◌}
+use mathlib.Core.Path.{◌≡◌}
 use Rattle.capture_file.specs.Checks.{ports_refusal}
 use Rattle.capture_file.specs.File.{port_count}
-use Rattle.capture_file.specs.declared.FileRefusal.{FileRefusal}
 use Rattle.capture_file.proofs.ports_refusal.Given as goal
 
 abbrev pub invariant-loop-port : goal.invariant-loop-port

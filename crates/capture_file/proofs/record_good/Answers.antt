@@ -1,5 +1,4 @@
 -- `capture_file::record_good` meets its contract. By the fields as they stand in the file. Assumes nothing.
-use borrow.Author.Rules.{rules}
 use mathlib.Core.Path.{◌∙◌, ◌≡◌, sym}
 use borrow.Author.Tests.{not-false, not-true}
 use Rattle.capture_file.specs.Checks.{fields_good, record_good}

@@ -1,5 +1,4 @@
 -- `capture_file::refusal` meets its contract. By the tests that lead to each return. Assumes nothing.
-use borrow.Author.Rules.{rules}
 use mathlib.Core.Path.{◌∙◌, sym}
 use borrow.Author.Tests.{not-false, not-true}
 use Rattle.capture_file.proofs.FileLaws.{length_passed}

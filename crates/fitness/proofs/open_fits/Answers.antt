@@ -1,7 +1,6 @@
 -- `fitness::open_fits` meets its contract. By whether the port is open. Assumes nothing.
 use mathlib.Core.Bool.{true, false}
 use mathlib.Core.Path.{◌≡◌, ◌∙◌, sym}
-use borrow.Author.Rules.{rules}
 use Rattle.record.specs.Head.{open_at}
 use Rattle.fitness.proofs.open_fits.Goals as goal
 

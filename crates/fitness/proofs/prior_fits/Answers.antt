@@ -1,7 +1,6 @@
 -- `fitness::prior_fits` meets its contract. The two numbers that are read. Assumes nothing.
 use mathlib.Core.Path.{ap₂}
 use lib.Dec.{ltb}
-use borrow.Author.Rules.{rules}
 use Rattle.fitness.proofs.prior_fits.Goals as goal
 
 pub returns : goal.returns

@@ -3,7 +3,6 @@ use mathlib.Core.Bool.{true, false}
 use mathlib.Core.Path.{◌≡◌, ◌∙◌, sym}
 use lib.Dec.{leb}
 use lib.ListN.{length}
-use borrow.Author.Rules.{rules}
 use borrow.Author.Tests.{not-true, not-false, le-leb, lt-leb}
 use Rattle.record.specs.Layout.{record_length}
 use Rattle.fitness.specs.Clauses.{prior_fits, queues_fit, streams_fit, bindings_fit, frames_fit, waits_fit}

@@ -2,7 +2,6 @@
 use Prim.Native.Nat.{ℕ}
 use mathlib.Core.Path.{◌∙◌, ap, ap₂}
 use lib.Dec.{eqb}
-use borrow.Author.Rules.{rules}
 use Rattle.queue.specs.Waiting.{waiting, charges_of}
 use Rattle.queue.specs.declared.Queue.{Queue}
 use Rattle.record.specs.Head.{queue_at}

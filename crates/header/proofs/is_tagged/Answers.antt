@@ -3,7 +3,6 @@ use Prim.Native.Nat.{ℕ}
 use mathlib.Core.List.{List}
 use mathlib.Core.Path.{ap, ◌∙◌}
 use native.Mathlib.Omega.{arith}
-use borrow.Author.Rules.{rules}
 use Rattle.header.specs.Header.{vlan_tag, tagged_frame}
 use Rattle.lists.specs.Equal.{octets_equal}
 use Rattle.lists.proofs.EqualLaws.{same_is}

@@ -2,7 +2,6 @@
 use Prim.Native.Nat.{◌+◌, ◌*◌, ℕ}
 use mathlib.Core.Path.{◌∙◌, ap, ap₂, sym}
 use native.Mathlib.Omega.{arith}
-use borrow.Author.Rules.{rules}
 use Rattle.lists.proofs.WindowLaws.{get_get}
 use Rattle.octets.specs.Numbers.{two_of, four_of}
 use Rattle.octets.proofs.four_at.Goals as goal

@@ -2,7 +2,6 @@
 use Prim.Native.Nat.{◌+◌, ◌%◌, ℕ, ◌/◌}
 use mathlib.Core.List.{List}
 use mathlib.Core.Path.{◌∙◌, ap, sym}
-use borrow.Author.Rules.{rules}
 use Rattle.lists.proofs.WindowLaws.{put_append}
 use Rattle.lists.specs.Window.{put}
 use Rattle.octets.specs.Numbers.{two_octets}

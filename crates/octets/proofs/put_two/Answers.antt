@@ -1,7 +1,6 @@
 -- `octets::put_two` meets its contract. The two stores are the definition. Assumes nothing.
 use native.Mathlib.Omega.{arith}
 use lib.ListN.{length-set}
-use borrow.Author.Rules.{rules}
 use Rattle.octets.proofs.put_two.Goals as goal
 
 pub bounds-octets-low_at : goal.bounds-octets-low_at

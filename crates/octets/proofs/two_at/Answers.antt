@@ -1,5 +1,4 @@
 -- `octets::two_at` meets its contract. The definition, opened. Assumes nothing.
-use borrow.Author.Rules.{rules}
 use Rattle.octets.specs.Numbers.{two_of}
 use Rattle.octets.proofs.two_at.Goals as goal
 

@@ -1,10 +1,9 @@
 -- `opening::drop_streams` meets its contract. The loop's invariant: the record is what the turns done so far make of it. Assumes nothing.
-use Prim.Native.Nat.{◌≤◌, ◌-◌, ℕ}
+use Prim.Native.Nat.{ℕ}
 use mathlib.Core.List.{List}
 use mathlib.Core.Path.{◌≡◌, ◌∙◌, ap}
 use native.Mathlib.Numerals.{add-one}
 use native.Mathlib.Omega.{arith}
-use lib.ListN.{length}
 use borrow.Author.Rules.{rules}
 use Rattle.lists.specs.Turns.{iterate}
 use Rattle.record.specs.Entry.{dropped}

@@ -1,14 +1,9 @@
 -- `opening::empty_queues` meets its contract. The loop's invariant: the record is what the turns done so far make of it. Assumes nothing.
-use Prim.Native.Nat.{ℕ, ◌+◌, ◌-◌, ◌≤◌}
-use mathlib.Core.List.{List}
-use mathlib.Core.Path.{◌≡◌, ◌∙◌, ap₂}
-use native.Mathlib.Numerals.{add-one}
-use native.Mathlib.Omega.{arith}
+use Prim.Native.Nat.{◌+◌, ◌-◌, ◌≤◌}
+use mathlib.Core.Path.{◌≡◌}
 use lib.ListN.{length}
-use borrow.Author.Rules.{rules}
 use Rattle.lists.specs.Turns.{iterate}
 use Rattle.queue.specs.Ring.{empty_queue}
-use Rattle.queue.specs.declared.Queue.{Queue}
 use Rattle.record.specs.Head.{with_queue}
 use Rattle.opening.proofs.empty_queues.Given as goal
 

@@ -2,7 +2,6 @@
 use Prim.Native.Nat.{ℕ}
 use mathlib.Core.List.{List}
 use mathlib.Core.Path.{◌∙◌, ap}
-use borrow.Author.Rules.{rules}
 use Rattle.record.specs.Head.{with_prior, with_delay, with_link, with_waits}
 use Rattle.opening.proofs.open_head.Goals as goal
 

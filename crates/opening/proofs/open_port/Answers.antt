@@ -1,7 +1,6 @@
 -- `opening::open_port` meets its contract. Head, queues, streams one after the other. Assumes nothing.
 use Prim.Native.Nat.{ℕ}
 use mathlib.Core.Path.{◌∙◌, ap}
-use borrow.Author.Rules.{rules}
 use Rattle.stream.specs.Replies.{granted}
 use Rattle.opening.specs.Opening.{all_emptied, all_dropped, opened_record}
 use Rattle.opening.proofs.open_port.Goals as goal

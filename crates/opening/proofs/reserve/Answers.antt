@@ -1,7 +1,6 @@
 -- `opening::reserve` meets its contract. The share still free is that of the record written. Assumes nothing.
 use Prim.Native.Nat.{ℕ}
 use mathlib.Core.Path.{◌∙◌, ap}
-use borrow.Author.Rules.{rules}
 use Rattle.record.specs.Entry.{with_stream}
 use Rattle.stream.specs.Replies.{granted}
 use Rattle.opening.specs.Opening.{free_share}

@@ -1,6 +1,5 @@
 -- `opening::withdraw` meets its contract. The count is the number of the port's queues. Assumes nothing.
 use mathlib.Core.Path.{◌∙◌, ap}
-use borrow.Author.Rules.{rules}
 use Rattle.record.specs.Entry.{with_drain}
 use Rattle.opening.proofs.withdraw.Goals as goal
 

@@ -1,5 +1,5 @@
 -- `queue::charges` meets its contract. The loop's invariant: the sum is that of the frames passed, each at most 65,535. The measure is what is left of the count. Assumes nothing.
-use Prim.Native.Nat.{◌+◌, ◌-◌, ◌*◌, ◌≤◌}
+use Prim.Native.Nat.{◌+◌}
 use mathlib.Core.Path.{ap₂, ◌∙◌, ◌≡◌}
 use native.Mathlib.Numerals.{add-one}
 use native.Mathlib.Omega.{arith}

@@ -1,14 +1,9 @@
 -- `queue::charges` meets its contract. The loop's invariant: the sum is that of the frames passed, each at most 65,535. The measure is what is left of the count. Assumes nothing.
-use Prim.Native.Nat.{◌+◌, ◌-◌, ◌*◌, ◌≤◌}
-use mathlib.Core.Path.{ap₂, ◌∙◌, ◌≡◌}
-use native.Mathlib.Numerals.{add-one}
-use native.Mathlib.Omega.{arith}
-use borrow.Author.Rules.{rules}
-use Rattle.lists.proofs.TurnLaws.{sum_to_list}
+use Prim.Native.Nat.{◌-◌, ◌*◌, ◌≤◌}
+use mathlib.Core.Path.{◌≡◌}
 use Rattle.lists.specs.Turns.{sum_to}
 use Rattle.queue.specs.Place.{frame_at}
 use Rattle.queue.specs.Ring.{memory_offset}
-use Rattle.queue.specs.Waiting.{waiting}
 use Rattle.queue.proofs.charges.Given as goal
 
 abbrev pub invariant-loop-i : goal.invariant-loop-i

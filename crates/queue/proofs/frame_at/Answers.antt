@@ -1,7 +1,6 @@
 -- `queue::frame_at` meets its contract. The frame is where `part_start` and `offset` say. Assumes nothing.
 use Prim.Native.Nat.{◌+◌, ℕ}
 use mathlib.Core.Path.{◌∙◌, ap₂}
-use borrow.Author.Rules.{rules}
 use Rattle.queue.specs.Place.{frame_at}
 use Rattle.queue.proofs.frame_at.Goals as goal
 

@@ -1,5 +1,4 @@
 -- `queue::front_at` meets its contract. The oldest is frame number 0. Assumes nothing.
-use borrow.Author.Rules.{rules}
 use Rattle.queue.specs.Ring.{front_of}
 use Rattle.queue.proofs.front_at.Goals as goal
 

@@ -1,7 +1,6 @@
 -- `queue::join` meets its contract. The frame is written where `offset` says. Assumes nothing.
 use Prim.Native.Nat.{ℕ}
 use mathlib.Core.Path.{◌∙◌, ap}
-use borrow.Author.Rules.{rules}
 use Rattle.queue.specs.Place.{with_frame}
 use Rattle.queue.proofs.join.Goals as goal
 

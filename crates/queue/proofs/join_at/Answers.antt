@@ -2,7 +2,6 @@
 use Prim.Native.Nat.{◌-◌, ◌+◌, ℕ}
 use mathlib.Core.Path.{◌∙◌, ap}
 use native.Mathlib.Omega.{arith}
-use borrow.Author.Rules.{rules}
 use borrow.Rule.Slice.PartMut.{put_mid}
 use Rattle.queue.specs.Place.{with_frame}
 use Rattle.queue.specs.Ring.{part_length, ring_offset, joined_memory}

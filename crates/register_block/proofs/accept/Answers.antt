@@ -1,5 +1,5 @@
 -- `register_block::accept` meets its contract. By whether the number is a stream's. Assumes nothing.
-use Rattle.std.proofs.Common.{ap, ◌∙◌, rules, le-ltb, lt-ltb}
+use Rattle.std.proofs.Common.{ap, ◌∙◌, le-ltb, lt-ltb}
 use Rattle.register_block.specs.Events.{raised, accepted}
 use Rattle.register_block.proofs.accept.Goals as goal
 

@@ -1,7 +1,6 @@
 -- `register_block::chosen_accepted` meets its contract. By whether the choice is a stream's number. Assumes nothing.
 use Rattle.register_block.proofs.ChoiceLaws.{shown_stream, shown_none}
 use Rattle.register_block.specs.Layout.{accepted_octet}
-use Rattle.std.proofs.Common.{rules}
 use Rattle.register_block.proofs.chosen_accepted.Goals as goal
 
 pub returns-then-choice-lt-STREAMS : goal.returns-then-choice-lt-STREAMS

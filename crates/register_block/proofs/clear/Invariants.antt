@@ -1,6 +1,5 @@
 -- `register_block::clear` meets its contract. The loop's invariant: the block is what the turns done so far make of it. Assumes nothing.
-use Rattle.std.proofs.Common.{◌≡◌, ℕ, ◌-◌, ◌≤◌, List, [], ◌∷◌, length, ap, add-one, arith, length-set, rules}
-use Rattle.register_block.specs.Events.{zeroed}
+use Rattle.std.proofs.Common.{◌≡◌, ◌-◌, ◌≤◌, [], ◌∷◌, length}
 use Rattle.register_block.specs.Layout.{block_length}
 use Rattle.lists.specs.Turns.{iterate}
 use Rattle.lists.specs.Window.{put}

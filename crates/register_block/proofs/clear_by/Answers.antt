@@ -1,5 +1,5 @@
 -- `register_block::clear_by` meets its contract. By the test of its bit. Assumes nothing.
-use Rattle.std.proofs.Common.{◌∙◌, rules}
+use Rattle.std.proofs.Common.{◌∙◌}
 use Rattle.register_block.specs.Written.{cleared_by}
 use Rattle.register_block.proofs.TestLaws.{first_of, second_of_lem}
 use Rattle.register_block.proofs.clear_by.Goals as goal

@@ -1,5 +1,5 @@
 -- `register_block::clear_counts` meets its contract. One count, then the other. Assumes nothing.
-use Rattle.std.proofs.Common.{ℕ, List, ap, ◌∙◌, ap₂, rules}
+use Rattle.std.proofs.Common.{ℕ, List, ap, ◌∙◌, ap₂}
 use Rattle.register_block.specs.Fields.{with_word}
 use Rattle.register_block.proofs.clear_counts.Goals as goal
 

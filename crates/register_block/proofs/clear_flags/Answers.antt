@@ -1,5 +1,5 @@
 -- `register_block::clear_flags` meets its contract. Flag after flag. Assumes nothing.
-use Rattle.std.proofs.Common.{ap, ◌∙◌, rules}
+use Rattle.std.proofs.Common.{ap, ◌∙◌}
 use Rattle.register_block.specs.Fields.{bit1, bit2}
 use Rattle.register_block.specs.Written.{cleared_by}
 use Rattle.register_block.specs.Layout.{purge_flag, nothing_flag}

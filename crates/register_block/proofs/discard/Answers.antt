@@ -1,5 +1,5 @@
 -- `register_block::discard` meets its contract. The count, then the flag. Assumes nothing.
-use Rattle.std.proofs.Common.{ℕ, List, ap, ◌∙◌, rules}
+use Rattle.std.proofs.Common.{ℕ, List, ap, ◌∙◌}
 use Rattle.register_block.specs.Layout.{discard_flag}
 use Rattle.register_block.specs.Fields.{with_flag}
 use Rattle.register_block.specs.Events.{discarded}

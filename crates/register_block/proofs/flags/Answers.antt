@@ -1,5 +1,5 @@
 -- `register_block::flags` meets its contract. Bit after bit. Assumes nothing.
-use Rattle.std.proofs.Common.{◌+◌, Bool, cond, ap, ◌∙◌, ap₂, rules}
+use Rattle.std.proofs.Common.{◌+◌, Bool, cond, ap, ◌∙◌, ap₂}
 use Rattle.register_block.specs.Fields.{bit0, bit1, bit2}
 use Rattle.register_block.specs.Shown.{flags_of}
 use Rattle.register_block.proofs.flags.Goals as goal

@@ -1,5 +1,5 @@
 -- `register_block::line_up` meets its contract. Flag after flag. Assumes nothing.
-use Rattle.std.proofs.Common.{◌∙◌, rules}
+use Rattle.std.proofs.Common.{◌∙◌}
 use Rattle.register_block.specs.Shown.{line_up}
 use Rattle.register_block.proofs.TestLaws.{or_true, or_second}
 use Rattle.register_block.proofs.line_up.Goals as goal

@@ -1,5 +1,5 @@
 -- `register_block::raise` meets its contract. The word read, raised and written. Assumes nothing.
-use Rattle.std.proofs.Common.{ℕ, ◌+◌, ◌%◌, ◌^◌, ap, ◌∙◌, rules}
+use Rattle.std.proofs.Common.{ℕ, ◌+◌, ◌%◌, ◌^◌, ap, ◌∙◌}
 use Rattle.register_block.specs.Fields.{with_word}
 use Rattle.register_block.specs.Events.{raised}
 use Rattle.register_block.proofs.raise.Goals as goal

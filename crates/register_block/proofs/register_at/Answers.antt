@@ -1,5 +1,5 @@
 -- `register_block::register_at` meets its contract. Offset after offset. Assumes nothing.
-use Rattle.std.proofs.Common.{rules, eq-eqb, ne_eqb}
+use Rattle.std.proofs.Common.{eq-eqb, ne_eqb}
 use Rattle.register_block.specs.Shown.{register_at}
 use Rattle.register_block.proofs.register_at.Goals as goal
 

@@ -1,5 +1,5 @@
 -- `register_block::shares_one` meets its contract. By the flag, then the bit of the mask. Assumes nothing.
-use Rattle.std.proofs.Common.{ℕ, ap, ◌∙◌, rules}
+use Rattle.std.proofs.Common.{ℕ, ap, ◌∙◌}
 use Rattle.register_block.specs.Fields.{bit_of}
 use Rattle.register_block.specs.Shown.{shares_one}
 use Rattle.register_block.proofs.TestLaws.{and_second, and_false}

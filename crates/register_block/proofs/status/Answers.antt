@@ -1,5 +1,5 @@
 -- `register_block::status` meets its contract. By its two bits. Assumes nothing.
-use Rattle.std.proofs.Common.{◌+◌, Bool, cond, ap, ◌∙◌, ap₂, rules}
+use Rattle.std.proofs.Common.{◌+◌, Bool, cond, ap, ◌∙◌, ap₂}
 use Rattle.register_block.specs.Fields.{bit1}
 use Rattle.register_block.specs.Shown.{status_of}
 use Rattle.register_block.proofs.status.Goals as goal

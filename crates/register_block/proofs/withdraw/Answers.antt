@@ -1,5 +1,5 @@
 -- `register_block::withdraw` meets its contract. By whether the number is a stream's. Assumes nothing.
-use Rattle.std.proofs.Common.{rules, le-ltb, lt-ltb}
+use Rattle.std.proofs.Common.{le-ltb, lt-ltb}
 use Rattle.register_block.specs.Events.{withdrawn}
 use Rattle.register_block.proofs.withdraw.Goals as goal
 

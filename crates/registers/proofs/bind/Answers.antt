@@ -3,7 +3,6 @@ use native.Mathlib.Omega.{arith}
 use mathlib.Core.Path.{refl}
 use Rattle.registers.proofs.PartLaws.{whole_port, part_long, short, done}
 use Rattle.port.specs.Calls.{called}
-use borrow.Author.Rules.{rules}
 use Rattle.registers.proofs.bind.Goals as goal
 
 pub returns-then-refusal-ne0 : goal.returns-then-refusal-ne0

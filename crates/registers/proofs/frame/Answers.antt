@@ -9,7 +9,6 @@ use Rattle.port_laws.proofs.FrameLaws.{frame_becomes}
 use Rattle.registers.specs.Notes.{arrival_noted}
 use Rattle.registers.proofs.PartLaws.{whole_port, part_long, replaced_long, replaced_in, short, done}
 use Rattle.registers.proofs.FrameLaws.{frame_arrives, frame_joins, frame_outside}
-use borrow.Author.Rules.{rules}
 use Rattle.registers.proofs.frame.Goals as goal
 
 pub returns-then-refusal-ne0 : goal.returns-then-refusal-ne0

@@ -7,7 +7,6 @@ use mathlib.Core.Bool.{true, false}
 use Rattle.record.specs.Layout.{memory_length}
 use Rattle.record.specs.Queues.{queues_at}
 use lib.Dec.{ltb}
-use borrow.Author.Rules.{rules}
 use Rattle.registers.proofs.lengths.Goals as goal
 
 pub returns-then-port-ge-PORT_LENGTH : goal.returns-then-port-ge-PORT_LENGTH

@@ -4,7 +4,6 @@ use mathlib.Core.Path.{◌∙◌}
 use Rattle.port.specs.Calls.{called}
 use Rattle.registers.specs.Notes.{withdraw_noted}
 use Rattle.registers.proofs.PartLaws.{whole_port, part_long, replaced_long, replaced_in, short, done}
-use borrow.Author.Rules.{rules}
 use Rattle.registers.proofs.withdraw.Goals as goal
 
 pub returns-then-refusal-ne0 : goal.returns-then-refusal-ne0

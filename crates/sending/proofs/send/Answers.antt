@@ -1,6 +1,5 @@
 -- `sending::send` meets its contract. Reply and record, each by the callee's contract. Assumes nothing.
 use mathlib.Core.Path.{refl, ◌∙◌, ap}
-use borrow.Author.Rules.{rules}
 use Rattle.queue.specs.declared.Frame.{Frame}
 use Rattle.record.specs.Head.{with_queue}
 use Rattle.stream.specs.Replies.{granted}

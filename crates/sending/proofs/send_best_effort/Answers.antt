@@ -1,7 +1,6 @@
 -- `sending::send_best_effort` meets its contract. Reply and record, each by the callee's contract. Assumes nothing.
 use Prim.Native.Nat.{◌-◌}
 use mathlib.Core.Path.{refl, ◌∙◌, ap, ap₂}
-use borrow.Author.Rules.{rules}
 use Rattle.queue.specs.declared.Frame.{Frame}
 use Rattle.record.specs.Head.{with_waits, with_queue}
 use Rattle.stream.specs.Replies.{granted}

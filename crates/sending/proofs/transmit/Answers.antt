@@ -1,6 +1,5 @@
 -- `sending::transmit` meets its contract. By which queue has a frame. Assumes nothing.
 use mathlib.Core.Path.{refl, ◌∙◌, ap, sym}
-use borrow.Author.Rules.{rules}
 use Rattle.record.specs.Head.{queue_at}
 use Rattle.record.specs.Queues.{best_effort_at}
 use Rattle.steps.specs.Roles.{role_at, prior_role, current_role}

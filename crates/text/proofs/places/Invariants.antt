@@ -1,10 +1,8 @@
 -- `text::places` meets its contract. Each turn leaves a tenth of the number, and counts one digit more. Assumes nothing.
-use native.Mathlib.Omega.{arith}
 use lib.ListN.{length}
 use Prim.Native.Nat.{◌≤◌, ◌+◌}
 use mathlib.Core.Path.{◌≡◌}
 use Rattle.text.specs.Digits.{digits}
-use Rattle.text.proofs.DigitLaws.{length_one, length_more}
 use Rattle.text.proofs.places.Given as goal
 
 abbrev pub invariant-loop-rest : goal.invariant-loop-rest

@@ -1,14 +1,9 @@
 -- `text::put_digits` meets its contract. What is written with the digits of what is left is the digits of the number. Assumes nothing.
-use borrow.Author.Rules.{rules}
-use Prim.Native.Nat.{◌%◌, ◌+◌, ◌-◌, ◌/◌, ◌<◌, ◌≤◌, ℕ}
-use mathlib.Core.Path.{◌∙◌, ◌≡◌, ap, refl, sym}
-use mathlib.Core.List.{List}
-use native.Mathlib.Omega.{arith}
-use lib.ListN.{length, length-set, set}
-use Rattle.lists.proofs.WindowLaws.{put_last}
+use Prim.Native.Nat.{◌+◌, ◌≤◌}
+use mathlib.Core.Path.{◌≡◌}
+use lib.ListN.{length}
 use Rattle.lists.specs.Window.{put}
-use Rattle.text.proofs.DigitLaws.{digits_more, digits_one, length_more, length_one}
-use Rattle.text.specs.Digits.{digit, digits}
+use Rattle.text.specs.Digits.{digits}
 use Rattle.text.proofs.put_digits.Given as goal
 
 abbrev pub invariant-loop-rest : goal.invariant-loop-rest

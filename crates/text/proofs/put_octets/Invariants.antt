@@ -1,11 +1,7 @@
 -- `text::put_octets` meets its contract. What is written with the octets that are left is all octets. Assumes nothing.
-use borrow.Author.Rules.{rules}
-use Prim.Native.Nat.{◌+◌, ◌-◌, ◌<◌, ◌≤◌, suc, ℕ}
-use mathlib.Core.Path.{◌∙◌, ◌≡◌, ap, ap₂, refl, sym}
-use mathlib.Core.List.{List}
-use native.Mathlib.Omega.{arith}
-use lib.ListN.{drop_of_length-le, drop, get_or, length, length-set, set}
-use lib.Seq.{drop-cons}
+use Prim.Native.Nat.{◌+◌, ◌-◌, ◌≤◌}
+use mathlib.Core.Path.{◌≡◌}
+use lib.ListN.{drop, length}
 use Rattle.lists.specs.Window.{put}
 use Rattle.text.proofs.put_octets.Given as goal
 

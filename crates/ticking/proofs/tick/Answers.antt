@@ -1,7 +1,6 @@
 -- `ticking::tick` meets its contract. What is purged is what prior was before. Assumes nothing.
 use Prim.Native.Nat.{ℕ}
 use mathlib.Core.Path.{refl, ◌∙◌, ap, ap₂}
-use borrow.Author.Rules.{rules}
 use Rattle.queue.specs.Waiting.{waiting, charges_of}
 use Rattle.queue.specs.declared.Queue.{Queue}
 use Rattle.record.specs.Head.{queue_at}

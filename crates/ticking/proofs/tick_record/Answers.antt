@@ -2,7 +2,6 @@
 use Prim.Native.Nat.{ℕ}
 use mathlib.Core.List.{List}
 use mathlib.Core.Path.{◌∙◌, ap}
-use borrow.Author.Rules.{rules}
 use Rattle.record.specs.Head.{with_prior, with_queue}
 use Rattle.ticking.specs.Ticking.{streams_ticked}
 use Rattle.ticking.proofs.tick_record.Goals as goal

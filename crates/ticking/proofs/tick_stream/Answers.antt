@@ -1,7 +1,6 @@
 -- `ticking::tick_stream` meets its contract. By whether the stream is reserved. Assumes nothing.
 use mathlib.Core.Bool.{true, false}
 use mathlib.Core.Path.{◌≡◌, ◌∙◌, ap, sym}
-use borrow.Author.Rules.{rules}
 use borrow.Author.Tests.{not-true, not-false}
 use Rattle.record.specs.Entry.{stream_at}
 use Rattle.stream.specs.Steps.{tick_of}

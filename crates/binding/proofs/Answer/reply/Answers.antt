@@ -1,6 +1,5 @@
 -- `binding::Answer::reply` meets its contract. By what was found. Assumes nothing.
 use mathlib.Core.Path.{sym, ap, ◌∙◌}
-use borrow.Author.Rules.{rules}
 use Rattle.stream.specs.Replies.{granted}
 use Rattle.binding.specs.declared.Lookup.{Lookup}
 use Rattle.binding.specs.Finding.{stream_found}

@@ -1,13 +1,11 @@
 -- `binding::finding::compare_back` meets its contract. What is compared is among the octets not yet passed. Assumes nothing.
-use Prim.Native.Nat.{ℕ, suc, ◌+◌, ◌-◌, ◌≤◌}
+use Prim.Native.Nat.{ℕ, suc, ◌-◌}
 use mathlib.Core.Path.{◌≡◌, refl, sym, ap, ◌∙◌}
 use mathlib.Core.Bool.{true, false}
 use lib.Dec.{eqb}
 use lib.ListN.{get_or}
 use native.Mathlib.Omega.{arith}
-use borrow.Author.Rules.{rules}
 use borrow.Author.Tests.{eq-eqb, ne_eqb}
-use Rattle.record.specs.Layout.{address_length}
 use Rattle.record.specs.Entry.{address_at}
 use Rattle.binding.specs.Finding.{compared_back}
 use Rattle.binding.proofs.FindingLaws.{back_equal, back_differs}

@@ -1,16 +1,9 @@
 -- `binding::finding::compare_back` meets its contract. What is compared is among the octets not yet passed. Assumes nothing.
-use Prim.Native.Nat.{ℕ, suc, ◌+◌, ◌-◌, ◌≤◌}
-use mathlib.Core.Path.{◌≡◌, refl, sym, ap, ◌∙◌}
-use mathlib.Core.Bool.{true, false}
-use lib.Dec.{eqb}
-use lib.ListN.{get_or}
-use native.Mathlib.Omega.{arith}
-use borrow.Author.Rules.{rules}
-use borrow.Author.Tests.{eq-eqb, ne_eqb}
+use Prim.Native.Nat.{◌+◌, ◌≤◌}
+use mathlib.Core.Path.{◌≡◌}
 use Rattle.record.specs.Layout.{address_length}
 use Rattle.record.specs.Entry.{address_at}
 use Rattle.binding.specs.Finding.{compared_back}
-use Rattle.binding.proofs.FindingLaws.{back_equal, back_differs}
 use Rattle.binding.proofs.finding.compare_back.Given as goal
 
 abbrev pub invariant-loop-rest : goal.invariant-loop-rest

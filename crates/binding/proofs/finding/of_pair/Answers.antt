@@ -1,13 +1,9 @@
 -- `binding::finding::of_pair` meets its contract. What is looked for is among the streams not yet passed over. Assumes nothing.
-use Prim.Native.Nat.{ℕ, ◌+◌, ◌-◌, ◌*◌, ◌≤◌}
-use mathlib.Core.Bool.{Bool, true, false}
-use mathlib.Core.Path.{◌≡◌, refl, sym, ap, subst, ◌∙◌}
+use Prim.Native.Nat.{ℕ, ◌-◌}
+use mathlib.Core.Path.{◌≡◌, refl, sym, ap, ◌∙◌}
 use native.Mathlib.Omega.{arith}
-use borrow.Author.Rules.{rules}
-use Rattle.record.specs.Layout.{stream_count, address_length}
-use Rattle.binding.specs.declared.Lookup.TheVariants.{Bound}
-use Rattle.binding.specs.declared.Comparison.{Comparison}
-use Rattle.binding.specs.Finding.{compared_at, lookup_from, lookup}
+use Rattle.record.specs.Layout.{stream_count}
+use Rattle.binding.specs.Finding.{lookup_from, lookup}
 use Rattle.binding.proofs.FindingLaws.{at_most, found_here, passed_over}
 use Rattle.binding.proofs.finding.of_pair.Goals as goal
 

@@ -1,5 +1,4 @@
 -- `capture::events::call` meets its contract. By the kind that leads to each return. Assumes nothing.
-use borrow.Author.Rules.{rules}
 use mathlib.Core.Path.{◌∙◌, ◌≡◌, ap, sym}
 use borrow.Author.Tests.{eq-eqb, ne_eqb}
 use Rattle.capture.specs.Events.{call_of}

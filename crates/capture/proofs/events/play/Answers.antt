@@ -1,5 +1,4 @@
 -- `capture::events::play` meets its contract. By the fields as they stand in the file. Assumes nothing.
-use borrow.Author.Rules.{rules}
 use mathlib.Core.Path.{◌∙◌, ◌≡◌, ap, refl}
 use Rattle.capture.specs.Events.{call_at, call_of}
 use Rattle.steps.specs.Call.{Call}

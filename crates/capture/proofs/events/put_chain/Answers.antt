@@ -1,8 +1,7 @@
 -- `capture::events::put_chain` meets its contract. What is written with the lines still to come is the lines of the chain. Assumes nothing.
-use Prim.Native.Nat.{◌-◌, ℕ}
+use Prim.Native.Nat.{ℕ}
 use mathlib.Core.Path.{subst}
 use native.Mathlib.Omega.{arith}
-use Rattle.capture_file.specs.File.{record_count}
 use Rattle.capture.proofs.PlayLaws.{Came, begins, finishes, goes_on, in_turn_lem}
 use Rattle.capture.proofs.events.put_chain.Goals as goal
 

@@ -1,5 +1,4 @@
 -- `capture::events::put_event` meets its contract. The reply is the quick call's, and so are the record and the memory. Assumes nothing.
-use borrow.Author.Rules.{rules}
 use Prim.Native.Nat.{◌+◌, ℕ}
 use mathlib.Core.Path.{◌∙◌, ap, ap₂}
 use mathlib.Core.List.{List}

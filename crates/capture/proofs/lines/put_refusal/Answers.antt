@@ -1,5 +1,4 @@
 -- `capture::lines::put_refusal` meets its contract. The word, then the line of two numbers. Assumes nothing.
-use borrow.Author.Rules.{rules}
 use mathlib.Core.List.{[], ◌∷◌}
 use native.Mathlib.Omega.{arith}
 use Rattle.capture.proofs.LineLaws.{length_refusal_lem}

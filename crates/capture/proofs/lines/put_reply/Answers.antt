@@ -1,5 +1,4 @@
 -- `capture::lines::put_reply` meets its contract. The line of six numbers, which is at most so long. Assumes nothing.
-use borrow.Author.Rules.{rules}
 use native.Mathlib.Omega.{arith}
 use Rattle.capture.proofs.LineLaws.{length_event}
 use Rattle.capture.specs.Events.{event_line}

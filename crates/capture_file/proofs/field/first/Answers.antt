@@ -1,5 +1,4 @@
 -- `capture_file::field::first` meets its contract. A number by its octets. Assumes nothing.
-use borrow.Author.Rules.{rules}
 use Rattle.capture_file.specs.File.{first_of}
 use Rattle.capture_file.proofs.field.first.Goals as goal
 

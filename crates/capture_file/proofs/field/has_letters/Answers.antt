@@ -1,5 +1,4 @@
 -- `capture_file::field::has_letters` meets its contract. The part of the file that is compared is its first four octets. Assumes nothing.
-use borrow.Author.Rules.{rules}
 use Prim.Native.Nat.{ℕ}
 use mathlib.Core.Path.{◌∙◌, ap}
 use mathlib.Core.List.{List}

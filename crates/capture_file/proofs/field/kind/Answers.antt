@@ -1,5 +1,4 @@
 -- `capture_file::field::kind` meets its contract. One octet. Assumes nothing.
-use borrow.Author.Rules.{rules}
 use Prim.Native.Nat.{ℕ}
 use mathlib.Core.Path.{ap}
 use lib.ListN.{get_or}

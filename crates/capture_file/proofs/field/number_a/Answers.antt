@@ -1,5 +1,4 @@
 -- `capture_file::field::number_a` meets its contract. A number by its octets. Assumes nothing.
-use borrow.Author.Rules.{rules}
 use Prim.Native.Nat.{◌+◌, ℕ}
 use mathlib.Core.Path.{◌∙◌, ap}
 use Rattle.capture_file.specs.File.{number_a}

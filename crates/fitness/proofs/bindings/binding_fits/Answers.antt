@@ -4,7 +4,6 @@ use mathlib.Core.Bool.{true, false, not}
 use mathlib.Core.Path.{◌≡◌, ◌∙◌, ap, sym}
 use lib.Dec.{eqb}
 use lib.ListN.{get_or}
-use borrow.Author.Rules.{rules}
 use borrow.Author.Tests.{not-true, not-false}
 use Rattle.lists.specs.Turns.{all_to}
 use Rattle.record.specs.Entry.{stream_at, bound_at, vid_at}

@@ -1,12 +1,9 @@
 -- `fitness::bindings::unlike` meets its contract. The loop's invariant: what the turns done so far answer. Assumes nothing.
 use Prim.Native.Nat.{◌≤◌, ◌-◌}
-use mathlib.Core.Bool.{Bool, not, ◌&&◌}
-use mathlib.Core.Path.{◌≡◌, ◌∙◌, ap}
-use native.Mathlib.Numerals.{add-one}
-use native.Mathlib.Omega.{arith}
+use mathlib.Core.Bool.{not}
+use mathlib.Core.Path.{◌≡◌}
 use lib.Dec.{eqb}
 use lib.ListN.{get_or}
-use borrow.Author.Rules.{rules}
 use Rattle.lists.specs.Turns.{all_to}
 use Rattle.fitness.proofs.bindings.unlike.Given as goal
 

@@ -1,5 +1,5 @@
 -- `fitness::frames::fit` meets its contract. The loop's invariant: what the turns done so far answer. Assumes nothing.
-use Prim.Native.Nat.{ℕ, ◌+◌, ◌-◌, ◌≤◌}
+use Prim.Native.Nat.{◌+◌}
 use mathlib.Core.Bool.{◌&&◌}
 use mathlib.Core.Path.{◌≡◌, ◌∙◌, ap, ap₂}
 use native.Mathlib.Numerals.{add-one}
@@ -8,7 +8,6 @@ use borrow.Author.Rules.{rules}
 use Rattle.lists.specs.Turns.{all_to, all_of}
 use Rattle.queue.specs.Waiting.{waiting}
 use Rattle.queue.specs.declared.Queue.{Queue}
-use Rattle.record.specs.Head.{queue_at}
 use Rattle.fitness.specs.Clauses.{frame_fits}
 use Rattle.fitness.proofs.frames.fit.Goals as goal
 

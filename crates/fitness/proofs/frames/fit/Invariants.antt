@@ -1,13 +1,8 @@
 -- `fitness::frames::fit` meets its contract. The loop's invariant: what the turns done so far answer. Assumes nothing.
-use Prim.Native.Nat.{ℕ, ◌+◌, ◌-◌, ◌≤◌}
-use mathlib.Core.Bool.{◌&&◌}
-use mathlib.Core.Path.{◌≡◌, ◌∙◌, ap, ap₂}
-use native.Mathlib.Numerals.{add-one}
-use native.Mathlib.Omega.{arith}
-use borrow.Author.Rules.{rules}
+use Prim.Native.Nat.{◌+◌, ◌-◌, ◌≤◌}
+use mathlib.Core.Path.{◌≡◌}
 use Rattle.lists.specs.Turns.{all_to, all_of}
 use Rattle.queue.specs.Waiting.{waiting}
-use Rattle.queue.specs.declared.Queue.{Queue}
 use Rattle.record.specs.Head.{queue_at}
 use Rattle.fitness.specs.Clauses.{frame_fits}
 use Rattle.fitness.proofs.frames.fit.Given as goal

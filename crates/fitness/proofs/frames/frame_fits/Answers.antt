@@ -1,7 +1,6 @@
 -- `fitness::frames::frame_fits` meets its contract. Both tests. Assumes nothing.
 use mathlib.Core.Bool.{◌&&◌}
 use mathlib.Core.Path.{◌∙◌, ap₂}
-use borrow.Author.Rules.{rules}
 use Rattle.fitness.proofs.frames.frame_fits.Goals as goal
 
 -- `fitness::frames::frame_fits` meets its contract. Both tests. Assumes nothing.

@@ -1,5 +1,4 @@
 -- `fitness::frames::queue_fits` meets its contract. The loop's invariant: what the turns done so far answer; a test by turns is the test of the list. Assumes nothing.
-use Prim.Native.Nat.{◌≤◌, ◌-◌}
 use mathlib.Core.Bool.{◌&&◌}
 use mathlib.Core.Path.{◌≡◌, ◌∙◌, ap, ap₂}
 use native.Mathlib.Numerals.{add-one}

@@ -1,15 +1,9 @@
 -- `fitness::frames::queue_fits` meets its contract. The loop's invariant: what the turns done so far answer; a test by turns is the test of the list. Assumes nothing.
 use Prim.Native.Nat.{◌≤◌, ◌-◌}
-use mathlib.Core.Bool.{◌&&◌}
-use mathlib.Core.Path.{◌≡◌, ◌∙◌, ap, ap₂}
-use native.Mathlib.Numerals.{add-one}
-use native.Mathlib.Omega.{arith}
-use borrow.Author.Rules.{rules}
-use Rattle.lists.proofs.TurnLaws.{all_to_list}
+use mathlib.Core.Path.{◌≡◌}
 use Rattle.lists.specs.Turns.{all_to}
 use Rattle.queue.specs.Place.{frame_at}
 use Rattle.queue.specs.Ring.{memory_offset}
-use Rattle.queue.specs.Waiting.{waiting}
 use Rattle.fitness.specs.Clauses.{frame_fits}
 use Rattle.fitness.proofs.frames.queue_fits.Given as goal
 

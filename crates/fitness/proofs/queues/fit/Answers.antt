@@ -1,12 +1,11 @@
 -- `fitness::queues::fit` meets its contract. The loop's invariant: what the turns done so far answer. Assumes nothing.
-use Prim.Native.Nat.{ℕ, ◌+◌, ◌-◌, ◌≤◌}
+use Prim.Native.Nat.{◌+◌}
 use mathlib.Core.Bool.{◌&&◌}
 use mathlib.Core.Path.{◌≡◌, ◌∙◌, ap, ap₂}
 use native.Mathlib.Numerals.{add-one}
 use native.Mathlib.Omega.{arith}
 use borrow.Author.Rules.{rules}
 use Rattle.lists.specs.Turns.{all_to}
-use Rattle.record.specs.Head.{queue_at}
 use Rattle.fitness.specs.Clauses.{queue_fits}
 use Rattle.fitness.proofs.queues.fit.Goals as goal
 

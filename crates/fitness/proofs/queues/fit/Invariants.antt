@@ -1,10 +1,6 @@
 -- `fitness::queues::fit` meets its contract. The loop's invariant: what the turns done so far answer. Assumes nothing.
-use Prim.Native.Nat.{ℕ, ◌+◌, ◌-◌, ◌≤◌}
-use mathlib.Core.Bool.{◌&&◌}
-use mathlib.Core.Path.{◌≡◌, ◌∙◌, ap, ap₂}
-use native.Mathlib.Numerals.{add-one}
-use native.Mathlib.Omega.{arith}
-use borrow.Author.Rules.{rules}
+use Prim.Native.Nat.{◌+◌, ◌-◌, ◌≤◌}
+use mathlib.Core.Path.{◌≡◌}
 use Rattle.lists.specs.Turns.{all_to}
 use Rattle.record.specs.Head.{queue_at}
 use Rattle.fitness.specs.Clauses.{queue_fits}

@@ -1,12 +1,10 @@
 -- `fitness::streams::fit` meets its contract. The loop's invariant: what the turns done so far answer. Assumes nothing.
-use Prim.Native.Nat.{◌≤◌, ◌-◌}
 use mathlib.Core.Bool.{◌&&◌}
-use mathlib.Core.Path.{◌≡◌, ◌∙◌, ap, ap₂}
+use mathlib.Core.Path.{◌≡◌, ◌∙◌, ap₂}
 use native.Mathlib.Numerals.{add-one}
 use native.Mathlib.Omega.{arith}
 use borrow.Author.Rules.{rules}
 use Rattle.lists.specs.Turns.{all_to}
-use Rattle.record.specs.Entry.{stream_at, drain_at}
 use Rattle.record.specs.Layout.{stream_count}
 use Rattle.fitness.specs.Clauses.{stream_fits}
 use Rattle.fitness.proofs.streams.fit.Goals as goal

@@ -1,11 +1,10 @@
 -- `fitness::streams::permitted_sum` meets its contract. The loop's invariant: the sum is that of the streams passed, each at most 65,535. Assumes nothing.
-use Prim.Native.Nat.{◌≤◌, ◌-◌, ◌+◌, ◌*◌}
+use Prim.Native.Nat.{◌+◌}
 use mathlib.Core.Path.{◌≡◌, ◌∙◌, ap, ap₂}
 use native.Mathlib.Numerals.{add-one}
 use native.Mathlib.Omega.{arith}
 use borrow.Author.Rules.{rules}
 use Rattle.lists.specs.Turns.{sum_to}
-use Rattle.record.specs.Entry.{stream_at}
 use Rattle.record.specs.Layout.{stream_count}
 use Rattle.record.specs.Reservations.{permitted_of}
 use Rattle.fitness.proofs.streams.permitted_sum.Goals as goal

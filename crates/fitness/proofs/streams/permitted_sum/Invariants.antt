@@ -1,9 +1,6 @@
 -- `fitness::streams::permitted_sum` meets its contract. The loop's invariant: the sum is that of the streams passed, each at most 65,535. Assumes nothing.
-use Prim.Native.Nat.{◌≤◌, ◌-◌, ◌+◌, ◌*◌}
-use mathlib.Core.Path.{◌≡◌, ◌∙◌, ap, ap₂}
-use native.Mathlib.Numerals.{add-one}
-use native.Mathlib.Omega.{arith}
-use borrow.Author.Rules.{rules}
+use Prim.Native.Nat.{◌≤◌, ◌-◌, ◌*◌}
+use mathlib.Core.Path.{◌≡◌}
 use Rattle.lists.specs.Turns.{sum_to}
 use Rattle.record.specs.Entry.{stream_at}
 use Rattle.record.specs.Layout.{stream_count}

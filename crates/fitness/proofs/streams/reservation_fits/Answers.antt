@@ -1,7 +1,6 @@
 -- `fitness::streams::reservation_fits` meets its contract. By whether the stream is reserved. Assumes nothing.
 use mathlib.Core.Bool.{Bool, true, cond}
 use mathlib.Core.Path.{◌∙◌, ap, sym}
-use borrow.Author.Rules.{rules}
 use Rattle.ranges.specs.Ranges.{permitted_fits}
 use Rattle.fitness.proofs.streams.reservation_fits.Goals as goal
 

@@ -1,6 +1,5 @@
 -- `gates::refusals::best_effort` meets its contract. Test after test. Assumes nothing.
 use native.Mathlib.Omega.{arith}
-use borrow.Author.Rules.{rules}
 use Rattle.gates.specs.Refusals.{best_effort_refusal}
 use Rattle.gates.proofs.TestLaws.{tests}
 use Rattle.gates.proofs.refusals.best_effort.Goals as goal

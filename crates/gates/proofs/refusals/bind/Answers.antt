@@ -1,6 +1,5 @@
 -- `gates::refusals::bind` meets its contract. Test after test. Assumes nothing.
 use mathlib.Core.Path.{refl}
-use borrow.Author.Rules.{rules}
 use Rattle.gates.specs.FrameRefusals.{bind_refusal}
 use Rattle.gates.proofs.TestLaws.{at_found, past_is, past_is_not, past_unreserved, past_least, past_found, tests}
 use Rattle.gates.proofs.refusals.bind.Goals as goal

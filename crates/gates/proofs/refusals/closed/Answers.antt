@@ -1,5 +1,4 @@
 -- `gates::refusals::closed` meets its contract. Test after test. Assumes nothing.
-use borrow.Author.Rules.{rules}
 use Rattle.gates.specs.Refusals.{closed_refusal}
 use Rattle.gates.proofs.TestLaws.{tests}
 use Rattle.gates.proofs.refusals.closed.Goals as goal

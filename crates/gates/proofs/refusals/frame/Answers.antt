@@ -1,5 +1,4 @@
 -- `gates::refusals::frame` meets its contract. Test after test. Assumes nothing.
-use borrow.Author.Rules.{rules}
 use Rattle.gates.specs.FrameRefusals.{frame_refusal}
 use Rattle.gates.proofs.TestLaws.{tests}
 use Rattle.gates.proofs.refusals.frame.Goals as goal

@@ -1,5 +1,4 @@
 -- `gates::refusals::open_port` meets its contract. Test after test. Assumes nothing.
-use borrow.Author.Rules.{rules}
 use Rattle.gates.specs.Refusals.{open_refusal}
 use Rattle.gates.proofs.TestLaws.{tests}
 use Rattle.gates.proofs.refusals.open_port.Goals as goal

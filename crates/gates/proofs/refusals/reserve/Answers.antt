@@ -1,6 +1,5 @@
 -- `gates::refusals::reserve` meets its contract. Test after test. Assumes nothing.
 use native.Mathlib.Omega.{arith}
-use borrow.Author.Rules.{rules}
 use Rattle.gates.specs.Refusals.{reserve_refusal}
 use Rattle.gates.proofs.TestLaws.{tests}
 use Rattle.gates.proofs.refusals.reserve.Goals as goal

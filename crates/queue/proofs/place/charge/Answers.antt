@@ -1,6 +1,5 @@
 -- `queue::place::charge` meets its contract. The charge's octets of the frame. Assumes nothing.
 use mathlib.Core.Path.{◌∙◌, sym}
-use borrow.Author.Rules.{rules}
 use Rattle.queue.proofs.PlaceLaws.{charge_at}
 use Rattle.queue.proofs.place.charge.Goals as goal
 

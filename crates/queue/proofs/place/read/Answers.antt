@@ -1,6 +1,5 @@
 -- `queue::place::read` meets its contract. Field by field. Assumes nothing.
 use mathlib.Core.Path.{◌∙◌, sym}
-use borrow.Author.Rules.{rules}
 use Rattle.queue.specs.Place.{frame_at}
 use Rattle.queue.proofs.PlaceLaws.{stream_at_lem, tag_at, same_fields}
 use Rattle.queue.proofs.place.read.Goals as goal

@@ -2,7 +2,6 @@
 use Prim.Native.Nat.{◌+◌, ℕ}
 use mathlib.Core.List.{List}
 use mathlib.Core.Path.{◌∙◌, ap}
-use borrow.Author.Rules.{rules}
 use Rattle.lists.specs.Window.{put}
 use Rattle.octets.specs.Numbers.{two_octets, four_octets}
 use Rattle.queue.specs.Place.{charge_offset, tag_offset}

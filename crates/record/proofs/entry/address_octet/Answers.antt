@@ -3,7 +3,6 @@ use Prim.Native.Nat.{◌+◌, ℕ}
 use mathlib.Core.Path.{sym, ap, ◌∙◌}
 use lib.ListN.{get_or}
 use native.Mathlib.Omega.{arith}
-use borrow.Author.Rules.{rules}
 use Rattle.lists.proofs.WindowLaws.{get_or_get}
 use Rattle.record.specs.Entry.{address_at}
 use Rattle.record.specs.Layout.{entry_offset, address_offset, address_length}

@@ -2,7 +2,6 @@
 use Prim.Native.Nat.{◌+◌, ℕ}
 use mathlib.Core.Path.{ap}
 use lib.ListN.{get_or}
-use borrow.Author.Rules.{rules}
 use Rattle.record.specs.Entry.{drain_at}
 use Rattle.record.specs.Layout.{drain_offset}
 use Rattle.record.proofs.entry.drain.Goals as goal

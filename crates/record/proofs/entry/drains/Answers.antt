@@ -1,9 +1,8 @@
 -- `record::entry::drains` meets its contract. The mark of the reservation, then the draining count. Assumes nothing.
 use Prim.Native.Nat.{ℕ}
 use mathlib.Core.Bool.{Bool, not, ◌&&◌}
-use mathlib.Core.Path.{◌≡◌, sym, ap, ◌∙◌}
+use mathlib.Core.Path.{sym, ap, ◌∙◌}
 use lib.Dec.{eqb}
-use borrow.Author.Rules.{rules}
 use Rattle.stream.specs.declared.Stream.{Stream}
 use Rattle.record.specs.Entry.{drain_at, drains_at}
 use Rattle.record.proofs.entry.drains.Goals as goal

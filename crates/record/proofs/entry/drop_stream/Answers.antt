@@ -2,7 +2,6 @@
 use Prim.Native.Nat.{◌+◌, ℕ}
 use mathlib.Core.List.{List, [], ◌∷◌}
 use mathlib.Core.Path.{◌∙◌, ap}
-use borrow.Author.Rules.{rules}
 use Rattle.lists.specs.Window.{put}
 use Rattle.record.specs.Layout.{drain_offset, bound_offset}
 use Rattle.record.proofs.EntryLaws.{dropped_written}

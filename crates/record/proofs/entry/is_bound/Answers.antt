@@ -3,7 +3,6 @@ use Prim.Native.Nat.{◌+◌, ℕ}
 use mathlib.Core.Path.{ap}
 use lib.Dec.{eqb}
 use lib.ListN.{get_or}
-use borrow.Author.Rules.{rules}
 use Rattle.record.specs.Entry.{bound_at}
 use Rattle.record.specs.Layout.{bound_offset}
 use Rattle.record.proofs.entry.is_bound.Goals as goal

@@ -1,7 +1,6 @@
 -- `record::entry::pair` meets its contract. The pair by its octets. Assumes nothing.
 use Prim.Native.Nat.{◌+◌, ℕ}
 use mathlib.Core.Path.{◌∙◌, ap}
-use borrow.Author.Rules.{rules}
 use Rattle.lists.specs.Window.{get}
 use Rattle.octets.specs.Numbers.{eight_of}
 use Rattle.record.specs.PairNumber.{pair_at}

@@ -7,15 +7,6 @@ use Rattle.lists.specs.Window.{put, get}
 use Rattle.octets.specs.Numbers.{two_of, two_octets, four_of, four_octets}
 use Rattle.record.specs.Layout.{bound_offset, pair_offset, address_offset}
 use Rattle.record.proofs.EntryLaws.{binding_written}
-use borrow.Author.Rules.{rules}
-use Rattle.record.proofs.entry.put_binding.Reads as reads
-use Rattle.record.proofs.entry.put_binding.Lts as lts
-use Rattle.octets.proofs.four_at.Reads as four-at-reads
-use Rattle.octets.proofs.put_four.Reads as put-four-reads
-use Rattle.octets.proofs.put_two.Reads as put-two-reads
-use Rattle.octets.proofs.two_at.Reads as two-at-reads
-use Rattle.record.proofs.entry.start.Reads as start-reads
-use Rattle.record.proofs.put_octet.Reads as put-octet-reads
 use Rattle.record.proofs.entry.put_binding.Goals as goal
 
 -- src/entry.rt:116:1

@@ -2,7 +2,6 @@
 use Prim.Native.Nat.{◌+◌, ℕ}
 use mathlib.Core.List.{[], ◌∷◌}
 use mathlib.Core.Path.{◌∙◌, ap}
-use borrow.Author.Rules.{rules}
 use Rattle.lists.specs.Window.{put}
 use Rattle.record.specs.Entry.{with_drain}
 use Rattle.record.specs.Layout.{drain_offset}

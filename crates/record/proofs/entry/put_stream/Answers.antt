@@ -3,7 +3,6 @@ use Prim.Native.Nat.{◌+◌, ℕ}
 use mathlib.Core.Bool.{cond}
 use mathlib.Core.List.{List, [], ◌∷◌}
 use mathlib.Core.Path.{◌∙◌, ap}
-use borrow.Author.Rules.{rules}
 use Rattle.lists.specs.Window.{put}
 use Rattle.octets.specs.Numbers.{two_octets}
 use Rattle.record.specs.Entry.{with_place}

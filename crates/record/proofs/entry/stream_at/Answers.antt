@@ -3,7 +3,6 @@ use Prim.Native.Nat.{◌+◌, ℕ}
 use mathlib.Core.Path.{◌∙◌, ap, ap₂}
 use lib.Dec.{eqb}
 use lib.ListN.{get_or}
-use borrow.Author.Rules.{rules}
 use Rattle.lists.specs.Window.{get}
 use Rattle.octets.specs.Numbers.{two_of}
 use Rattle.record.specs.Layout.{place_offset, left_offset, permitted_offset}

@@ -1,7 +1,6 @@
 -- `record::entry::vid` meets its contract. The VID by its octets. Assumes nothing.
 use Prim.Native.Nat.{◌+◌, ℕ}
 use mathlib.Core.Path.{◌∙◌, ap}
-use borrow.Author.Rules.{rules}
 use Rattle.lists.specs.Window.{get}
 use Rattle.octets.specs.Numbers.{two_of}
 use Rattle.record.specs.Entry.{vid_at}

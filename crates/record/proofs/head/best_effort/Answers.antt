@@ -1,6 +1,5 @@
 -- `record::head::best_effort` meets its contract. The queue at the number that is read. Assumes nothing.
 use mathlib.Core.Path.{◌∙◌, ap}
-use borrow.Author.Rules.{rules}
 use Rattle.record.specs.Head.{queue_at}
 use Rattle.record.proofs.head.best_effort.Goals as goal
 

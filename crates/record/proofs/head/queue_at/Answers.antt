@@ -1,7 +1,6 @@
 -- `record::head::queue_at` meets its contract. Start and count one by one (`queue_read`). Assumes nothing.
 use Prim.Native.Nat.{◌+◌, ℕ}
 use mathlib.Core.Path.{◌∙◌, ap, ap₂}
-use borrow.Author.Rules.{rules}
 use Rattle.lists.specs.Window.{get}
 use Rattle.octets.specs.Numbers.{two_of}
 use Rattle.record.specs.Layout.{count_offset}

@@ -3,7 +3,6 @@ use Rattle.registers.proofs.AccessLaws.{named_bits, written_named, written_both}
 use Rattle.port.specs.Calls.{called}
 use Rattle.fitness.specs.Fit.{lent_refusal}
 use mathlib.Core.Bool.{true, false}
-use borrow.Author.Rules.{rules}
 use Rattle.registers.proofs.accesses.control.Goals as goal
 
 pub returns-then-transmits : goal.returns-then-transmits

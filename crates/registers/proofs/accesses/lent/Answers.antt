@@ -1,7 +1,6 @@
 -- `registers::accesses::lent` meets its contract. By the length of the slice; then 18 and 19 of record and memory. Assumes nothing.
 use Rattle.registers.proofs.PartLaws.{part_long, lent_short, lent_else}
 use Rattle.fitness.specs.Fit.{lent_refusal}
-use borrow.Author.Rules.{rules}
 use Rattle.registers.proofs.accesses.lent.Goals as goal
 
 pub returns-then-refusal-ne0 : goal.returns-then-refusal-ne0

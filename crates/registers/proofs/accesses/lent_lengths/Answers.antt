@@ -1,7 +1,6 @@
 -- `registers::accesses::lent_lengths` meets its contract. By the length of the slice; then the two lengths. Assumes nothing.
 use Rattle.registers.proofs.PartLaws.{part_long, lent_short, lent_else}
 use Rattle.port.specs.Quick.{length_refusal}
-use borrow.Author.Rules.{rules}
 use Rattle.registers.proofs.accesses.lent_lengths.Goals as goal
 
 pub returns-then-refusal-ne0 : goal.returns-then-refusal-ne0

@@ -2,7 +2,6 @@
 use Rattle.registers.proofs.AccessLaws.{named_bits, written_named, written_both}
 use Rattle.port.specs.Quick.{quickly_called, length_refusal}
 use mathlib.Core.Bool.{true, false}
-use borrow.Author.Rules.{rules}
 use Rattle.registers.proofs.accesses.quick_control.Goals as goal
 
 pub returns-then-transmits : goal.returns-then-transmits

@@ -3,7 +3,6 @@ use mathlib.Core.Path.{refl}
 use Rattle.registers.proofs.PartLaws.{lent_enough}
 use Rattle.steps.proofs.OutcomeLaws.{same_outcome, stopped, passed}
 use Rattle.port.specs.Quick.{length_refusal}
-use borrow.Author.Rules.{rules}
 use Rattle.registers.proofs.accesses.quick_put.Goals as goal
 
 pub returns-then-refusal-ne0 : goal.returns-then-refusal-ne0

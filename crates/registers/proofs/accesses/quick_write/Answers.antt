@@ -3,7 +3,6 @@ use Rattle.registers.specs.Accesses.{write_by}
 use Rattle.registers.proofs.AccessLaws.{written_control, written_other}
 use Rattle.steps.proofs.OutcomeLaws.{stopped, passed}
 use Rattle.port.specs.Quick.{quickly_called, length_refusal}
-use borrow.Author.Rules.{rules}
 use Rattle.registers.proofs.accesses.quick_write.Goals as goal
 
 pub returns-then-outside-ne0 : goal.returns-then-outside-ne0

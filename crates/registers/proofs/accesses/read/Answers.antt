@@ -6,7 +6,6 @@ use Rattle.steps.proofs.OutcomeLaws.{same_outcome, stopped, passed}
 use Rattle.stream.specs.Replies.{granted}
 use Rattle.fitness.specs.Fit.{lent_refusal}
 use Prim.Native.Nat.{ℕ}
-use borrow.Author.Rules.{rules}
 use Rattle.registers.proofs.accesses.read.Goals as goal
 
 pub returns-then-outside-ne0 : goal.returns-then-outside-ne0

@@ -5,7 +5,6 @@ use mathlib.Core.List.{List}
 use Prim.Native.Nat.{ℕ}
 use mathlib.Core.Bool.{Bool}
 use Rattle.register_block.specs.Shown.{register_at}
-use borrow.Author.Rules.{rules}
 use Rattle.registers.proofs.accesses.register_at.Goals as goal
 
 pub returns : goal.returns

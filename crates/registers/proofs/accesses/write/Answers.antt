@@ -4,7 +4,6 @@ use Rattle.registers.proofs.AccessLaws.{written_control, written_other}
 use Rattle.steps.proofs.OutcomeLaws.{stopped, passed}
 use Rattle.port.specs.Calls.{called}
 use Rattle.fitness.specs.Fit.{lent_refusal}
-use borrow.Author.Rules.{rules}
 use Rattle.registers.proofs.accesses.write.Goals as goal
 
 pub returns-then-outside-ne0 : goal.returns-then-outside-ne0

@@ -1,7 +1,6 @@
 -- `registers::counts::of_stream` meets its contract. By the length of the slice, and whether the number is a stream's;
 -- then the counts in the block. Assumes nothing.
 use Rattle.registers.proofs.CountLaws.{counts_short, counts_none, counts_stream}
-use borrow.Author.Rules.{rules}
 use Rattle.registers.proofs.counts.of_stream.Goals as goal
 
 pub returns-then-port-lt-PORT_LENGTH : goal.returns-then-port-lt-PORT_LENGTH

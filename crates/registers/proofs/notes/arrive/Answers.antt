@@ -1,6 +1,5 @@
 -- `registers::notes::arrive` meets its contract. The block lent out of the slice, and put back. Assumes nothing.
 use Rattle.registers.proofs.PartLaws.{block_back}
-use borrow.Author.Rules.{rules}
 use Rattle.registers.proofs.notes.arrive.Goals as goal
 
 pub returns : goal.returns

@@ -1,7 +1,6 @@
 -- `registers::notes::arrive_in` meets its contract. Test after test. Assumes nothing.
 use borrow.Author.Tests.{eq-eqb, ne_eqb}
 use Rattle.registers.specs.Notes.{arrival_noted}
-use borrow.Author.Rules.{rules}
 use Rattle.registers.proofs.notes.arrive_in.Goals as goal
 
 pub returns-then-refusal-eq0 : goal.returns-then-refusal-eq0

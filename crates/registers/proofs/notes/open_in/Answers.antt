@@ -1,7 +1,6 @@
 -- `registers::notes::open_in` meets its contract. By the refusal. Assumes nothing.
 use Rattle.registers.specs.Notes.{open_noted}
 use borrow.Author.Tests.{eq-eqb, ne_eqb}
-use borrow.Author.Rules.{rules}
 use Rattle.registers.proofs.notes.open_in.Goals as goal
 
 pub returns-then-refusal-eq0 : goal.returns-then-refusal-eq0

@@ -1,6 +1,5 @@
 -- `registers::notes::tick` meets its contract. The block lent out of the slice, and put back. Assumes nothing.
 use Rattle.registers.proofs.PartLaws.{block_back}
-use borrow.Author.Rules.{rules}
 use Rattle.registers.proofs.notes.tick.Goals as goal
 
 pub returns : goal.returns

@@ -1,7 +1,6 @@
 -- `registers::notes::tick_in` meets its contract. Test after test. Assumes nothing.
 use Rattle.registers.specs.Notes.{tick_noted}
 use borrow.Author.Tests.{eq-eqb, ne_eqb}
-use borrow.Author.Rules.{rules}
 use Rattle.registers.proofs.notes.tick_in.Goals as goal
 
 pub returns-then-refusal-ne0 : goal.returns-then-refusal-ne0

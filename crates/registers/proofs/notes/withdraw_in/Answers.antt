@@ -1,7 +1,6 @@
 -- `registers::notes::withdraw_in` meets its contract. By whether it is granted. Assumes nothing.
 use borrow.Author.Tests.{eq-eqb, ne_eqb}
 use Rattle.registers.specs.Notes.{withdraw_noted}
-use borrow.Author.Rules.{rules}
 use Rattle.registers.proofs.notes.withdraw_in.Goals as goal
 
 pub returns-then-refusal-eq0 : goal.returns-then-refusal-eq0

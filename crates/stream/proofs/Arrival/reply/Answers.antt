@@ -1,6 +1,5 @@
 -- `stream::Arrival::reply` meets its contract. Each arm computes the definition at its case. Assumes nothing.
 use mathlib.Core.Path.{ap, sym}
-use borrow.Author.Rules.{rules}
 use Rattle.stream.specs.Replies.{reply_of}
 use Rattle.stream.proofs.Arrival.reply.Goals as goal
 

@@ -1,6 +1,5 @@
 -- `stream::Stream::advanced_if_spent` meets its contract. Each return computes the definition by the tests that led to it. Assumes nothing.
 use native.Mathlib.Omega.{arith}
-use borrow.Author.Rules.{rules}
 use borrow.Author.Tests.{lt-ltb, le-ltb, eq-eqb, ne_eqb}
 use Rattle.stream.proofs.Stream.advanced_if_spent.Goals as goal
 

@@ -1,6 +1,5 @@
 -- `stream::Stream::arrive` meets its contract. Each return is one of the ways of `ArriveLaws`. Assumes nothing.
 use mathlib.Core.Path.{◌∙◌, sym}
-use borrow.Author.Rules.{rules}
 use Rattle.stream.proofs.ArriveLaws.{joins_here, joins_next_lem, discards_over, discards_at_last}
 use Rattle.stream.proofs.Stream.arrive.Goals as goal
 

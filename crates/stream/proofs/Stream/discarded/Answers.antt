@@ -1,6 +1,5 @@
 -- `stream::Stream::discarded` meets its contract. The callee's result. Assumes nothing.
 use mathlib.Core.Path.{ap}
-use borrow.Author.Rules.{rules}
 use Rattle.stream.specs.declared.Arrival.TheVariants.{Discarded}
 use Rattle.stream.proofs.Stream.discarded.Goals as goal
 

@@ -1,6 +1,5 @@
 -- `stream::Stream::joined` meets its contract. The callees' results, put one into the other. Assumes nothing.
 use mathlib.Core.Path.{◌∙◌, ap}
-use borrow.Author.Rules.{rules}
 use Rattle.stream.specs.Steps.{advanced_if_spent}
 use Rattle.stream.specs.declared.Arrival.TheVariants.{Joined}
 use Rattle.stream.proofs.Stream.joined.Goals as goal

@@ -1,6 +1,5 @@
 -- `stream::Stream::joined_next` meets its contract. The callees' results, put one into the other. Assumes nothing.
 use mathlib.Core.Path.{◌∙◌, ap}
-use borrow.Author.Rules.{rules}
 use Rattle.stream.specs.Steps.{joined}
 use Rattle.stream.specs.declared.Stream.{Stream}
 use Rattle.stream.proofs.Stream.joined_next.Goals as goal

@@ -1,7 +1,6 @@
 -- `stream::Stream::tick` meets its contract. Each return is one of the two ways of `TickLaws`. Assumes nothing.
 use mathlib.Core.Path.{◌∙◌, sym}
 use Rattle.stream.proofs.TickLaws.{stays_current, comes_nearer}
-use borrow.Author.Rules.{rules}
 use Rattle.stream.proofs.Stream.tick.Goals as goal
 
 pub returns-then-self-le-CURRENT : goal.returns-then-self-le-CURRENT
