@@ -9,10 +9,10 @@ use std::time::Duration;
 
 use super::repository::Repository;
 use crate::running::{self, Bounds, End};
-use crate::seeding::{copy_all, write, Edit};
+use crate::seeding::{copy_all, removed, write, Edit};
 
 /// How many wrong programs are run at once: reading the libraries takes most of a run.
-pub const AT_ONCE: usize = 8;
+pub const AT_ONCE: usize = 16;
 
 /// What a run may take.
 const BOUNDS: Bounds = Bounds { time: Duration::from_secs(300), stdout: 1 << 20, stderr: 1 << 20 };
@@ -20,6 +20,9 @@ const BOUNDS: Bounds = Bounds { time: Duration::from_secs(300), stdout: 1 << 20,
 /// The name of the crate that runs the case programs, and the library of the toolchain that these print with.
 const CASES: &str = "cases";
 const PRINTING: &str = "io";
+
+/// How code names the whole library of the toolchain.
+const WHOLE: &str = "std::";
 
 /// What is at the top of a repository whose crates each have a build file.
 const TOP: &str = "MODULE.bazel";
@@ -49,7 +52,7 @@ pub fn run(repository: &Repository, of: &str, programs: &[&[Edit]], folder: &Pat
         return programs.iter().map(|edits| of_program(repository, of, edits, folder)).collect();
     }
     match of_cases(repository, of, programs, folder) {
-        Ok(shown) => shown.into_iter().map(Ok).collect(),
+        Ok(shown) => shown,
         Err(why) if programs.len() == 1 => vec![Err(why)],
         Err(_) => {
             let (some, others) = programs.split_at(programs.len() / 2);
@@ -70,34 +73,66 @@ fn of_program(repository: &Repository, of: &str, edits: &[Edit], folder: &Path) 
     Ok(shown(&tried(&copy, &read("stdin"))?, &String::from_utf8_lossy(&read("stdout"))))
 }
 
-/// Runs the case program of a library, once for each of these wrong programs.
-fn of_cases(repository: &Repository, of: &str, programs: &[&[Edit]], folder: &Path) -> Result<Vec<Shown>, String> {
+/// Runs the case program of a library, once for each of these wrong programs; those that cannot be made are left out.
+fn of_cases(repository: &Repository, of: &str, programs: &[&[Edit]], folder: &Path) -> Result<Vec<Result<Shown, String>>, String> {
     let read = |path: PathBuf| fs::read_to_string(&path).map_err(|why| format!("{}: {why}", path.display()));
     let (text, expected) = (read(repository.cases(of, ".txt"))?, read(repository.cases(of, ".out"))?);
+    let library = library(repository, of)?;
     emptied(folder)?;
     for below in repository.reached(of).into_iter().filter(|below| *below != of) {
-        lay_out(repository, below, below, repository.uses(below), Library::Core, folder)?;
+        lay_out(repository, below, below, repository.uses(below), library, folder)?;
     }
-    let source = folder.join(CASES).join("src");
-    let mut uses = repository.uses(of).to_vec();
-    uses.push(PRINTING.into());
-    let mut program = String::new();
-    for (number, edits) in programs.iter().enumerate() {
+    let mut made = Vec::new();
+    let (mut modules, mut calls, mut copies) = (String::new(), String::new(), Vec::new());
+    for edits in programs {
+        let number = copies.len();
         let name = format!("{of}_{number}");
-        lay_out(repository, of, &name, repository.uses(of), Library::Core, folder)?;
-        edits.iter().try_for_each(|edit| edit.made(&folder.join(&name)))?;
-        write(&source.join(format!("{CASES}_{number}.rt")), &of_copy(&text, of, &name))?;
-        program += &format!("mod {CASES}_{number};\n");
-        uses.push(name);
+        removed(&folder.join(&name))?;
+        lay_out(repository, of, &name, repository.uses(of), library, folder)?;
+        let edited = edits.iter().try_for_each(|edit| edit.made(&folder.join(&name)));
+        if edited.is_ok() {
+            write(&folder.join(CASES).join(format!("src/{CASES}_{number}.rt")), &of_copy(&text, of, &name))?;
+            modules += &format!("mod {CASES}_{number};\n");
+            calls += &format!("    {PRINTING}::write_all(1, b\"{BETWEEN}{number}\\n\");\n    {CASES}_{number}::main();\n");
+            copies.push(name);
+        }
+        made.push(edited);
     }
-    program += "\nfn main() {\n";
-    for number in 0..programs.len() {
-        program += &format!("    {PRINTING}::write_all(1, b\"{BETWEEN}{number}\\n\");\n    {CASES}_{number}::main();\n");
+    let uses = [repository.uses(of), &[PRINTING.into()], &copies].concat();
+    write(&folder.join(CASES).join("src/main.rt"), &format!("{modules}\nfn main() {{\n{calls}}}\n"))?;
+    write(&folder.join(CASES).join(BUILD), &build_file(repository, CASES, &uses, library, &copies))?;
+    let printed = if copies.is_empty() { String::new() } else { tried(&folder.join(CASES), b"")? };
+    let mut outputs = outputs(&printed, copies.len())?.into_iter();
+    let shown = |made: Result<(), String>| made.map(|()| shown(&outputs.next().unwrap_or_default(), &expected));
+    Ok(made.into_iter().map(shown).collect())
+}
+
+/// The library that a crate and those below it stand on: the whole one where their code names it.
+fn library(repository: &Repository, of: &str) -> Result<Library, String> {
+    for below in repository.reached(of) {
+        if names_library(&repository.crate_folder(below).join("src"))? {
+            return Ok(Library::Whole);
+        }
     }
-    write(&source.join("main.rt"), &(program + "}\n"))?;
-    write(&folder.join(CASES).join(BUILD), &build_file(repository, CASES, &uses, Library::Core, &copies(of, programs.len())))?;
-    let outputs = outputs(&tried(&folder.join(CASES), b"")?, programs.len())?;
-    Ok(outputs.iter().map(|output| shown(output, &expected)).collect())
+    Ok(Library::Core)
+}
+
+/// Whether the code of a folder names the whole library, in a line that is no comment.
+fn names_library(folder: &Path) -> Result<bool, String> {
+    let told = |why| format!("{}: {why}", folder.display());
+    for entry in fs::read_dir(folder).map_err(told)? {
+        let path = entry.map_err(told)?.path();
+        let found = match path.is_dir() {
+            true => names_library(&path)?,
+            false => {
+                fs::read_to_string(&path).map_err(told)?.lines().any(|line| line.contains(WHOLE) && !line.trim_start().starts_with("//"))
+            }
+        };
+        if found {
+            return Ok(true);
+        }
+    }
+    Ok(false)
 }
 
 /// The library that the crates of a repository stand on: the whole one, or its core alone, which is quicker to read.
@@ -107,16 +142,9 @@ enum Library {
     Core,
 }
 
-/// The names of the copies of a crate.
-fn copies(of: &str, count: usize) -> Vec<String> {
-    (0..count).map(|number| format!("{of}_{number}")).collect()
-}
-
 /// Empties a folder, and makes it the top of a repository.
 fn emptied(folder: &Path) -> Result<(), String> {
-    if folder.exists() {
-        fs::remove_dir_all(folder).map_err(|why| format!("{}: {why}", folder.display()))?;
-    }
+    removed(folder)?;
     write(&folder.join(TOP), "")
 }
 
@@ -239,7 +267,7 @@ mod tests {
     fn a_build_file_names_crates_of_ours_and_of_the_toolchain() {
         let repository = Repository::read(&harness().join("..")).expect("the list can be read");
         let uses = ["lists", "lists_0", "io"].map(String::from);
-        let file = build_file(&repository, "cases", &uses, Library::Core, &copies("lists", 1));
+        let file = build_file(&repository, "cases", &uses, Library::Core, &["lists_0".into()]);
         assert_eq!(file, "rattle_crate(name = \"cases\", deps = [\"//lists\", \"//lists_0\", \"@rattle//io\"], no_std = True)\n");
         let file = build_file(&repository, "lists", &[], Library::Whole, &[]);
         assert_eq!(file, "rattle_crate(name = \"lists\", deps = [])\n");
