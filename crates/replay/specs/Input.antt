@@ -5,4 +5,4 @@ use Rattle.replay.specs.declared.Input.TheVariants.{Octets, Failed}
 
 abbrev pub FitsRoom : Input → List ℕ → Type 0
 FitsRoom (Octets n) room = n ≤ length room
-FitsRoom Failed room = Unit {0}
+FitsRoom (Failed error) room = Unit {0}

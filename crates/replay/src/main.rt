@@ -15,10 +15,10 @@ use std::io::{Read, Write};
 const FILE_LENGTH: usize = capture_file::MOST_OCTETS + 1;
 
 // What came of reading: so many octets, or a read that failed.
-#[derive(Clone, Copy, Drop)]
+#[derive(Drop)]
 enum Input {
     Octets(usize),
-    Failed,
+    Failed(io::Error),
 }
 
 // Room for a file.
@@ -43,7 +43,7 @@ fn read_input(rt: &HostRuntime, file: &mut [u8]) -> Input
     let mut done: usize = 0;
     while done < file.len() {
         match input.read(&mut file[done..]) {
-            Err(_) => return Input::Failed,
+            Err(error) => return Input::Failed(error),
             Ok(more) => {
                 if more == 0 {
                     return Input::Octets(done);
@@ -70,7 +70,7 @@ fn write_output(rt: &HostRuntime, file: &[u8]) -> anyhow::Result<()> {
     let end = put_output(file, &mut text);
     match io::writer(rt).write_all(&text[..end]) {
         Ok(()) => Ok(()),
-        Err(_) => Err(anyhow!("replay: standard output")),
+        Err(error) => Err(anyhow!("replay: standard output: {error}")),
     }
 }
 
@@ -78,6 +78,6 @@ fn main(rt: HostRuntime) -> anyhow::Result<()> {
     let mut file = file_room();
     match read_input(&rt, &mut file) {
         Input::Octets(length) => write_output(&rt, &file[..length]),
-        Input::Failed => Err(anyhow!("replay: standard input")),
+        Input::Failed(error) => Err(anyhow!("replay: standard input: {error}")),
     }
 }
