@@ -47,7 +47,7 @@ def own_names(files):
             continue
         for m in DECLARED.finditer(code(open(f, encoding="utf-8").read())):
             for n in m[1].split():
-                if n in WORDS or n.startswith("let"):
+                if n in WORDS:
                     continue
                 names.setdefault(n, set()).add(f)
     return names

@@ -16,7 +16,7 @@ use Rattle.opening.specs.Opening.{opened_record}
 use Rattle.gates.specs.Refusals.{open_refusal, reserve_refusal, withdraw_refusal, closed_refusal}
 use Rattle.gates.specs.Table.{refusal_of}
 use Rattle.port_laws.specs.Cases.{case_link}
-use Rattle.capture_file.specs.File.{letters, lettersOf, first_of, kind_of, stream_octet_of, next_of, number_a, number_b, end_of, chain_within}
+use Rattle.capture_file.specs.File.{letters, letters_of, first_of, kind_of, stream_octet_of, next_of, number_a, number_b, end_of, chain_within}
 use Rattle.capture_file.specs.Checks.{header_good, first_good, next_good, record_good, record_refusal, chain_refusal, port_refusal, ports_refusal, file_refusal}
 use Rattle.capture.specs.Events.{call_of, call_at, event_line, lines_of}
 use Rattle.capture.specs.Output.{ports_text, refused_word, output}
@@ -37,17 +37,17 @@ pub two_ports : output (header 1 1 ++ events 0)
     ++ line_of (0 ∷ 2 ∷ 2 ∷ 0 ∷ 400 ∷ 0 ∷ [])
     ++ line_of (1 ∷ 1 ∷ 1 ∷ 0 ∷ 600 ∷ 0 ∷ [])
     ++ line_of (1 ∷ 2 ∷ 2 ∷ 0 ∷ 400 ∷ 0 ∷ [])
-unfolding number_then digits digits_within octets_equal all_to sum_to list_to iterate two_of four_of waiting open_at with_open prior_at with_prior delay_at with_delay link_at with_link waits_at with_waits queue_at queues_at with_queue stream_at with_stream drain_at drains_at bound_at vid_at dropped record_fits lent_refusal opened_record open_refusal reserve_refusal lettersOf first_of kind_of stream_octet_of next_of number_a number_b end_of chain_within header_good first_good next_good record_good record_refusal chain_refusal port_refusal ports_refusal file_refusal call_at event_line lines_of ports_text output
+unfolding number_then digits digits_within octets_equal all_to sum_to list_to iterate two_of four_of waiting open_at with_open prior_at with_prior delay_at with_delay link_at with_link waits_at with_waits queue_at queues_at with_queue stream_at with_stream drain_at drains_at bound_at vid_at dropped record_fits lent_refusal opened_record open_refusal reserve_refusal letters_of first_of kind_of stream_octet_of next_of number_a number_b end_of chain_within header_good first_good next_good record_good record_refusal chain_refusal port_refusal ports_refusal file_refusal call_at event_line lines_of ports_text output
 two_ports = refl
 
 -- a next index that is its record's own
 pub refused_record : output (header 0 1 ++ events 2) ≡ refused_word ++ line_of (23 ∷ 2 ∷ [])
-unfolding octets_equal all_to two_of four_of lettersOf first_of kind_of stream_octet_of next_of number_a number_b end_of header_good first_good next_good record_good record_refusal chain_refusal port_refusal ports_refusal file_refusal output
+unfolding octets_equal all_to two_of four_of letters_of first_of kind_of stream_octet_of next_of number_a number_b end_of header_good first_good next_good record_good record_refusal chain_refusal port_refusal ports_refusal file_refusal output
 refused_record = refl
 
 -- a first index that is the record count
 pub refused_first : output (header 0 3 ++ events 0) ≡ refused_word ++ line_of (23 ∷ 0 ∷ [])
-unfolding octets_equal all_to two_of four_of lettersOf first_of kind_of stream_octet_of next_of number_a number_b end_of header_good first_good next_good record_good record_refusal chain_refusal port_refusal ports_refusal file_refusal output
+unfolding octets_equal all_to two_of four_of letters_of first_of kind_of stream_octet_of next_of number_a number_b end_of header_good first_good next_good record_good record_refusal chain_refusal port_refusal ports_refusal file_refusal output
 refused_first = refl
 
 -- kind 7 is a withdrawal of its stream octet: an open port refuses one above 63

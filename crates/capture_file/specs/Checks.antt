@@ -2,7 +2,7 @@
 use Rattle.std.specs.Prelude.{ℕ, zero, suc, ◌+◌, ◌%◌, Bool, true, false, not, cond, ◌&&◌, ◌||◌, List, length, leb, ltb, eqb}
 use Rattle.lists.specs.Equal.{octets_equal}
 use Rattle.capture_file.specs.declared.FileRefusal.{FileRefusal}
-use Rattle.capture_file.specs.File.{record_octets, record_count, port_count, letters, lettersOf, first_of, kind_of, stream_octet_of, next_of, number_a, number_b, open_kind, reserve_kind, arrive_kind, best_effort_kind, tick_kind, transmit_kind, withdraw_kind, best_effort_octet, end_of, most_events}
+use Rattle.capture_file.specs.File.{record_octets, record_count, port_count, letters, letters_of, first_of, kind_of, stream_octet_of, next_of, number_a, number_b, open_kind, reserve_kind, arrive_kind, best_effort_kind, tick_kind, transmit_kind, withdraw_kind, best_effort_octet, end_of, most_events}
 
 -- a refusal names "the record index (0 for the whole file or the header)"
 abbrev pub refused_at : ℕ → ℕ → FileRefusal
@@ -25,7 +25,7 @@ length_good f = eqb (length f % record_octets) 0 && (leb record_octets (length f
 
 -- 22 "header letters or zero octets"
 unfoldable pub header_good : List ℕ → Bool
-header_good f = octets_equal (lettersOf f) letters && eqb (end_of f 0) 0
+header_good f = octets_equal (letters_of f) letters && eqb (end_of f 0) 0
 
 -- "a first index is 0 or below that count"
 unfoldable pub first_good : List ℕ → ℕ → Bool

@@ -25,8 +25,8 @@ port_count = 4
 abbrev pub letters : List ℕ
 letters = 69 ∷ 80 ∷ 67 ∷ 72 ∷ []
 
-unfoldable pub lettersOf : List ℕ → List ℕ
-lettersOf f = get f 0 4
+unfoldable pub letters_of : List ℕ → List ℕ
+letters_of f = get f 0 4
 
 unfoldable pub first_of : List ℕ → ℕ → ℕ
 first_of f q = two_of (get f (4 + q * 2) 2)

@@ -1,7 +1,7 @@
 // The fields of a capture file, read where they stand.
 ghost use Rattle.std.specs.Prelude.{◌≡◌, ◌<◌, ◌≤◌, length};
 ghost use Rattle.lists.specs.Equal.{octets_equal};
-ghost use Rattle.capture_file.specs.File.{record_octets, record_count, HasRecord, record_start, port_count, letters, lettersOf, first_of, kind_of, stream_octet_of, next_of, number_a, number_b, end_of};
+ghost use Rattle.capture_file.specs.File.{record_octets, record_count, HasRecord, record_start, port_count, letters, letters_of, first_of, kind_of, stream_octet_of, next_of, number_a, number_b, end_of};
 
 // The octets of a record.
 pub const RECORD_OCTETS: usize = 16;
@@ -16,7 +16,7 @@ pub(crate) fn count(file: &[u8]) -> usize
 // Whether the file begins with the capture's letters.
 pub(crate) fn has_letters(file: &[u8]) -> bool
     requires { record_octets ≤ length file.now }
-    ensures { result ≡ octets_equal (lettersOf file.now) letters }
+    ensures { result ≡ octets_equal (letters_of file.now) letters }
 {
     check::same(&file[0..4], b"EPCH")
 }
