@@ -1,11 +1,12 @@
 -- Arrive(s, a, tag).
-use Rattle.std.specs.Prelude.{ℕ, cond, List, leb}
+use Rattle.std.specs.Prelude.{ℕ, cond, List, leb, Result, Ok, Err}
 use Rattle.stream.specs.declared.Stream.{Stream}
 use Rattle.stream.specs.declared.Arrival.{Arrival}
 use Rattle.stream.specs.declared.Reply.{Reply}
 use Rattle.stream.specs.declared.Arrival.TheVariants.{Joined, Discarded}
 use Rattle.stream.specs.Steps.{arrive_of}
-use Rattle.stream.specs.Replies.{reply_of}
+use Rattle.stream.specs.declared.answer.Refusal.{Refusal}
+use Rattle.stream.specs.Replies.{reply_of, refused_by, number_of}
 use Rattle.queue.specs.declared.Frame.{Frame}
 use Rattle.queue.specs.Ring.{place_count, joined_memory, joined_queue}
 use Rattle.record.specs.Queues.{last_place_at}
@@ -14,6 +15,11 @@ use Rattle.record.specs.Entry.{stream_at}
 use Rattle.steps.specs.Outcome.{Outcome, outcome, refused}
 use Rattle.steps.specs.Roles.{role_at}
 use Rattle.steps.specs.Moves.{moved}
+
+-- the reply of a step that may refuse and gives no numbers itself
+abbrev pub unless_refused : Result Unit Refusal → Reply → Reply
+unless_refused (Ok done) reply = reply
+unless_refused (Err refusal) reply = refused_by (number_of refusal)
 
 -- the frame joins queue `number`, and the stream moves on; "20 the chosen queue holds 256", and then nothing changes
 abbrev pub joined_into : List ℕ → List ℕ → ℕ → Reply → Stream → ℕ → Frame → Outcome

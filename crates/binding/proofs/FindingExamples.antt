@@ -11,7 +11,7 @@ use Rattle.octets.specs.Numbers.{two_of}
 use Rattle.record.specs.Layout.{record_length, address_length}
 use Rattle.record.specs.Entry.{bound_at, vid_at, address_at, with_drain, with_binding, dropped}
 use Rattle.header.specs.Header.{tagged_frame, vid_of}
-use Rattle.binding.specs.declared.Lookup.TheVariants.{Bound, Unbound}
+use Rattle.std.specs.Prelude.{Some, None}
 use Rattle.binding.specs.declared.Answer.{Answer}
 use Rattle.binding.specs.Finding.{compared_back, compared_at, lookup_from, lookup, stream_found, frame_lookup}
 use Rattle.binding.specs.LookupClaims.{first_from, first_bound, octets_compared, gone_through}
@@ -65,12 +65,12 @@ unfolding lookup lookup_from compared_at compared_back two_of bound_at vid_at ad
 finds_dropped = refl
 
 -- of two streams with one pair, which no fit record has, the lower, among streams 3 to 5
-pub finds_lower : (lookup_from (with_binding two 5 (address 1 66) 100) (address 1 66) 100 3 3 0).found ≡ Bound 3
+pub finds_lower : (lookup_from (with_binding two 5 (address 1 66) 100) (address 1 66) 100 3 3 0).found ≡ Some 3
 unfolding lookup_from compared_at compared_back two_of bound_at vid_at address_at with_binding
 finds_lower = refl
 
 -- the second stream, past one with its VID and another address
-pub finds_behind : (lookup two (address 1 67) 100).found ≡ Bound 5
+pub finds_behind : (lookup two (address 1 67) 100).found ≡ Some 5
 unfolding lookup lookup_from compared_at compared_back two_of bound_at vid_at address_at with_binding
 finds_behind = refl
 
@@ -84,7 +84,7 @@ unfolding compared_at compared_back two_of bound_at vid_at address_at with_bindi
 compares_draining = refl
 
 -- where no stream is bound, best effort's is told
-pub tells_none : stream_found Unbound ≡ 255
+pub tells_none : stream_found None ≡ 255
 tells_none = refl
 
 -- the number goes on from binding to binding, where the first differs in every octet
@@ -99,16 +99,16 @@ unfolding list_to compared_back
 counts_back = refl
 
 -- the stream of a frame by its destination, which is the first's, and not by its source, which is the other's
-pub finds_frame : frame_lookup two (address 1 66 ++ (address 1 67 ++ (129 ∷ 0 ∷ 0 ∷ 100 ∷ []))) ≡ Bound 3
+pub finds_frame : frame_lookup two (address 1 66 ++ (address 1 67 ++ (129 ∷ 0 ∷ 0 ∷ 100 ∷ []))) ≡ Some 3
 unfolding lookup lookup_from compared_at compared_back frame_lookup tagged_frame vid_of all_to octets_equal two_of bound_at vid_at address_at with_binding
 finds_frame = refl
 
 -- what the claims speak of: the first stream of which a test is true, the streams gone through, and the octets compared with one binding
-pub first_told : first_from (λ s. eqb s 4 || eqb s 5) 3 3 ≡ Bound 4
+pub first_told : first_from (λ s. eqb s 4 || eqb s 5) 3 3 ≡ Some 4
 unfolding first_from
 first_told = refl
 
-pub gone_told : gone_through (Bound 5) ≡ 6
+pub gone_told : gone_through (Some 5) ≡ 6
 gone_told = refl
 
 pub octets_told : octets_compared two (address 1 67) 100 3 ≡ 1
@@ -116,7 +116,7 @@ unfolding all_to sum_to two_of bound_at vid_at address_at with_binding
 octets_told = refl
 
 -- from the theorem: the stream is that of the definition which says nothing of the way, and it is a stream
-pub same_told : (lookup two (address 1 67) 100).found ≡ Bound 5
+pub same_told : (lookup two (address 1 67) 100).found ≡ Some 5
 unfolding first_bound first_from all_to octets_equal two_of bound_at vid_at address_at with_binding
 same_told = finds_same two (address 1 67) 100
 

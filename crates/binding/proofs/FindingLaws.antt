@@ -6,6 +6,7 @@ use mathlib.Core.Bool.{Bool, true, false, ◌&&◌, cond}
 use mathlib.Core.Logic.{⊎_elim}
 use mathlib.Core.List.{List}
 use native.Mathlib.Omega.{arith}
+use borrow.Author.Tests.{eq-eqb, ne_eqb}
 use lib.ListN.{get_or}
 use lib.Dec.{eqb}
 use Rattle.lists.specs.Turns.{all_to, sum_to}
@@ -17,8 +18,7 @@ use Rattle.lists.proofs.TurnLaws.{all_to_same, sum_to_same, sum_to_none}
 use Rattle.lists.proofs.WindowLaws.{get_or_get}
 use Rattle.record.specs.Layout.{stream_count, address_length}
 use Rattle.record.specs.Entry.{bound_at, vid_at, address_at}
-use Rattle.binding.specs.declared.Lookup.{Lookup}
-use Rattle.binding.specs.declared.Lookup.TheVariants.{Bound, Unbound}
+use Rattle.std.specs.Prelude.{Option, Some, None}
 use Rattle.binding.specs.declared.Comparison.{Comparison}
 use Rattle.binding.specs.declared.Answer.{Answer}
 use Rattle.binding.specs.Finding.{compared_back, compared_at, lookup_from, lookup, is_bound}
@@ -34,14 +34,17 @@ module _ (a b : List ℕ) where
   abbrev same : ℕ → Bool
   same i = eqb (get_or a i 0) (get_or b i 0)
 
-  -- one turn back: the octet is equal and the comparison goes on, or it differs and was the last
-  pub back_equal : (n compared : ℕ) → same n ≡ true → compared_back a b (suc n) compared ≡ compared_back a b n (compared + 1)
+  -- one turn back, where n octets are left: the last of them is equal and the comparison goes on, or it differs and was the last
+  pub back_equal : (n compared : ℕ) → 0 < n → get_or a (n - 1) 0 ≡ get_or b (n - 1) 0 → compared_back a b n compared ≡ compared_back a b (n - 1) (compared + 1)
   unfolding compared_back
-  back_equal n compared e = rw e
+  back_equal zero compared some e = absurd (omega arith)
+  back_equal (suc n) compared some e = let one : suc n - 1 ≡ n = omega arith in let last : same n ≡ true = eq-eqb _ _ (rw one at e) in rw (one, last)
 
-  pub back_differs : (n compared : ℕ) → same n ≡ false → compared_back a b (suc n) compared ≡ record { equal = false; compared = compared + 1 }
+  pub back_differs : (n compared : ℕ) → 0 < n → (get_or a (n - 1) 0 ≡ get_or b (n - 1) 0 → ⊥)
+      → compared_back a b n compared ≡ record { equal = false; compared = compared + 1 }
   unfolding compared_back
-  back_differs n compared e = rw e
+  back_differs zero compared some e = absurd (omega arith)
+  back_differs (suc n) compared some e = let one : suc n - 1 ≡ n = omega arith in let last : same n ≡ false = ne_eqb _ _ (rw one at e) in rw last
 
   -- the addresses are said to be equal where all octets are
   back_all : (n compared : ℕ) → (compared_back a b n compared).equal ≡ all_to same n
@@ -145,7 +148,7 @@ module _ (p address : List ℕ) (vid : ℕ) where
   -- one turn of the lookup, by what comparing gave: the binding matches and is found, or it is passed over
   module _ (s compared : ℕ) (here : Comparison) (told : here ≡ compared_at p address vid s compared) where
     pub found_here : s < stream_count → here.equal ≡ true
-        → lookup_from p address vid s (stream_count - s) compared ≡ record { found = Bound s; compared = here.compared }
+        → lookup_from p address vid s (stream_count - s) compared ≡ record { found = Some s; compared = here.compared }
     unfolding lookup_from
     found_here below e = let more : stream_count - s ≡ suc (stream_count - (s + 1)) = omega arith in rw (more, sym told, e)
 
@@ -156,6 +159,11 @@ module _ (p address : List ℕ) (vid : ℕ) where
 
     pub at_most : here.compared ≤ compared + address_length
     at_most = subst (λ (x : Comparison). x.compared ≤ compared + address_length) (sym told) (most_at s compared)
+
+  -- no stream is left
+  pub none_left : (s compared : ℕ) → stream_count ≤ s → lookup_from p address vid s (stream_count - s) compared ≡ record { found = None; compared = compared }
+  unfolding lookup_from
+  none_left s compared end = let none : stream_count - s ≡ 0 = omega arith in rw none
 
 -- a stream's binding is said to match where the stream is bound to the pair, and nowhere else
 matches : (p address : List ℕ) (vid s compared : ℕ) → (compared_at p address vid s compared).equal ≡ bound_to p address vid s
@@ -177,11 +185,11 @@ unfolding lookup_from first_from
 same_from p address vid zero s compared = refl
 same_from p address vid (suc n) s compared =
     let here = compared_at p address vid s compared in
-    told here.equal ∙ ap₂ (λ (x : Bool) (later : Lookup). cond x (Bound s) later) (matches p address vid s compared) (same_from p address vid n (s + 1) here.compared)
+    told here.equal ∙ ap₂ (λ (x : Bool) (later : Option ℕ). cond x (Some s) later) (matches p address vid s compared) (same_from p address vid n (s + 1) here.compared)
   where
-    told : (x : Bool) → (cond x (record { found = Bound s; compared = (compared_at p address vid s compared).compared })
+    told : (x : Bool) → (cond x (record { found = Some s; compared = (compared_at p address vid s compared).compared })
         (lookup_from p address vid (s + 1) n (compared_at p address vid s compared).compared)).found
-        ≡ cond x (Bound s) (lookup_from p address vid (s + 1) n (compared_at p address vid s compared).compared).found
+        ≡ cond x (Some s) (lookup_from p address vid (s + 1) n (compared_at p address vid s compared).compared).found
     told true = refl
     told false = refl
 
@@ -202,13 +210,13 @@ number_at p address vid s compared = told (bound_at p s && eqb (vid_at p s) vid)
     told false = omega arith
 
 -- the streams gone through from s on, of n
-abbrev gone : ℕ → Lookup → ℕ
-gone end (Bound s) = s + 1
-gone end Unbound = end
+abbrev gone : ℕ → Option ℕ → ℕ
+gone end (Some s) = s + 1
+gone end None = end
 
-gone_all : (found : Lookup) → gone (0 + stream_count) found ≡ gone_through found
-gone_all (Bound s) = refl
-gone_all Unbound = refl
+gone_all : (found : Option ℕ) → gone (0 + stream_count) found ≡ gone_through found
+gone_all (Some s) = refl
+gone_all None = refl
 
 sum_more : (f : ℕ → ℕ) (n : ℕ) → sum_to f (n + 1) ≡ sum_to f n + f n
 unfolding sum_to
@@ -218,8 +226,8 @@ sum_more f n = let one : n + 1 ≡ suc n = omega arith in rw one
 counted_on : (octets : ℕ → ℕ) (s n compared : ℕ) (here : Comparison) (later : Answer) (matched : Bool)
     → here.compared ≡ compared + octets s
     → sum_to octets (s + 1) + later.compared ≡ here.compared + sum_to octets (gone (s + 1 + n) later.found)
-    → sum_to octets s + (cond matched (record { found = Bound s; compared = here.compared }) later).compared
-    ≡ compared + sum_to octets (gone (s + suc n) (cond matched (record { found = Bound s; compared = here.compared }) later).found)
+    → sum_to octets s + (cond matched (record { found = Some s; compared = here.compared }) later).compared
+    ≡ compared + sum_to octets (gone (s + suc n) (cond matched (record { found = Some s; compared = here.compared }) later).found)
 counted_on octets s n compared here later true one rest = let more : sum_to octets (s + 1) ≡ sum_to octets s + octets s = sum_more octets s in omega (arith, one, more)
 counted_on octets s n compared here later false one rest =
     let end : s + suc n ≡ s + 1 + n = omega arith in
@@ -252,7 +260,7 @@ Within s n compared answer =
 
 within_on : (s n compared : ℕ) (here : Comparison) (later : Answer) (matched : Bool) → here.compared ≤ compared + address_length
     → (matched ≡ true → here.compared ≡ compared + address_length) → Within (s + 1) n here.compared later
-    → Within s (suc n) compared (cond matched (record { found = Bound s; compared = here.compared }) later)
+    → Within s (suc n) compared (cond matched (record { found = Some s; compared = here.compared }) later)
 within_on s n compared here later true most whole rest = (omega (arith, most), λ is. omega (arith, whole refl))
 within_on s n compared here later false most whole rest = let end : s + suc n ≡ s + 1 + n = omega arith in rw end (omega (arith, most, rest.0), rest.1)
 
@@ -276,18 +284,18 @@ beyond from t a o = ⊎_elim (λ (e : t ≤ from). absurd (o (omega arith))) (λ
 
 module _ (f : ℕ → Bool) where
   -- what an answer says of the n streams from `from` on: the stream found is the first that the test is true of; where none is found, it is true of none
-  abbrev Right : ℕ → ℕ → Lookup → Type 0
-  Right from n (Bound s) = (from ≤ s) × ((s < from + n) × ((f s ≡ true) × ((t : ℕ) → from ≤ t → t < s → f t ≡ false)))
-  Right from n Unbound = (t : ℕ) → from ≤ t → t < from + n → f t ≡ false
+  abbrev Right : ℕ → ℕ → Option ℕ → Type 0
+  Right from n (Some s) = (from ≤ s) × ((s < from + n) × ((f s ≡ true) × ((t : ℕ) → from ≤ t → t < s → f t ≡ false)))
+  Right from n None = (t : ℕ) → from ≤ t → t < from + n → f t ≡ false
 
   -- the test is not true of a stream that is passed over, nor of those of which that is known
   one_more : (from t : ℕ) → f from ≡ false → ((t ≡ from → ⊥) → f t ≡ false) → f t ≡ false
   one_more from t here other = ⊎_elim (λ (e : t ≡ from). ap f e ∙ here) other (eq_or_not t from)
 
-  in_front : (from n : ℕ) (found : Lookup) → f from ≡ false → Right (from + 1) n found → Right from (suc n) found
-  in_front from n (Bound s) not-here right =
+  in_front : (from n : ℕ) (found : Option ℕ) → f from ≡ false → Right (from + 1) n found → Right from (suc n) found
+  in_front from n (Some s) not-here right =
       (omega (arith, right.0), (omega (arith, right.1.0), (right.1.1.0, λ t a b. one_more from t not-here (λ o. right.1.1.1 t (beyond from t a o) b))))
-  in_front from n Unbound not-here right = λ t a b. one_more from t not-here (λ o. right t (beyond from t a o) (omega (arith, b)))
+  in_front from n None not-here right = λ t a b. one_more from t not-here (λ o. right t (beyond from t a o) (omega (arith, b)))
 
   right_from : (n from : ℕ) → Right from n (first_from f from n)
   unfolding first_from
@@ -295,7 +303,7 @@ module _ (f : ℕ → Bool) where
   right_from (suc n) from = told (f from) refl (right_from n (from + 1))
     where
       told : (b : Bool) → f from ≡ b → Right (from + 1) n (first_from f (from + 1) n)
-          → Right from (suc n) (cond b (Bound from) (first_from f (from + 1) n))
+          → Right from (suc n) (cond b (Some from) (first_from f (from + 1) n))
       told true e later = (omega arith, (omega arith, (e, λ t a b. absurd (omega arith))))
       told false e later = in_front from n (first_from f (from + 1) n) e later
 
@@ -306,30 +314,30 @@ module _ (p address : List ℕ) (vid : ℕ) where
   right = subst (Right (bound_to p address vid) 0 stream_count) (sym (finds_same p address vid)) (right_from (bound_to p address vid) stream_count 0)
 
   -- the stream found is bound to the pair, and no stream before it is
-  pub finds : (s : ℕ) → (lookup p address vid).found ≡ Bound s
+  pub finds : (s : ℕ) → (lookup p address vid).found ≡ Some s
       → (s < stream_count) × ((bound_to p address vid s ≡ true) × ((t : ℕ) → t < s → bound_to p address vid t ≡ false))
   finds s e =
       let all = subst (Right (bound_to p address vid) 0 stream_count) e right in
       (omega (arith, all.1.0), (all.1.1.0, λ t b. all.1.1.1 t (omega arith) b))
 
   -- and where none is found, none is bound to it
-  pub finds_none : (lookup p address vid).found ≡ Unbound → (t : ℕ) → t < stream_count → bound_to p address vid t ≡ false
+  pub finds_none : (lookup p address vid).found ≡ None → (t : ℕ) → t < stream_count → bound_to p address vid t ≡ false
   finds_none e t b = subst (Right (bound_to p address vid) 0 stream_count) e right t (omega arith) (omega arith)
 
   -- so is a pair that the lookup says is free
   pub free_pair : is_bound (lookup p address vid).found ≡ false → (t : ℕ) → t < stream_count → bound_to p address vid t ≡ false
   free_pair free = told (lookup p address vid).found refl free
     where
-      told : (found : Lookup) → (lookup p address vid).found ≡ found → is_bound found ≡ false → (t : ℕ) → t < stream_count → bound_to p address vid t ≡ false
-      told (Bound s) e is = let z : ◌≡◌ {A = ℕ} 0 1 = cc in absurd (omega arith)
-      told Unbound e is = finds_none e
+      told : (found : Option ℕ) → (lookup p address vid).found ≡ found → is_bound found ≡ false → (t : ℕ) → t < stream_count → bound_to p address vid t ≡ false
+      told (Some s) e is = let z : ◌≡◌ {A = ℕ} 0 1 = cc in absurd (omega arith)
+      told None e is = finds_none e
 
   -- a stream that is bound to it is found, if no other is
   pub finds_only : (s : ℕ) → s < stream_count → bound_to p address vid s ≡ true
       → ((t : ℕ) → t < stream_count → bound_to p address vid t ≡ true → t ≡ s)
-      → (lookup p address vid).found ≡ Bound s
+      → (lookup p address vid).found ≡ Some s
   finds_only s below is only = told (lookup p address vid).found refl
     where
-      told : (found : Lookup) → (lookup p address vid).found ≡ found → found ≡ Bound s
-      told (Bound t) e = let f = finds t e in ap Bound (only t f.0 f.1.0)
-      told Unbound e = let z : ◌≡◌ {A = Bool} true false = sym is ∙ finds_none e s below in let y : ◌≡◌ {A = ℕ} 0 1 = cc in absurd (omega arith)
+      told : (found : Option ℕ) → (lookup p address vid).found ≡ found → found ≡ Some s
+      told (Some t) e = let f = finds t e in ap Some (only t f.0 f.1.0)
+      told None e = let z : ◌≡◌ {A = Bool} true false = sym is ∙ finds_none e s below in let y : ◌≡◌ {A = ℕ} 0 1 = cc in absurd (omega arith)

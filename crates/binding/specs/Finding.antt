@@ -1,14 +1,12 @@
 -- The lookup: the stream that is bound to a pair of address and VID, with the number of address octets compared on the way, and so the stream of a frame
 -- by its header.
-use Rattle.std.specs.Prelude.{ℕ, zero, suc, ◌+◌, Bool, true, false, ◌&&◌, cond, List, get_or, eqb}
+use Rattle.std.specs.Prelude.{ℕ, zero, suc, ◌+◌, Bool, true, false, ◌&&◌, cond, List, get_or, eqb, Option, Some, None}
 use Rattle.stream.specs.declared.Reply.{Reply}
 use Rattle.stream.specs.Replies.{granted}
 use Rattle.queue.specs.Place.{best_effort_stream}
 use Rattle.record.specs.Layout.{stream_count, address_length}
 use Rattle.record.specs.Entry.{bound_at, vid_at, address_at}
 use Rattle.header.specs.Header.{tagged_frame, vid_of}
-use Rattle.binding.specs.declared.Lookup.{Lookup}
-use Rattle.binding.specs.declared.Lookup.TheVariants.{Bound, Unbound}
 use Rattle.binding.specs.declared.Comparison.{Comparison}
 use Rattle.binding.specs.declared.Answer.{Answer}
 
@@ -28,29 +26,29 @@ compared_at p address vid s compared =
 
 -- the n streams from s on: "go through the bindings by rising stream up to the one that matches"
 unfoldable pub lookup_from : List ℕ → List ℕ → ℕ → ℕ → ℕ → ℕ → Answer
-lookup_from p address vid s zero compared = record { found = Unbound; compared = compared }
+lookup_from p address vid s zero compared = record { found = None; compared = compared }
 lookup_from p address vid s (suc n) compared =
     let here = compared_at p address vid s compared in
-    cond here.equal (record { found = Bound s; compared = here.compared }) (lookup_from p address vid (s + 1) n here.compared)
+    cond here.equal (record { found = Some s; compared = here.compared }) (lookup_from p address vid (s + 1) n here.compared)
 
 -- the lookup of an address and a VID: what it finds, and "beside the stream [..] exactly the number of address octets so compared"
 unfoldable pub lookup : List ℕ → List ℕ → ℕ → Answer
 lookup p address vid = lookup_from p address vid 0 stream_count 0
 
 -- whether a stream is found
-abbrev pub is_bound : Lookup → Bool
-is_bound (Bound s) = true
-is_bound Unbound = false
+abbrev pub is_bound : Option ℕ → Bool
+is_bound (Some s) = true
+is_bound None = false
 
 -- the answer as a reply: the stream, or best effort's where none is bound to the pair, and the number of octets compared
-abbrev pub stream_found : Lookup → ℕ
-stream_found (Bound s) = s
-stream_found Unbound = best_effort_stream
+abbrev pub stream_found : Option ℕ → ℕ
+stream_found (Some s) = s
+stream_found None = best_effort_stream
 
 abbrev pub lookup_reply : Answer → Reply
 lookup_reply answer = granted (stream_found answer.found) answer.compared
 
 -- the stream of a frame: "octets 0 to 5 are the destination. If octets 12 and 13 are 81 00 (hexadecimal), the VID is [..]"; without a VID there is
 -- no pair
-unfoldable pub frame_lookup : List ℕ → List ℕ → Lookup
-frame_lookup p f = cond (tagged_frame f) (lookup p f (vid_of f)).found Unbound
+unfoldable pub frame_lookup : List ℕ → List ℕ → Option ℕ
+frame_lookup p f = cond (tagged_frame f) (lookup p f (vid_of f)).found None

@@ -3,7 +3,7 @@ use Prim.Native.Nat.{◌+◌, ◌<◌, ◌≤◌, ℕ}
 use mathlib.Core.Path.{◌≡◌}
 use mathlib.Core.List.{List, [], ◌∷◌}
 use native.Mathlib.Omega.{arith}
-use lib.ListN.{length, length-append}
+use lib.ListN.{length, length-append, length-set}
 use Rattle.capture.specs.Output.{line_bound}
 use Rattle.text.proofs.LineLaws.{length_number}
 use Rattle.text.specs.Lines.{end_before, line_feed, line_of, number_then, space}
@@ -47,3 +47,5 @@ length_refusal_lem number index n i =
       length_number 2 number space (omega arith),
       length_number 4 index line_feed (omega arith),
     )
+
+pub ruleset refused_steps = (length_refusal_lem, length-set)

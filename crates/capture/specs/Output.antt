@@ -4,9 +4,8 @@ use Rattle.lists.specs.Window.{put}
 use Rattle.stream.specs.declared.Reply.{Reply}
 use Rattle.stream.specs.Replies.{granted, refused_by}
 use Rattle.text.specs.Lines.{space, line_of}
-use Rattle.capture_file.specs.declared.FileRefusal.{FileRefusal}
 use Rattle.capture_file.specs.File.{port_count, record_octets}
-use Rattle.capture_file.specs.Checks.{most_octets, file_refusal}
+use Rattle.capture_file.specs.Checks.{FileRefusal, most_octets, file_refusal}
 use Rattle.capture.specs.Events.{port_text}
 
 -- "port after port": the lines of the ports below n

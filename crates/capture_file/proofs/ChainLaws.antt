@@ -8,9 +8,8 @@ use mathlib.Core.List.{List, [], ◌∷◌}
 use native.Mathlib.Omega.{arith}
 use borrow.Author.Tests.{eq-eqb, ltb-true, ne_eqb}
 use lib.Dec.{eqb, ltb}
-use Rattle.capture_file.specs.Checks.{all_good, chain_refusal, first_refusal, next_good, record_good, record_refusal, refused_at}
+use Rattle.capture_file.specs.Checks.{FileRefusal, all_good, chain_refusal, first_refusal, next_good, record_good, record_refusal, refused_at}
 use Rattle.capture_file.specs.File.{chain_within, most_events, next_of, record_count}
-use Rattle.capture_file.specs.declared.FileRefusal.{FileRefusal}
 use Rattle.lists.proofs.Order.{eq_or_not}
 use Rattle.lists.proofs.TurnLaws.{both}
 
@@ -188,3 +187,5 @@ walk_stops f first i some has bad (suc n, (enough, same)) = sym (chain_stops f n
 -- a walk that has come to the chain's end has found nothing refused
 pub walk_ends : (f : List ℕ) (first : ℕ) → Walk f first 0 → all_good ≡ chain_refusal f (most_events f) first
 walk_ends f first (n, (enough, same)) = sym (chain_ends f n) ∙ same
+
+pub ruleset walk_steps = (walk_begins, walk_stops, walk_ends)

@@ -1,5 +1,5 @@
 -- What is true of a file, a port and a record of which nothing is refused. Assumes nothing.
-use Prim.Native.Nat.{◌%◌, ◌+◌, ◌<◌, ◌≤◌, suc, zero, ℕ}
+use Prim.Native.Nat.{◌%◌, ◌+◌, ◌-◌, ◌<◌, ◌≤◌, suc, zero, ℕ}
 use mathlib.Core.Path.{◌∙◌, ◌≡◌, ap, refl, sym}
 use mathlib.Core.Bool.{Bool, ◌||◌, cond, false, not, true}
 use mathlib.Core.Logic.{⊎_elim}
@@ -9,9 +9,8 @@ use lib.ListN.{length}
 use borrow.Author.Tests.{leb-true, ltb-true, ne_eqb}
 use lib.Dec.{eqb, leb, ltb}
 use Rattle.capture_file.proofs.ChainLaws.{first_passes, first_stands}
-use Rattle.capture_file.specs.Checks.{chain_refusal, fields_good, first_good, header_good, length_good, most_octets, port_refusal, ports_refusal, record_good, file_refusal, refused_at}
+use Rattle.capture_file.specs.Checks.{FileRefusal, all_good, chain_refusal, fields_good, first_good, header_good, length_good, most_octets, port_refusal, ports_refusal, record_good, file_refusal, refused_at}
 use Rattle.capture_file.specs.File.{first_of, kind_of, most_events, number_a, number_b, port_count, record_count, record_octets, stream_octet_of}
-use Rattle.capture_file.specs.declared.FileRefusal.{FileRefusal}
 use Rattle.lists.proofs.Order.{eq_or_not, le_or_lt}
 use Rattle.lists.proofs.TurnLaws.{both}
 
@@ -58,6 +57,24 @@ ports_stop f q n bad = first_stands _ _ bad
 pub ports_go_on : (f : List ℕ) (q n : ℕ) → (port_refusal f q).number ≡ 0 → ports_refusal f q (suc n) ≡ ports_refusal f (q + 1) n
 unfolding ports_refusal
 ports_go_on f q n good = first_passes _ _ good
+
+-- after the last port nothing is refused
+pub ports_end : (f : List ℕ) (q : ℕ) → port_count ≤ q → ports_refusal f q (port_count - q) ≡ all_good
+unfolding ports_refusal
+ports_end f q h = let none : port_count - q ≡ 0 = omega (arith, h) in ap (ports_refusal f q) none
+
+-- the ports from this one on, where it is refused and where it is not
+pub ports_stop_at : (f : List ℕ) (q : ℕ) → q < port_count → ((port_refusal f q).number ≡ 0 → ⊥) → ports_refusal f q (port_count - q) ≡ port_refusal f q
+ports_stop_at f q h bad =
+    let more : port_count - q ≡ suc (port_count - (q + 1)) = omega (arith, h) in
+    ap (ports_refusal f q) more ∙ ports_stop f q (port_count - (q + 1)) bad
+
+pub ports_go_on_at : (f : List ℕ) (q : ℕ) → q < port_count → (port_refusal f q).number ≡ 0 → ports_refusal f q (port_count - q) ≡ ports_refusal f (q + 1) (port_count - (q + 1))
+ports_go_on_at f q h good =
+    let more : port_count - q ≡ suc (port_count - (q + 1)) = omega (arith, h) in
+    ap (ports_refusal f q) more ∙ ports_go_on f q (port_count - (q + 1)) good
+
+pub ruleset ports_steps = (ports_end, ports_stop_at, ports_go_on_at)
 
 -- what is true of a file of which nothing is refused
 pub file_passed : (f : List ℕ) → (file_refusal f).number ≡ 0 → (length_good f ≡ true) × ((ports_refusal f 0 port_count).number ≡ 0)

@@ -1,8 +1,12 @@
 -- What of a capture file is refused: "All checks of the file come before any event". The orders are document 01's.
 use Rattle.std.specs.Prelude.{ℕ, zero, suc, ◌+◌, ◌%◌, Bool, true, false, not, cond, ◌&&◌, ◌||◌, List, length, leb, ltb, eqb}
 use Rattle.lists.specs.Equal.{octets_equal}
-use Rattle.capture_file.specs.declared.FileRefusal.{FileRefusal}
 use Rattle.capture_file.specs.File.{record_octets, record_count, port_count, letters, letters_of, first_of, kind_of, stream_octet_of, next_of, number_a, number_b, open_kind, reserve_kind, arrive_kind, best_effort_kind, tick_kind, transmit_kind, withdraw_kind, best_effort_octet, end_of, most_events}
+
+-- a refusal of a file: its number, or 0 where nothing is refused, and the index of the record
+pub record FileRefusal : Type 0 where
+  pub number : ℕ
+  pub index : ℕ
 
 -- a refusal names "the record index (0 for the whole file or the header)"
 abbrev pub refused_at : ℕ → ℕ → FileRefusal

@@ -20,8 +20,6 @@ pub extern "C" fn bunnysolder_stream_arrive(
 ) -> u8
     ensures { (handed result first.new second.new ≡ reply_of (arrive_of (least_queues - 1) stream.old charge)) × (stream.new ≡ stream_of (arrive_of (least_queues - 1) stream.old charge)) }
 {
-    let reply = stream.receive(LAST, charge).reply();
-    *first = reply.first;
-    *second = reply.second;
-    reply.refusal
+    let answer = stream.receive(LAST, charge).answer();
+    crate::hand(answer, first, second)
 }

@@ -7,6 +7,7 @@ pub mod alone;
 pub mod unscanned;
 
 ghost use Rattle.std.specs.Prelude.{◌≡◌};
+ghost use Rattle.stream.specs.Replies.{answered};
 ghost use Rattle.steps.specs.Call.{terms, opening, reserving, withdrawing, arriving, ticking, transmitting, joining_best_effort, binding, framing};
 ghost use Rattle.steps.specs.Outcome.{outcome};
 ghost use Rattle.registers.specs.Calls.{port_call};
@@ -14,6 +15,19 @@ ghost use Rattle.registers.specs.Accesses.{register_read, register_write};
 ghost use Rattle.registers.specs.StreamCounts.{port_counts};
 ghost use Rattle.registers.specs.PortLookup.{port_lookup};
 ghost use Rattle.exports.specs.Handed.{handed};
+
+use port::Scanned;
+use stream::{Numbers, Refusal, Reply};
+
+// Hands over an answer: the refusal's number, or 0, is returned, and the two numbers are left in `first` and `second`.
+fn hand(answer: Result<Numbers, Refusal>, first: &mut u32, second: &mut u32) -> u8
+    ensures { handed result first.new second.new ≡ answered answer }
+{
+    let reply = Reply::from(answer);
+    *first = reply.first;
+    *second = reply.second;
+    reply.refusal
+}
 
 // Open(L, K).
 #[unsafe(no_mangle)]
@@ -27,10 +41,8 @@ pub extern "C" fn bunnysolder_open(
 ) -> u8
     ensures { outcome (handed result first.new second.new) port.new memory.now ≡ port_call (opening (terms link delay)) port.old memory.now }
 {
-    let reply = registers::open_port(port, memory, link, delay);
-    *first = reply.first;
-    *second = reply.second;
-    reply.refusal
+    let answer = registers::open_port::<Scanned>(port, memory, link, delay);
+    hand(answer, first, second)
 }
 
 // Reserve(s, P).
@@ -45,10 +57,8 @@ pub extern "C" fn bunnysolder_reserve(
 ) -> u8
     ensures { outcome (handed result first.new second.new) port.new memory.now ≡ port_call (reserving stream permitted) port.old memory.now }
 {
-    let reply = registers::reserve(port, memory, stream, permitted);
-    *first = reply.first;
-    *second = reply.second;
-    reply.refusal
+    let answer = registers::reserve::<Scanned>(port, memory, stream, permitted);
+    hand(answer, first, second)
 }
 
 // Withdraw(s).
@@ -62,10 +72,8 @@ pub extern "C" fn bunnysolder_withdraw(
 ) -> u8
     ensures { outcome (handed result first.new second.new) port.new memory.now ≡ port_call (withdrawing stream) port.old memory.now }
 {
-    let reply = registers::withdraw(port, memory, stream);
-    *first = reply.first;
-    *second = reply.second;
-    reply.refusal
+    let answer = registers::withdraw::<Scanned>(port, memory, stream);
+    hand(answer, first, second)
 }
 
 // Arrive(s, a, tag).
@@ -81,10 +89,8 @@ pub extern "C" fn bunnysolder_arrive(
 ) -> u8
     ensures { outcome (handed result first.new second.new) port.new memory.new ≡ port_call (arriving stream charge tag) port.old memory.old }
 {
-    let reply = registers::arrive(port, memory, stream, charge, tag);
-    *first = reply.first;
-    *second = reply.second;
-    reply.refusal
+    let answer = registers::arrive::<Scanned>(port, memory, stream, charge, tag);
+    hand(answer, first, second)
 }
 
 // Tick.
@@ -97,10 +103,8 @@ pub extern "C" fn bunnysolder_tick(
 ) -> u8
     ensures { outcome (handed result first.new second.new) port.new memory.now ≡ port_call ticking port.old memory.now }
 {
-    let reply = registers::tick(port, memory);
-    *first = reply.first;
-    *second = reply.second;
-    reply.refusal
+    let answer = registers::tick::<Scanned>(port, memory);
+    hand(answer, first, second)
 }
 
 // Transmit.
@@ -113,10 +117,8 @@ pub extern "C" fn bunnysolder_transmit(
 ) -> u8
     ensures { outcome (handed result first.new second.new) port.new memory.now ≡ port_call transmitting port.old memory.now }
 {
-    let reply = registers::transmit(port, memory);
-    *first = reply.first;
-    *second = reply.second;
-    reply.refusal
+    let answer = registers::transmit::<Scanned>(port, memory);
+    hand(answer, first, second)
 }
 
 // Best effort(a, tag).
@@ -131,10 +133,8 @@ pub extern "C" fn bunnysolder_best_effort(
 ) -> u8
     ensures { outcome (handed result first.new second.new) port.new memory.new ≡ port_call (joining_best_effort charge tag) port.old memory.old }
 {
-    let reply = registers::best_effort(port, memory, charge, tag);
-    *first = reply.first;
-    *second = reply.second;
-    reply.refusal
+    let answer = registers::best_effort::<Scanned>(port, memory, charge, tag);
+    hand(answer, first, second)
 }
 
 // Bind(s, address, VID).
@@ -150,10 +150,8 @@ pub extern "C" fn bunnysolder_bind(
 ) -> u8
     ensures { outcome (handed result first.new second.new) port.new memory.now ≡ port_call (binding stream address.now vid) port.old memory.now }
 {
-    let reply = registers::bind(port, memory, stream, address, vid);
-    *first = reply.first;
-    *second = reply.second;
-    reply.refusal
+    let answer = registers::bind::<Scanned>(port, memory, stream, address, vid);
+    hand(answer, first, second)
 }
 
 // Frame(octets, tag).
@@ -168,10 +166,8 @@ pub extern "C" fn bunnysolder_frame(
 ) -> u8
     ensures { outcome (handed result first.new second.new) port.new memory.new ≡ port_call (framing octets.now tag) port.old memory.old }
 {
-    let reply = registers::frame(port, memory, octets, tag);
-    *first = reply.first;
-    *second = reply.second;
-    reply.refusal
+    let answer = registers::frame::<Scanned>(port, memory, octets, tag);
+    hand(answer, first, second)
 }
 
 // A read of the register at an offset.
@@ -185,10 +181,8 @@ pub extern "C" fn bunnysolder_register_read(
 ) -> u8
     ensures { outcome (handed result first.new second.new) port.now memory.now ≡ register_read offset port.now memory.now }
 {
-    let reply = registers::accesses::read(port, memory, offset);
-    *first = reply.first;
-    *second = reply.second;
-    reply.refusal
+    let answer = registers::accesses::read::<Scanned>(port, memory, offset);
+    hand(answer, first, second)
 }
 
 // A write to the register at an offset.
@@ -203,10 +197,8 @@ pub extern "C" fn bunnysolder_register_write(
 ) -> u8
     ensures { outcome (handed result first.new second.new) port.new memory.now ≡ register_write offset value port.old memory.now }
 {
-    let reply = registers::accesses::write(port, memory, offset, value);
-    *first = reply.first;
-    *second = reply.second;
-    reply.refusal
+    let answer = registers::accesses::write::<Scanned>(port, memory, offset, value);
+    hand(answer, first, second)
 }
 
 // The accepted frames and the discards of a stream.
@@ -219,10 +211,8 @@ pub extern "C" fn bunnysolder_stream_counts(
 ) -> u8
     ensures { handed result first.new second.new ≡ port_counts stream port.now }
 {
-    let reply = registers::counts::of_stream(port, stream);
-    *first = reply.first;
-    *second = reply.second;
-    reply.refusal
+    let answer = registers::counts::of_stream(port, stream);
+    hand(answer, first, second)
 }
 
 // The lookup of the pair of an address and a VID.
@@ -236,8 +226,6 @@ pub extern "C" fn bunnysolder_lookup(
 ) -> u8
     ensures { handed result first.new second.new ≡ port_lookup address.now vid port.now }
 {
-    let reply = registers::lookup::of_pair(port, address, vid);
-    *first = reply.first;
-    *second = reply.second;
-    reply.refusal
+    let answer = registers::lookup::of_pair(port, address, vid);
+    hand(answer, first, second)
 }

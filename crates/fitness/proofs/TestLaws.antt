@@ -1,15 +1,23 @@
--- The tests of one queue and of one stream as bounds, and back. Assumes nothing.
-use Prim.Native.Nat.{ℕ, ◌+◌, ◌≤◌, ◌<◌}
-use mathlib.Core.Path.{◌≡◌, refl, ap₂}
+-- The tests of one queue and of one stream as bounds, and back; and loops of tests and sums, turn by turn. Assumes nothing.
+use Prim.Native.Nat.{ℕ, zero, suc, ◌+◌, ◌≤◌, ◌<◌}
+use mathlib.Core.Path.{◌≡◌, refl, sym, ap, ap₂, ◌∙◌}
 use mathlib.Core.Bool.{Bool, true, false, ◌&&◌, cond}
+use mathlib.Core.List.{List}
+use mathlib.Core.Logic.{⊎_elim}
+use native.Mathlib.Nat.{eq-or-lt_of_le}
 use native.Mathlib.Omega.{arith}
 use lib.Dec.{leb, ltb}
 use borrow.Author.Tests.{leb-true, ltb-true, le-leb, lt-ltb}
-use Rattle.lists.proofs.TurnLaws.{both}
+use native.Mathlib.Numerals.{add-one}
+use Rattle.lists.specs.Turns.{all_to, sum_to, all_of}
+use Rattle.lists.proofs.TurnLaws.{both, all_to_list}
 use Rattle.stream.specs.declared.Stream.{Stream}
 use Rattle.stream.specs.State.{current_place, StreamFit}
+use Rattle.queue.specs.declared.Frame.{Frame}
 use Rattle.queue.specs.declared.Queue.{Queue}
-use Rattle.queue.specs.Ring.{place_count}
+use Rattle.queue.specs.Place.{frame_at}
+use Rattle.queue.specs.Ring.{place_count, memory_offset}
+use Rattle.queue.specs.Waiting.{waiting}
 use Rattle.ranges.specs.Ranges.{within}
 use Rattle.ranges.proofs.RangeLaws.{within_bounds}
 use Rattle.fitness.specs.Clauses.{queue_fits, stream_fits}
@@ -61,3 +69,46 @@ lower_fits last s drain less lower h = told s.reserved refl
     told : (b : Bool) → s.reserved ≡ b → stream_fits last s less ≡ true
     told true e = fit_stream last s less (stream_fit last s drain e h) (omega (arith, drain_fit last s drain e h))
     told false e = free_fits last s less e
+
+-- what a loop that tests each number below n has before its first turn, and after one turn more
+pub all_to_start : (f : ℕ → Bool) → all_to f 0 ≡ true
+unfolding all_to
+all_to_start f = refl
+
+pub all_to_turn : (f : ℕ → Bool) (n : ℕ) → all_to f (n + 1) ≡ (all_to f n && f n)
+unfolding all_to
+all_to_turn f n = rw (add-one n) (swapped (f n) (all_to f n))
+  where
+    swapped : (a b : Bool) → (a && b) ≡ (b && a)
+    swapped true true = refl
+    swapped true false = refl
+    swapped false true = refl
+    swapped false false = refl
+
+-- a test of the frames that wait, by their places
+pub all_waiting : (f : Frame → Bool) (m : List ℕ) (number : ℕ) (q : Queue) → all_of f (waiting m number q) ≡ all_to (λ k. f (frame_at m (memory_offset number q k))) q.count
+unfolding waiting
+all_waiting f m number q = sym (all_to_list f (λ k. frame_at m (memory_offset number q k)) q.count)
+
+-- a test that fails at a number fails of all
+pub all_to_false : (f : ℕ → Bool) (n k : ℕ) → k < n → f k ≡ false → all_to f n ≡ false
+unfolding all_to
+all_to_false f zero k below fails = absurd (omega arith)
+all_to_false f (suc n) k below fails =
+    ⊎_elim
+    (λ (q : k ≡ n). rw (sym (ap f q) ∙ fails) refl)
+    (λ (l : k < n). rw (all_to_false f n k l fails) (fails_after (f n)))
+    (eq-or-lt_of_le (omega arith))
+  where
+    fails_after : (b : Bool) → (b && false) ≡ false
+    fails_after true = refl
+    fails_after false = refl
+
+-- the same of a loop that sums
+pub sum_to_start : (f : ℕ → ℕ) → sum_to f 0 ≡ 0
+unfolding sum_to
+sum_to_start f = refl
+
+pub sum_to_turn : (f : ℕ → ℕ) (n : ℕ) → sum_to f (n + 1) ≡ sum_to f n + f n
+unfolding sum_to
+sum_to_turn f n = rw add-one refl

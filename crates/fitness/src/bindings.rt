@@ -1,76 +1,63 @@
 // The clause of 19 on the bindings. The pairs of the bound streams are gathered, by their numbers, as the scan goes, and each binding is compared with
 // those gathered before it, so that nothing of an unbound stream is read but that it is unbound.
-ghost use Rattle.std.specs.Prelude.{◌≡◌, not, cond, ◌+◌, ◌≤◌, ◌<◌, length, get_or, set, eqb};
-ghost use Rattle.lists.specs.Turns.{all_to};
+ghost use Rattle.std.specs.Prelude.{◌≡◌, not, cond, ◌<◌, ◌∷◌, [], ◌++◌, eqb};
+ghost use Rattle.arrayvec.specs.ArrayVec.{array_vec_len};
+ghost use Rattle.std.specs.List.{list_all};
 ghost use Rattle.record.specs.Layout.{Whole, stream_count};
 ghost use Rattle.record.specs.Entry.{bound_at};
 ghost use Rattle.record.specs.PairNumber.{pair_at};
 ghost use Rattle.fitness.specs.Clauses.{binding_fits, bindings_fit};
 
-// Whether none of the first `count` pairs is this one.
-fn unlike(pairs: &[u64], count: usize, pair: u64) -> bool
-    requires { count ≤ length pairs.now }
-    ensures { result ≡ all_to (λ i. not (eqb (get_or pairs.now i 0) pair)) count }
+use arrayvec::ArrayVec;
+
+// The pairs at most, one for each stream.
+const PAIRS: usize = record::STREAMS as usize;
+
+// Whether none of these pairs is this one. All are looked at, since several are then compared at a time.
+#[tactic(auto, using(std::proofs::lemmas::List::Folds::list_all_more))]
+fn unlike(pairs: &[u64], pair: u64) -> bool
+    ensures { result ≡ list_all (λ gathered. not (eqb gathered pair)) pairs.now }
 {
     let mut ok = true;
-    let mut i: usize = 0;
-    while i < count {
-        ok = crate::both(pairs[i] != pair, ok);
-        i += 1;
+    for gathered in pairs {
+        ok &= *gathered != pair;
     }
     ok
 }
 
 // Whether the stream's binding, if it has one, fits, with the pairs of the bindings before it.
-fn binding_fits(port: &[u8], stream: u8, pairs: &[u64], count: usize) -> bool
-    requires { Whole port.now × ((stream < stream_count) × (count ≤ length pairs.now)) }
-    ensures { result ≡ binding_fits port.now stream (all_to (λ i. not (eqb (get_or pairs.now i 0) (pair_at port.now stream))) count) }
+fn binding_fits(port: &[u8], stream: u8, pairs: &[u64]) -> bool
+    requires { Whole port.now × (stream < stream_count) }
+    ensures { result ≡ binding_fits port.now stream (list_all (λ gathered. not (eqb gathered (pair_at port.now stream))) pairs.now) }
 {
-    if !record::entry::is_bound(port, stream) {
-        return true;
-    }
-    if !record::entry::stream_at(port, stream).reserved {
-        return false;
-    }
-    if !ranges::vid_fits(record::entry::vid(port, stream) as u32) {
-        return false;
-    }
-    unlike(pairs, count, record::entry::pair(port, stream))
+    !record::entry::is_bound(port, stream)
+        || (record::entry::stream_at(port, stream).reserved
+            && ranges::vid_fits(record::entry::vid(port, stream) as u32)
+            && unlike(pairs, record::entry::pair(port, stream)))
 }
 
-// Adds the stream's pair, if it is bound, to the first `count`, and returns how many there are then.
-fn gather(port: &[u8], stream: u8, pairs: &mut [u64], count: usize) -> usize
-    requires { Whole port.now × ((stream < stream_count) × (count < length pairs.old)) }
-    ensures { (result ≡ cond (bound_at port.now stream) (count + 1) count) × (pairs.new ≡ cond (bound_at port.now stream) (set pairs.old count (pair_at port.now stream)) pairs.old) }
+// Adds the stream's pair, if it is bound.
+fn gather(port: &[u8], stream: u8, pairs: &mut ArrayVec<u64, PAIRS>)
+    requires { Whole port.now × ((stream < stream_count) × (array_vec_len pairs.old < stream_count)) }
+    ensures { pairs.new.items ≡ cond (bound_at port.now stream) (pairs.old.items ++ (pair_at port.now stream ∷ [])) pairs.old.items }
 {
-    if !record::entry::is_bound(port, stream) {
-        return count;
+    if record::entry::is_bound(port, stream) {
+        pairs.push(record::entry::pair(port, stream));
     }
-    pairs[count] = record::entry::pair(port, stream);
-    count + 1
-}
-
-// Whether every binding fits, with room for the pairs.
-fn scan(port: &[u8], pairs: &mut [u64]) -> bool
-    requires { Whole port.now × (stream_count ≤ length pairs.old) }
-    ensures { result ≡ bindings_fit port.now }
-{
-    let mut ok = true;
-    let mut count: usize = 0;
-    let mut s: u8 = 0;
-    while s < record::STREAMS {
-        ok = crate::both(binding_fits(port, s, pairs, count), ok);
-        count = gather(port, s, pairs, count);
-        s += 1;
-    }
-    ok
 }
 
 // Whether every binding fits.
+#[tactic(auto, using(crate::proofs::TestLaws::all_to_start))]
 pub(crate) fn fit(port: &[u8]) -> bool
     requires { Whole port.now }
     ensures { result ≡ bindings_fit port.now }
 {
-    let mut pairs = [0u64; record::STREAMS as usize];
-    scan(port, &mut pairs)
+    let mut pairs = ArrayVec::new();
+    for s in 0..record::STREAMS {
+        if !binding_fits(port, s, pairs.as_slice()) {
+            return false;
+        }
+        gather(port, s, &mut pairs);
+    }
+    true
 }

@@ -9,7 +9,7 @@ ghost use Rattle.fitness.specs.Clauses.{frame_stream_fits, frame_fits, frames_fi
 
 use queue::{Frame, Queue};
 
-// The stream of a best-effort frame.
+// The stream of a best-effort frame. It stays a number: a frame in the memory, and a reply that C is handed, have it so.
 pub const BEST_EFFORT_STREAM: u16 = 255;
 
 // Whether a frame of this stream may wait in the queue of this number, where `best` is that of best effort.
@@ -17,19 +17,17 @@ fn frame_stream_fits(best: u8, number: u8, stream: u16) -> bool
     ensures { result ≡ frame_stream_fits best number stream }
 {
     if number == best {
-        return stream == BEST_EFFORT_STREAM;
+        stream == BEST_EFFORT_STREAM
+    } else {
+        stream < record::STREAMS as u16
     }
-    stream < record::STREAMS as u16
 }
 
 // Whether the frame may wait in the queue of this number.
 fn frame_fits(best: u8, number: u8, frame: Frame) -> bool
     ensures { result ≡ frame_fits best number frame }
 {
-    crate::both(
-        frame_stream_fits(best, number, frame.stream),
-        ranges::charge_fits(frame.charge as u32),
-    )
+    frame_stream_fits(best, number, frame.stream) && ranges::charge_fits(frame.charge as u32)
 }
 
 // Whether every frame that waits in the queue of this number may.
@@ -37,17 +35,7 @@ fn queue_fits(memory: &[u8], best: u8, number: u8, queue: Queue) -> bool
     requires { HasPart memory.now number }
     ensures { result ≡ all_of (frame_fits best number) (waiting memory.now number queue) }
 {
-    let count = queue.count;
-    let mut ok = true;
-    let mut i: u16 = 0;
-    while i < count {
-        ok = crate::both(
-            frame_fits(best, number, queue::frame_at(memory, number, queue, i)),
-            ok,
-        );
-        i += 1;
-    }
-    ok
+    (0..queue.count).all(|i| frame_fits(best, number, queue::frame_at(memory, number, queue, i)))
 }
 
 // Whether every waiting frame may wait where it does.
@@ -56,14 +44,5 @@ pub(crate) fn fit(port: &[u8], memory: &[u8]) -> bool
     ensures { result ≡ frames_fit port.now memory.now }
 {
     let best = record::head::queues(port);
-    let mut ok = true;
-    let mut q: u8 = 0;
-    while q <= best {
-        ok = crate::both(
-            queue_fits(memory, best, q, record::head::queue_at(port, q)),
-            ok,
-        );
-        q += 1;
-    }
-    ok
+    (0..best + 1).all(|q| queue_fits(memory, best, q, record::head::queue_at(port, q)))
 }

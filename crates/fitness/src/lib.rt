@@ -7,26 +7,14 @@ pub mod frames;
 mod queues;
 pub mod streams;
 
-ghost use Rattle.std.specs.Prelude.{◌≡◌, ◌&&◌};
+ghost use Rattle.std.specs.Prelude.{◌≡◌};
+ghost use Rattle.stream.specs.Replies.{refusal_number};
 ghost use Rattle.record.specs.Layout.{Whole};
 ghost use Rattle.record.specs.Queues.{HasMemory};
 ghost use Rattle.fitness.specs.Clauses.{prior_fits, waits_fit, plan_fits, open_fits};
 ghost use Rattle.fitness.specs.Fit.{record_fits, lent_refusal};
 
-// The refusals of a memory that is too short and of a record that is unfit.
-pub const SHORT_MEMORY: u8 = 18;
-
-pub const UNFIT_RECORD: u8 = 19;
-
-// Whether both hold.
-fn both(one: bool, other: bool) -> bool
-    ensures { result ≡ (one && other) }
-{
-    if one {
-        return other;
-    }
-    false
-}
+use stream::Refusal;
 
 // Whether prior is one of the queues for reserved traffic.
 fn prior_fits(port: &[u8]) -> bool
@@ -51,16 +39,10 @@ fn plan_fits(port: &[u8]) -> bool
     requires { Whole port.now }
     ensures { result ≡ plan_fits port.now }
 {
-    if !ranges::link_fits(record::head::link(port) as u32) {
-        return false;
-    }
-    if !ranges::delay_fits(record::head::delay(port) as u32) {
-        return false;
-    }
-    if !streams::reservations_fit(port) {
-        return false;
-    }
-    streams::permitted_sum(port) <= ranges::share(record::head::link(port))
+    ranges::link_fits(record::head::link(port) as u32)
+        && ranges::delay_fits(record::head::delay(port) as u32)
+        && streams::reservations_fit(port)
+        && streams::permitted_sum(port) <= ranges::share(record::head::link(port))
 }
 
 // The clause on open ports only.
@@ -69,49 +51,38 @@ fn open_fits(port: &[u8]) -> bool
     ensures { result ≡ open_fits port.now }
 {
     if record::head::is_open(port) {
-        return plan_fits(port);
+        plan_fits(port)
+    } else {
+        true
     }
-    true
 }
 
 // Whether the record is fit, clause by clause.
+#[tactic(auto, unfolding(crate::specs::Fit::record_fits))]
 fn record_fits(port: &[u8], memory: &[u8]) -> bool
     requires { HasMemory port.now memory.now }
     ensures { result ≡ record_fits port.now memory.now }
 {
-    if port.len() < record::RECORD_LENGTH {
-        return false;
-    }
-    if !prior_fits(port) {
-        return false;
-    }
-    if !queues::fit(port) {
-        return false;
-    }
-    if !streams::fit(port) {
-        return false;
-    }
-    if !bindings::fit(port) {
-        return false;
-    }
-    if !frames::fit(port, memory) {
-        return false;
-    }
-    if !waits_fit(port, memory) {
-        return false;
-    }
-    open_fits(port)
+    port.len() >= record::RECORD_LENGTH
+        && prior_fits(port)
+        && queues::fit(port)
+        && streams::fit(port)
+        && bindings::fit(port)
+        && frames::fit(port, memory)
+        && waits_fit(port, memory)
+        && open_fits(port)
 }
 
-// The refusal of what the host lends: 18, 19, or 0 where both will do.
-pub fn refusal(port: &[u8], memory: &[u8]) -> u8
-    ensures { result ≡ lent_refusal port.now memory.now }
+// The refusal of what the host lends: 18, 19, or none where both will do.
+#[tactic(auto, unfolding(crate::specs::Fit::lent_refusal))]
+pub fn refusal(port: &[u8], memory: &[u8]) -> Result<(), Refusal>
+    ensures { refusal_number result ≡ lent_refusal port.now memory.now }
 {
     if memory.len() < record::head::memory_length(port) {
-        return SHORT_MEMORY;
+        return Err(Refusal::ShortMemory);
     }
-    if record_fits(port, memory) {
-        return 0;
+    if !record_fits(port, memory) {
+        return Err(Refusal::UnfitRecord);
     }
-    UNFIT_RECORD
+    Ok(())
 }

@@ -9,7 +9,7 @@ use queue::Queue;
 fn queue_fits(queue: Queue) -> bool
     ensures { result ≡ queue_fits queue }
 {
-    crate::both(queue.start < queue::PLACES, queue.count <= queue::PLACES)
+    queue.start < queue::PLACES && queue.count <= queue::PLACES
 }
 
 // Whether every queue's are.
@@ -18,11 +18,5 @@ pub(crate) fn fit(port: &[u8]) -> bool
     ensures { result ≡ queues_fit port.now }
 {
     let best = record::head::queues(port);
-    let mut ok = true;
-    let mut q: u8 = 0;
-    while q <= best {
-        ok = crate::both(queue_fits(record::head::queue_at(port, q)), ok);
-        q += 1;
-    }
-    ok
+    (0..best + 1).all(|q| queue_fits(record::head::queue_at(port, q)))
 }

@@ -17,8 +17,7 @@ use Rattle.header.proofs.HeaderLaws.{header_whole}
 use Rattle.steps.specs.Outcome.{Outcome, gated}
 use Rattle.arriving.specs.Arriving.{arrive_step}
 use Rattle.best_effort.specs.BestEffort.{best_effort_step}
-use Rattle.binding.specs.declared.Lookup.{Lookup}
-use Rattle.binding.specs.declared.Lookup.TheVariants.{Bound, Unbound}
+use Rattle.std.specs.Prelude.{Option, Some, None}
 use Rattle.binding.specs.Finding.{lookup, is_bound, frame_lookup}
 use Rattle.gates.specs.Refusals.{arrive_refusal, best_effort_refusal}
 use Rattle.gates.specs.FrameRefusals.{bind_refusal, frame_refusal}
@@ -70,34 +69,34 @@ frame_allowed p f e =
     let b = past (not (length_fits f)) 17 0 (omega arith) a.1 in
     record { opened = not-false (open_at p) a.0; length_fits_lem = not-false (length_fits f) b.0 }
 
--- what code that asks a gate needs where its answer r is 0: numbers that fit their types, a stream of the record, and a whole header
-module _ (r : ℕ) (p : List ℕ) (zero : r ≡ 0) where
-  module _ (s : ℕ) (address : List ℕ) (vid : ℕ) (e : r ≡ bind_refusal p s address vid) where
+-- what code that asks a gate needs where it refuses nothing: numbers that fit their types, a stream of the record, and a whole header
+module _ (p : List ℕ) where
+  module _ (s : ℕ) (address : List ℕ) (vid : ℕ) (e : 0 ≡ bind_refusal p s address vid) where
     pub bind_stream : s < stream_count
-    bind_stream = (bind_allowed p s address vid (sym e ∙ zero)).stream
+    bind_stream = (bind_allowed p s address vid (sym e)).stream
 
     pub bind_vid : vid < 65536
-    bind_vid = omega (arith, (within_bounds _ _ vid (bind_allowed p s address vid (sym e ∙ zero)).vid_fits_lem).1)
+    bind_vid = omega (arith, (within_bounds _ _ vid (bind_allowed p s address vid (sym e)).vid_fits_lem).1)
 
-  module _ (f : List ℕ) (e : r ≡ frame_refusal p f) where
+  module _ (f : List ℕ) (e : 0 ≡ frame_refusal p f) where
     pub frame_length : length_fits f ≡ true
-    frame_length = (frame_allowed p f (sym e ∙ zero)).length_fits_lem
+    frame_length = (frame_allowed p f (sym e)).length_fits_lem
 
     pub frame_header : header_length ≤ length f
     frame_header = header_whole f frame_length
 
 -- code that looks the frame up and makes the call that it becomes makes the frame's step
-module _ (p m octets : List ℕ) (tag charge : ℕ) (found : Lookup) (left : Outcome) where
+module _ (p m octets : List ℕ) (tag charge : ℕ) (found : Option ℕ) (left : Outcome) where
   abbrev Looked : Type 0
   Looked = (found ≡ frame_lookup p octets) × (charge ≡ charge_of octets)
 
   became : Looked → left ≡ becomes p m charge tag found → left ≡ frame_step p m octets tag
-  became e does = does ∙ ap₂ (λ (a : ℕ) (l : Lookup). becomes p m a tag l) e.1 e.0
+  became e does = does ∙ ap₂ (λ (a : ℕ) (l : Option ℕ). becomes p m a tag l) e.1 e.0
 
-  pub became_arrival : (s : ℕ) → left ≡ gated (arrive_refusal p s charge) p m (arrive_step p m s charge tag) → found ≡ Bound s
+  pub became_arrival : (s : ℕ) → left ≡ gated (arrive_refusal p s charge) p m (arrive_step p m s charge tag) → found ≡ Some s
       → found ≡ frame_lookup p octets → charge ≡ charge_of octets → left ≡ frame_step p m octets tag
   became_arrival s does is found-so charge-so = became (found-so, charge-so) (does ∙ ap (becomes p m charge tag) (sym is))
 
-  pub became_best_effort : left ≡ gated (best_effort_refusal p charge) p m (best_effort_step p m charge tag) → found ≡ Unbound
+  pub became_best_effort : left ≡ gated (best_effort_refusal p charge) p m (best_effort_step p m charge tag) → found ≡ None
       → found ≡ frame_lookup p octets → charge ≡ charge_of octets → left ≡ frame_step p m octets tag
   became_best_effort does is found-so charge-so = became (found-so, charge-so) (does ∙ ap (becomes p m charge tag) (sym is))

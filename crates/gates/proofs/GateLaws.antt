@@ -15,7 +15,7 @@ use Rattle.ranges.specs.Ranges.{least_charge, greatest_charge, greatest_share, g
 use Rattle.ranges.proofs.RangeLaws.{within_bounds}
 use Rattle.record.specs.Reservations.{permitted_sum}
 use Rattle.steps.specs.Call.{Terms, terms}
-use Rattle.gates.specs.Refusals.{open_refusal, reserve_refusal, withdraw_refusal, arrive_refusal, best_effort_limit, best_effort_refusal}
+use Rattle.gates.specs.Refusals.{open_refusal, reserve_refusal, stream_refusal, withdraw_refusal, arrive_refusal, best_effort_limit, best_effort_refusal}
 
 -- a test that a gate is past does not hold, and the rest refuses nothing either
 pub past : (b : Bool) (n rest : ℕ) → 0 < n → cond b n rest ≡ 0 → (b ≡ false) × (rest ≡ 0)
@@ -136,32 +136,38 @@ best_effort_allowed p charge e =
       limit = ltb-false (best_effort_limit p) (waits_at p + charge) d.0;
     }
 
--- what code that asks a gate needs where its answer r is 0: numbers that fit their types, and a stream of the record
-module _ (r : ℕ) (p : List ℕ) (zero : r ≡ 0) where
-  module _ (link delay : ℕ) (e : r ≡ open_refusal p (terms link delay)) where
+-- what code that asks a gate needs where it refuses nothing: numbers that fit their types, and a stream of the record
+module _ (p : List ℕ) where
+  module _ (link delay : ℕ) (e : 0 ≡ open_refusal p (terms link delay)) where
     pub open_link : link < 65536
     open_link =
-        omega (arith, (within_bounds (link_of least_charge) (link_of greatest_share) link (open_allowed p (terms link delay) (sym e ∙ zero)).link_fits_lem).1)
+        omega (arith, (within_bounds (link_of least_charge) (link_of greatest_share) link (open_allowed p (terms link delay) (sym e)).link_fits_lem).1)
 
     pub open_delay : delay < 256
-    open_delay = omega (arith, (within_bounds 1 greatest_delay delay (open_allowed p (terms link delay) (sym e ∙ zero)).delay_fits_lem).1)
+    open_delay = omega (arith, (within_bounds 1 greatest_delay delay (open_allowed p (terms link delay) (sym e)).delay_fits_lem).1)
 
-  pub reserve_stream : (s permitted : ℕ) → r ≡ reserve_refusal p s permitted → s < stream_count
-  reserve_stream s permitted e = (reserve_allowed p s permitted (sym e ∙ zero)).stream
+  pub reserve_stream : (s permitted : ℕ) → 0 ≡ reserve_refusal p s permitted → s < stream_count
+  reserve_stream s permitted e = (reserve_allowed p s permitted (sym e)).stream
 
-  pub withdraw_stream : (s : ℕ) → r ≡ withdraw_refusal p s → s < stream_count
-  withdraw_stream s e = (withdraw_allowed p s (sym e ∙ zero)).stream
+  pub stream_below : (s : ℕ) → 0 ≡ stream_refusal p s → s < stream_count
+  unfolding stream_refusal
+  stream_below s e =
+      let a = past (not (open_at p)) 1 (cond (leb stream_count s) 5 (cond (drains_at p s) 25 0)) (omega arith) (sym e) in
+      leb-false stream_count s (past (leb stream_count s) 5 (cond (drains_at p s) 25 0) (omega arith) a.1).0
 
-  module _ (s charge : ℕ) (e : r ≡ arrive_refusal p s charge) where
+  pub withdraw_stream : (s : ℕ) → 0 ≡ withdraw_refusal p s → s < stream_count
+  withdraw_stream s e = (withdraw_allowed p s (sym e)).stream
+
+  module _ (s charge : ℕ) (e : 0 ≡ arrive_refusal p s charge) where
     pub arrive_stream : s < stream_count
-    arrive_stream = (arrive_allowed p s charge (sym e ∙ zero)).stream
+    arrive_stream = (arrive_allowed p s charge (sym e)).stream
 
     pub arrive_charge : charge < 65536
-    arrive_charge = omega (arith, (within_bounds least_charge greatest_charge charge (arrive_allowed p s charge (sym e ∙ zero)).charge_fits_lem).1)
+    arrive_charge = omega (arith, (within_bounds least_charge greatest_charge charge (arrive_allowed p s charge (sym e)).charge_fits_lem).1)
 
-  module _ (charge : ℕ) (e : r ≡ best_effort_refusal p charge) where
+  module _ (charge : ℕ) (e : 0 ≡ best_effort_refusal p charge) where
     pub best_effort_charge : charge < 65536
-    best_effort_charge = omega (arith, (within_bounds least_charge greatest_charge charge (best_effort_allowed p charge (sym e ∙ zero)).charge_fits_lem).1)
+    best_effort_charge = omega (arith, (within_bounds least_charge greatest_charge charge (best_effort_allowed p charge (sym e)).charge_fits_lem).1)
 
     pub best_effort_free : (queue_at p (best_effort_at p)).count < place_count
-    best_effort_free = (best_effort_allowed p charge (sym e ∙ zero)).free
+    best_effort_free = (best_effort_allowed p charge (sym e)).free

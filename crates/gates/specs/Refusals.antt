@@ -17,6 +17,13 @@ open_refusal p t =
     (cond (not (link_fits t.link)) 3
     (cond (not (delay_fits t.delay)) 4 0))
 
+-- what every call on a stream refuses first: "1 port closed; [..] 5 stream above 63", and 25, which is "checked right after 5"
+unfoldable pub stream_refusal : List ℕ → ℕ → ℕ
+stream_refusal p s =
+    cond (not (open_at p)) 1
+    (cond (leb stream_count s) 5
+    (cond (drains_at p s) 25 0))
+
 -- Reserve: "1 port closed; [..] 5 stream above 63; 6 reserved already; 7 P below 84; 8 sum of P above the share", and 25, "a draining stream"
 unfoldable pub reserve_refusal : List ℕ → ℕ → ℕ → ℕ
 reserve_refusal p s permitted =

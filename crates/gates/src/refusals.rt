@@ -1,5 +1,6 @@
-// What each call refuses of a record and memory that are long enough: the number of the first refusal that applies, or 0.
+// What each call refuses of a record and memory that are long enough: the first refusal that applies, where one does.
 ghost use Rattle.std.specs.Prelude.{◌≡◌, false, ◌+◌, ◌≤◌, ◌<◌, length, leb, ltb};
+ghost use Rattle.stream.specs.Replies.{refusal_number};
 ghost use Rattle.queue.specs.Ring.{place_count};
 ghost use Rattle.record.specs.Layout.{Whole, address_length};
 ghost use Rattle.record.specs.Queues.{best_effort_at};
@@ -8,59 +9,64 @@ ghost use Rattle.ranges.specs.Ranges.{share_of};
 ghost use Rattle.record.specs.Reservations.{permitted_sum};
 ghost use Rattle.steps.specs.Call.{terms};
 ghost use Rattle.best_effort.specs.BestEffort.{WaitsKept};
-ghost use Rattle.gates.specs.Refusals.{open_refusal, reserve_refusal, withdraw_refusal, arrive_refusal, closed_refusal, best_effort_limit, best_effort_refusal};
+ghost use Rattle.gates.specs.Refusals.{open_refusal, reserve_refusal, stream_refusal, withdraw_refusal, arrive_refusal, closed_refusal, best_effort_limit, best_effort_refusal};
 ghost use Rattle.gates.specs.FrameRefusals.{bind_refusal, frame_refusal};
 
-// The numbers of document 01, and 25 of document 02.
-const CLOSED: u8 = 1;
-
-const OPEN_ALREADY: u8 = 2;
-
-const LINK_RANGE: u8 = 3;
-
-const DELAY_RANGE: u8 = 4;
-
-pub const STREAM_RANGE: u8 = 5;
-
-const RESERVED_ALREADY: u8 = 6;
-
-const PERMITTED_RANGE: u8 = 7;
-
-const SHARE_EXCEEDED: u8 = 8;
-
-const VID_RANGE: u8 = 9;
-
-const BOUND_ALREADY: u8 = 10;
-
-const PAIR_BOUND_ALREADY: u8 = 11;
-
-const NOT_RESERVED: u8 = 12;
-
-const CHARGE_RANGE: u8 = 13;
-
-const BEST_EFFORT_FULL: u8 = 15;
-
-const LIMIT_EXCEEDED: u8 = 16;
-
-const FRAME_LENGTH: u8 = 17;
-
-const DRAINING: u8 = 25;
+use stream::Refusal;
 
 // The refusal of Open.
-pub(crate) fn open_port(port: &[u8], link: u32, delay: u32) -> u8
+pub(crate) fn open_port(port: &[u8], link: u32, delay: u32) -> Result<(), Refusal>
     requires { Whole port.now }
-    ensures { result ≡ open_refusal port.now (terms link delay) }
+    ensures { refusal_number result ≡ open_refusal port.now (terms link delay) }
 {
     if record::head::is_open(port) {
-        return OPEN_ALREADY;
+        return Err(Refusal::OpenAlready);
     }
     if !ranges::link_fits(link) {
-        return LINK_RANGE;
+        return Err(Refusal::LinkRange);
     }
     if !ranges::delay_fits(delay) {
-        return DELAY_RANGE;
+        return Err(Refusal::DelayRange);
     }
-    0
+    Ok(())
+}
+
+// The refusal of Tick and Transmit; every call but Open asks it first.
+pub(crate) fn closed(port: &[u8]) -> Result<(), Refusal>
+    requires { Whole port.now }
+    ensures { refusal_number result ≡ closed_refusal port.now }
+{
+    if !record::head::is_open(port) {
+        return Err(Refusal::Closed);
+    }
+    Ok(())
+}
+
+// What every call on a stream refuses first.
+fn on_stream(port: &[u8], stream: u8) -> Result<(), Refusal>
+    requires { Whole port.now }
+    ensures { refusal_number result ≡ stream_refusal port.now stream }
+{
+    closed(port)?;
+    if record::STREAMS <= stream {
+        return Err(Refusal::StreamRange);
+    }
+    if record::entry::drains(port, stream) {
+        return Err(Refusal::Draining);
+    }
+    Ok(())
+}
+
+// The refusal of Withdraw; Arrive and Bind, which are on a reserved stream too, ask it first.
+pub(crate) fn on_reserved(port: &[u8], stream: u8) -> Result<(), Refusal>
+    requires { Whole port.now }
+    ensures { refusal_number result ≡ withdraw_refusal port.now stream }
+{
+    on_stream(port, stream)?;
+    if !record::entry::stream_at(port, stream).reserved {
+        return Err(Refusal::NotReserved);
+    }
+    Ok(())
 }
 
 // Whether R with this P is above the share. Where it is not, P is a number of 16 bits, since L is.
@@ -73,83 +79,33 @@ fn exceeds_share(port: &[u8], permitted: u32) -> bool
 }
 
 // The refusal of Reserve. Where it refuses nothing, P is a number of 16 bits, since L is.
-pub(crate) fn reserve(port: &[u8], stream: u8, permitted: u32) -> u8
+pub(crate) fn reserve(port: &[u8], stream: u8, permitted: u32) -> Result<(), Refusal>
     requires { Whole port.now }
-    ensures { (result ≡ reserve_refusal port.now stream permitted) × (result ≡ 0 → permitted < 65536) }
+    ensures { (refusal_number result ≡ reserve_refusal port.now stream permitted) × (refusal_number result ≡ 0 → permitted < 65536) }
 {
-    if !record::head::is_open(port) {
-        return CLOSED;
-    }
-    if record::STREAMS <= stream {
-        return STREAM_RANGE;
-    }
-    if record::entry::drains(port, stream) {
-        return DRAINING;
-    }
+    on_stream(port, stream)?;
     if record::entry::stream_at(port, stream).reserved {
-        return RESERVED_ALREADY;
+        return Err(Refusal::ReservedAlready);
     }
     if !ranges::permitted_fits(permitted) {
-        return PERMITTED_RANGE;
+        return Err(Refusal::PermittedRange);
     }
     if exceeds_share(port, permitted) {
-        return SHARE_EXCEEDED;
+        return Err(Refusal::ShareExceeded);
     }
-    0
-}
-
-// The refusal of Withdraw.
-pub(crate) fn withdraw(port: &[u8], stream: u8) -> u8
-    requires { Whole port.now }
-    ensures { result ≡ withdraw_refusal port.now stream }
-{
-    if !record::head::is_open(port) {
-        return CLOSED;
-    }
-    if record::STREAMS <= stream {
-        return STREAM_RANGE;
-    }
-    if record::entry::drains(port, stream) {
-        return DRAINING;
-    }
-    if !record::entry::stream_at(port, stream).reserved {
-        return NOT_RESERVED;
-    }
-    0
+    Ok(())
 }
 
 // The refusal of Arrive.
-pub(crate) fn arrive(port: &[u8], stream: u8, charge: u32) -> u8
+pub(crate) fn arrive(port: &[u8], stream: u8, charge: u32) -> Result<(), Refusal>
     requires { Whole port.now }
-    ensures { result ≡ arrive_refusal port.now stream charge }
+    ensures { refusal_number result ≡ arrive_refusal port.now stream charge }
 {
-    if !record::head::is_open(port) {
-        return CLOSED;
-    }
-    if record::STREAMS <= stream {
-        return STREAM_RANGE;
-    }
-    if record::entry::drains(port, stream) {
-        return DRAINING;
-    }
-    if !record::entry::stream_at(port, stream).reserved {
-        return NOT_RESERVED;
-    }
+    on_reserved(port, stream)?;
     if !ranges::charge_fits(charge) {
-        return CHARGE_RANGE;
+        return Err(Refusal::ChargeRange);
     }
-    0
-}
-
-// The refusal of Tick and Transmit.
-pub(crate) fn closed(port: &[u8]) -> u8
-    requires { Whole port.now }
-    ensures { result ≡ closed_refusal port.now }
-{
-    if !record::head::is_open(port) {
-        return CLOSED;
-    }
-    0
+    Ok(())
 }
 
 // The most octets that may wait in best effort: K times what of L is not reserved.
@@ -159,10 +115,7 @@ fn best_effort_limit(port: &[u8]) -> u32
 {
     let link = record::head::link(port) as u32;
     let taken = fitness::streams::permitted_sum(port);
-    if link < taken {
-        return 0;
-    }
-    record::head::delay(port) as u32 * (link - taken)
+    record::head::delay(port) as u32 * link.saturating_sub(taken)
 }
 
 // Whether as many frames wait in best effort as it has places.
@@ -183,65 +136,52 @@ fn exceeds_limit(port: &[u8], charge: u32) -> bool
 }
 
 // The refusal of Best effort. Where it refuses nothing, W with the charge is a number of 32 bits, since the limit is.
-pub(crate) fn best_effort(port: &[u8], charge: u32) -> u8
+pub(crate) fn best_effort(port: &[u8], charge: u32) -> Result<(), Refusal>
     requires { Whole port.now }
-    ensures { (result ≡ best_effort_refusal port.now charge) × (result ≡ 0 → WaitsKept port.now charge) }
+    ensures { (refusal_number result ≡ best_effort_refusal port.now charge) × (refusal_number result ≡ 0 → WaitsKept port.now charge) }
 {
-    if !record::head::is_open(port) {
-        return CLOSED;
-    }
+    closed(port)?;
     if !ranges::charge_fits(charge) {
-        return CHARGE_RANGE;
+        return Err(Refusal::ChargeRange);
     }
     if is_full(port) {
-        return BEST_EFFORT_FULL;
+        return Err(Refusal::BestEffortFull);
     }
     if exceeds_limit(port, charge) {
-        return LIMIT_EXCEEDED;
+        return Err(Refusal::LimitExceeded);
     }
-    0
+    Ok(())
 }
 
 // The refusal of Bind; the address is the first six of the octets.
-pub(crate) fn bind(port: &[u8], stream: u8, address: &[u8], vid: u32) -> u8
+pub(crate) fn bind(port: &[u8], stream: u8, address: &[u8], vid: u32) -> Result<(), Refusal>
     requires { Whole port.now × (address_length ≤ length address.now) }
-    ensures { result ≡ bind_refusal port.now stream address.now vid }
+    ensures { refusal_number result ≡ bind_refusal port.now stream address.now vid }
 {
-    if !record::head::is_open(port) {
-        return CLOSED;
-    }
-    if record::STREAMS <= stream {
-        return STREAM_RANGE;
-    }
-    if record::entry::drains(port, stream) {
-        return DRAINING;
-    }
-    if !record::entry::stream_at(port, stream).reserved {
-        return NOT_RESERVED;
-    }
+    on_reserved(port, stream)?;
     if !ranges::vid_fits(vid) {
-        return VID_RANGE;
+        return Err(Refusal::VidRange);
     }
     if record::entry::is_bound(port, stream) {
-        return BOUND_ALREADY;
+        return Err(Refusal::BoundAlready);
     }
-    let found = binding::finding::of_pair(port, address, vid).found;
-    if found.is_bound() {
-        return PAIR_BOUND_ALREADY;
+    if binding::finding::of_pair(port, address, vid)
+        .found
+        .is_some()
+    {
+        return Err(Refusal::PairBoundAlready);
     }
-    0
+    Ok(())
 }
 
 // The refusal of Frame.
-pub(crate) fn frame(port: &[u8], octets: &[u8]) -> u8
+pub(crate) fn frame(port: &[u8], octets: &[u8]) -> Result<(), Refusal>
     requires { Whole port.now }
-    ensures { result ≡ frame_refusal port.now octets.now }
+    ensures { refusal_number result ≡ frame_refusal port.now octets.now }
 {
-    if !record::head::is_open(port) {
-        return CLOSED;
-    }
+    closed(port)?;
     if !header::length_fits(octets) {
-        return FRAME_LENGTH;
+        return Err(Refusal::FrameLength);
     }
-    0
+    Ok(())
 }

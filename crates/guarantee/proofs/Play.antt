@@ -14,8 +14,7 @@ use Rattle.ranges.specs.Ranges.{share_of}
 use Rattle.header.specs.Header.{charge_of, length_fits}
 use Rattle.fitness.specs.Fit.{record_fits}
 use Rattle.steps.specs.Outcome.{Outcome}
-use Rattle.binding.specs.declared.Lookup.{Lookup}
-use Rattle.binding.specs.declared.Lookup.TheVariants.{Bound, Unbound}
+use Rattle.std.specs.Prelude.{Option, Some, None}
 use Rattle.binding.specs.Finding.{frame_lookup}
 use Rattle.steps.specs.Call.{Call, opening, reserving, withdrawing, arriving, ticking, transmitting, joining_best_effort, binding, framing}
 use Rattle.gates.specs.Becoming.{becoming}
@@ -136,10 +135,10 @@ module _ (earlier : List Call) (link : ℕ) (p m k : List ℕ) (v : View) where
         (next_best_effort (with_call earlier c) (length earlier) link p m k v best (held c) charge tag (counted earlier c) (get_or_last earlier c ticking))
 
     -- a Frame, as what it becomes
-    next_becoming : (octets : List ℕ) (tag : ℕ) (found : Lookup)
+    next_becoming : (octets : List ℕ) (tag : ℕ) (found : Option ℕ)
         → AfterAs (becoming octets tag found) (called (becoming octets tag found) p m) (called (becoming octets (length earlier) found) p k)
-    next_becoming octets tag (Bound s) = next_arriving s (charge_of octets) tag
-    next_becoming octets tag Unbound = next_joining (charge_of octets) tag
+    next_becoming octets tag (Some s) = next_arriving s (charge_of octets) tag
+    next_becoming octets tag None = next_joining (charge_of octets) tag
 
     next_framing : (octets : List ℕ) (tag : ℕ) → After (framing octets tag)
     next_framing octets tag = told (length_fits octets) refl

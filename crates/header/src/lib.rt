@@ -1,4 +1,5 @@
-// A frame by its octets: its length, its charge, and what Frame reads of its header. Nothing here knows a port. The definitions are in specs/.
+// A frame by its octets: its length, its charge, and what Frame reads of its header. Nothing here knows a port. That the octets reach
+// to the header's end stays a clause: the frame is lent whole, and its length is read too. The definitions are in specs/.
 #![tactic(auto)]
 
 ghost use Rattle.std.specs.Prelude.{◌≡◌, true, ◌≤◌, length};
@@ -18,16 +19,15 @@ const VID: usize = 14;
 const VIDS: u16 = 4096;
 
 // Whether the frame's length is in its range.
+#[tactic(auto, unfolding(crate::specs::Header::length_fits))]
 pub fn length_fits(frame: &[u8]) -> bool
     ensures { result ≡ length_fits frame.now }
 {
-    if frame.len() < LEAST_LENGTH {
-        return false;
-    }
-    frame.len() <= GREATEST_LENGTH
+    (LEAST_LENGTH..=GREATEST_LENGTH).contains(&frame.len())
 }
 
 // The frame's charge.
+#[tactic(auto, using(crate::proofs::HeaderLaws::length_bounds), unfolding(crate::specs::Header::charge_of))]
 pub fn charge(frame: &[u8]) -> u32
     requires { length_fits frame.now ≡ true }
     ensures { result ≡ charge_of frame.now }
@@ -44,6 +44,7 @@ pub fn is_tagged(frame: &[u8]) -> bool
 }
 
 // The VID of a frame that has a VLAN tag.
+#[tactic(auto, unfolding(crate::specs::Header::vid_of))]
 pub fn vid(frame: &[u8]) -> u16
     requires { header_length ≤ length frame.now }
     ensures { result ≡ vid_of frame.now }

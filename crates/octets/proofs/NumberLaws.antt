@@ -1,10 +1,13 @@
--- A number's octets give the number again, octets that give the same number are the same, and a number's octets are those that gave it. Assumes nothing.
-use Prim.Native.Nat.{ℕ, ◌+◌, ◌*◌, ◌<◌}
-use mathlib.Core.Path.{◌≡◌, refl, ap₂}
-use mathlib.Core.List.{List, [], ◌∷◌, ◌++◌}
+-- A number's octets give the number again, octets that give the same number are the same, and a number's octets are those that gave it; what code that
+-- copies a number's octets writes. Assumes nothing.
+use Prim.Native.Nat.{ℕ, ◌+◌, ◌*◌, ◌/◌, ◌%◌, ◌<◌}
+use mathlib.Core.Path.{◌≡◌, refl, sym, ap, ap₂, ◌∙◌}
+use mathlib.Core.List.{List, [], ◌∷◌, ◌++◌, append-nil}
 use native.Mathlib.Omega.{arith}
-use lib.ListN.{get_or}
-use Rattle.lists.specs.Window.{get}
+use lib.ListN.{get_or, length, take, drop, take-append-drop, drop_of_length-le}
+use borrow.Rule.Slice.PartMut.{mid_of, put_mid}
+use Rattle.lists.specs.Window.{put, get}
+use Rattle.lists.proofs.WindowLaws.{length_put, take_put, put_mid_lem}
 use Rattle.octets.specs.Numbers.{two_of, two_octets, four_of, four_octets, eight_of}
 
 pub two_octets_lem : (n : ℕ) → two_of (two_octets n) ≡ n
@@ -64,3 +67,20 @@ module _ (l k : List ℕ) (o : Octets l) (p : Octets k) where
       let j' : ℕ = j + 1 + 1 + 1 + 1 in
       let s = halves (four_of (get l i 4)) (four_of (get l i' 4)) (four_of (get k j 4)) (four_of (get k j' 4)) (four_small l o i') (four_small k p j') e in
       ap₂ ◌++◌ (four_same i j s.0) (four_same i' j' s.1)
+
+-- octets copied into the part of their length are put at its start
+pub part_put : (a k : ℕ) (xs vs : List ℕ) → k ≡ length vs → length (mid_of a k xs) ≡ length vs → put_mid a k xs vs ≡ put xs a vs
+part_put a k xs vs long part =
+    ap (put_mid a k xs) (sym whole) ∙ put_mid_lem a k vs xs 0 (omega (arith, long)) ∙ ap (λ (i : ℕ). put xs i vs) (omega arith)
+  where
+    whole : put (mid_of a k xs) 0 vs ≡ vs
+    whole =
+        let l : List ℕ = put (mid_of a k xs) 0 vs in
+        sym (take-append-drop (length vs) l)
+        ∙ ap (λ (rest : List ℕ). take (length vs) l ++ rest) (drop_of_length-le l {i = length vs} (omega (arith, length_put (mid_of a k xs) 0 vs, part)))
+        ∙ append-nil _
+        ∙ take_put (mid_of a k xs) vs (omega (arith, part))
+
+-- the octets of a number of 32 bits, one by one
+pub four_bytes : (n : ℕ) → n < 4294967296 → n / 16777216 % 256 ∷ n / 65536 % 256 ∷ n / 256 % 256 ∷ n % 256 ∷ [] ≡ four_octets n
+four_bytes n small = ap₂ ◌∷◌ (omega (arith, small)) (ap₂ ◌∷◌ (omega arith) (ap₂ ◌∷◌ (omega arith) (ap₂ ◌∷◌ (omega arith) refl)))

@@ -1,25 +1,18 @@
 // Numbers of two, four and eight octets, high octet first, read and written in a slice: what the port record, the frame memory and
-// capture files are made of.
+// capture files are made of. Each size stays a function of its own: it names its number's type and its definition, and its body is the library's conversion. That the octets reach so far stays a clause: an array of them would have to be cut out of the slice.
 #![tactic(auto)]
 
-ghost use Rattle.std.specs.Prelude.{◌≡◌, ◌+◌, ◌*◌, ◌≤◌, length};
+ghost use Rattle.std.specs.Prelude.{◌≡◌, ◌+◌, ◌≤◌, length};
 ghost use Rattle.lists.specs.Window.{put, get};
 ghost use Rattle.octets.specs.Numbers.{two_of, two_octets, four_of, four_octets, eight_of};
 
-// The number of two octets.
-fn two(high: u8, low: u8) -> u16
-    ensures { result ≡ high * 256 + low }
-{
-    high as u16 * 256 + low as u16
-}
-
 // The number in the two octets from `at` on.
+#[tactic(auto, unfolding(crate::specs::Numbers::two_of))]
 pub fn two_at(octets: &[u8], at: usize) -> u16
     requires { at + 2 ≤ length octets.now }
     ensures { result ≡ two_of (get octets.now at 2) }
 {
-    let low_at = at + 1;
-    two(octets[at], octets[low_at])
+    u16::from_be_bytes([octets[at], octets[at + 1]])
 }
 
 // Writes the number into the two octets from `at` on.
@@ -27,25 +20,17 @@ pub fn put_two(octets: &mut [u8], at: usize, number: u16)
     requires { at + 2 ≤ length octets.old }
     ensures { octets.new ≡ put octets.old at (two_octets number) }
 {
-    let low_at = at + 1;
-    octets[at] = (number / 256) as u8;
-    octets[low_at] = (number % 256) as u8;
-}
-
-// The number of four octets, of which each argument has two.
-fn four(high: u16, low: u16) -> u32
-    ensures { result ≡ high * 65536 + low }
-{
-    high as u32 * 65536 + low as u32
+    octets[at..at + 2].copy_from_slice(&number.to_be_bytes());
 }
 
 // The number in the four octets from `at` on.
+#[tactic(auto, unfolding(crate::specs::Numbers::two_of, crate::specs::Numbers::four_of))]
 pub fn four_at(octets: &[u8], at: usize) -> u32
     requires { at + 4 ≤ length octets.now }
     ensures { result ≡ four_of (get octets.now at 4) }
 {
-    let low_at = at + 2;
-    four(two_at(octets, at), two_at(octets, low_at))
+    let bytes = [octets[at], octets[at + 1], octets[at + 2], octets[at + 3]];
+    u32::from_be_bytes(bytes)
 }
 
 // Writes the number into the four octets from `at` on.
@@ -53,30 +38,24 @@ pub fn put_four(octets: &mut [u8], at: usize, number: u32)
     requires { at + 4 ≤ length octets.old }
     ensures { octets.new ≡ put octets.old at (four_octets number) }
 {
-    let low_at = at + 2;
-    put_two(octets, at, (number / 65536) as u16);
-    put_two(octets, low_at, (number % 65536) as u16);
+    octets[at..at + 4].copy_from_slice(&number.to_be_bytes());
 }
 
-// The number of eight octets, of which each argument has two.
-pub fn eight(first: u16, second: u16, third: u16, last: u16) -> u64
-    ensures { result ≡ (first * 65536 + second) * 4294967296 + (third * 65536 + last) }
-{
-    first as u64 * 281474976710656 + second as u64 * 4294967296 + third as u64 * 65536 + last as u64
-}
-
-// The number in the eight octets from `at` on. It is put together two octets at a time, so that the compiler reads all eight at once.
+// The number in the eight octets from `at` on.
+#[tactic(auto, unfolding(crate::specs::Numbers::two_of, crate::specs::Numbers::four_of, crate::specs::Numbers::eight_of))]
 pub fn eight_at(octets: &[u8], at: usize) -> u64
     requires { at + 8 ≤ length octets.now }
     ensures { result ≡ eight_of (get octets.now at 8) }
 {
-    let second_at = at + 2;
-    let third_at = at + 4;
-    let last_at = at + 6;
-    eight(
-        two_at(octets, at),
-        two_at(octets, second_at),
-        two_at(octets, third_at),
-        two_at(octets, last_at),
-    )
+    let bytes = [
+        octets[at],
+        octets[at + 1],
+        octets[at + 2],
+        octets[at + 3],
+        octets[at + 4],
+        octets[at + 5],
+        octets[at + 6],
+        octets[at + 7],
+    ];
+    u64::from_be_bytes(bytes)
 }

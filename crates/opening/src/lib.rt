@@ -2,7 +2,7 @@
 #![tactic(auto)]
 
 ghost use Rattle.std.specs.Prelude.{◌≡◌, ◌<◌};
-ghost use Rattle.stream.specs.Replies.{granted};
+ghost use Rattle.stream.specs.Replies.{granted, given};
 ghost use Rattle.record.specs.Layout.{Whole, stream_count};
 ghost use Rattle.ranges.specs.Ranges.{share_of};
 ghost use Rattle.steps.specs.Call.{terms};
@@ -10,7 +10,7 @@ ghost use Rattle.opening.specs.Opening.{opened_head, all_emptied, all_dropped, o
 ghost use Rattle.opening.specs.Withdrawing.{withdrawn_record};
 
 use queue::Queue;
-use stream::{Reply, Stream};
+use stream::{Numbers, Stream};
 
 // Writes the head of an open port.
 fn open_head(port: &mut [u8], link: u16, delay: u8)
@@ -25,39 +25,37 @@ fn open_head(port: &mut [u8], link: u16, delay: u8)
 }
 
 // Empties all queues.
+#[tactic(auto, unfolding(lists::specs::Turns::iterate))]
 fn empty_queues(port: &mut [u8])
     requires { Whole port.old }
     ensures { port.new ≡ all_emptied port.old }
 {
-    let best = record::head::queues(port);
-    let mut q: u8 = 0;
-    while q <= best {
+    for q in 0..=record::head::queues(port) {
         record::head::put_queue(port, q, Queue::empty());
-        q += 1;
     }
 }
 
 // Drops all reservations and bindings.
+#[tactic(auto, unfolding(lists::specs::Turns::iterate))]
 fn drop_streams(port: &mut [u8])
     requires { Whole port.old }
     ensures { port.new ≡ all_dropped port.old }
 {
-    let mut s: u8 = 0;
-    while s < record::STREAMS {
+    for s in 0..record::STREAMS {
         record::entry::drop_stream(port, s);
-        s += 1;
     }
 }
 
 // Open(L, K).
-pub fn open_port(port: &mut [u8], link: u16, delay: u8) -> Reply
+#[tactic(auto, unfolding(crate::specs::Opening::opened_record))]
+pub fn open_port(port: &mut [u8], link: u16, delay: u8) -> Numbers
     requires { Whole port.old }
-    ensures { (result ≡ granted (share_of link) 0) × (port.new ≡ opened_record port.old (terms link delay)) }
+    ensures { (given result ≡ granted (share_of link) 0) × (port.new ≡ opened_record port.old (terms link delay)) }
 {
     open_head(port, link, delay);
     empty_queues(port);
     drop_streams(port);
-    steps::granted(ranges::share(link), 0)
+    Numbers::new(ranges::share(link), 0)
 }
 
 // The share still free.
@@ -66,28 +64,24 @@ fn free_share(port: &[u8]) -> u32
     ensures { result ≡ free_share port.now }
 {
     let share = ranges::share(record::head::link(port));
-    let taken = fitness::streams::permitted_sum(port);
-    if share < taken {
-        return 0;
-    }
-    share - taken
+    share.saturating_sub(fitness::streams::permitted_sum(port))
 }
 
 // Reserve(s, P).
-pub fn reserve(port: &mut [u8], stream: u8, permitted: u16) -> Reply
+pub fn reserve(port: &mut [u8], stream: u8, permitted: u16) -> Numbers
     requires { Whole port.old × (stream < stream_count) }
-    ensures { (result ≡ granted (free_share (reserved_record port.old stream permitted)) 0) × (port.new ≡ reserved_record port.old stream permitted) }
+    ensures { (given result ≡ granted (free_share (reserved_record port.old stream permitted)) 0) × (port.new ≡ reserved_record port.old stream permitted) }
 {
     record::entry::put_stream(port, stream, Stream::reserve(permitted));
-    steps::granted(free_share(port), 0)
+    Numbers::new(free_share(port), 0)
 }
 
 // Withdraw(s).
-pub fn withdraw(port: &mut [u8], stream: u8) -> Reply
+pub fn withdraw(port: &mut [u8], stream: u8) -> Numbers
     requires { Whole port.old × (stream < stream_count) }
-    ensures { (result ≡ granted 0 0) × (port.new ≡ withdrawn_record port.old stream) }
+    ensures { (given result ≡ granted 0 0) × (port.new ≡ withdrawn_record port.old stream) }
 {
     let queues = record::head::queues(port);
     record::entry::put_drain(port, stream, queues);
-    steps::granted(0, 0)
+    Numbers::new(0, 0)
 }

@@ -31,8 +31,7 @@ use Rattle.arriving.specs.Arriving.{arrived, arrive_step}
 use Rattle.sending.specs.Sending.{transmit_step}
 use Rattle.best_effort.specs.BestEffort.{best_effort_step}
 use Rattle.header.specs.Header.{charge_of}
-use Rattle.binding.specs.declared.Lookup.{Lookup}
-use Rattle.binding.specs.declared.Lookup.TheVariants.{Bound, Unbound}
+use Rattle.std.specs.Prelude.{Option, Some, None}
 use Rattle.binding.specs.Finding.{frame_lookup}
 use Rattle.gates.specs.Refusals.{arrive_refusal, best_effort_refusal}
 use Rattle.gates.specs.Becoming.{becomes}
@@ -99,9 +98,9 @@ module _ (p m : List ℕ) (s : ℕ) (opened : open_at p ≡ true) (drains : drai
       (sent_leaves y (omega (arith, role_below p current_role))))
       (sent_leaves x (omega (arith, role_below p prior_role)))
 
-  became_leaves : (charge tag : ℕ) (found : Lookup) → Leaves (becomes p m charge tag found)
-  became_leaves charge tag (Bound t) = gated_leaves (arrive_refusal p t charge) (arrive_step p m t charge tag) (arrive_leaves t charge tag)
-  became_leaves charge tag Unbound = gated_leaves (best_effort_refusal p charge) (best_effort_step p m charge tag) (λ e. best_effort_leaves charge tag)
+  became_leaves : (charge tag : ℕ) (found : Option ℕ) → Leaves (becomes p m charge tag found)
+  became_leaves charge tag (Some t) = gated_leaves (arrive_refusal p t charge) (arrive_step p m t charge tag) (arrive_leaves t charge tag)
+  became_leaves charge tag None = gated_leaves (best_effort_refusal p charge) (best_effort_step p m charge tag) (λ e. best_effort_leaves charge tag)
 
   -- every call but a tick
   step_leaves : (c : Call) → (c ≡ ticking → ⊥) → refusal_of c p ≡ 0 → Leaves (step_of c p m)

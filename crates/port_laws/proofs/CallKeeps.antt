@@ -32,8 +32,7 @@ use Rattle.ticking.specs.Ticking.{ticked_at, ticked_record, tick_step}
 use Rattle.sending.specs.Sending.{transmit_step}
 use Rattle.best_effort.specs.BestEffort.{best_effort_step}
 use Rattle.header.specs.Header.{charge_of}
-use Rattle.binding.specs.declared.Lookup.{Lookup}
-use Rattle.binding.specs.declared.Lookup.TheVariants.{Bound, Unbound}
+use Rattle.std.specs.Prelude.{Option, Some, None}
 use Rattle.binding.specs.Finding.{frame_lookup}
 use Rattle.gates.specs.Refusals.{arrive_refusal, best_effort_refusal}
 use Rattle.gates.specs.Becoming.{becomes}
@@ -109,9 +108,9 @@ module _ (G : List ℕ → Type 0) (kept : Kept G) where
         (kept.by_queue p y (sent_queue (queue_at p y)) g))
         (kept.by_queue p x (sent_queue (queue_at p x)) g)
 
-    became_keeps : (charge tag : ℕ) (found : Lookup) → Leaves (becomes p m charge tag found)
-    became_keeps charge tag (Bound s) = either Leaves (eqb (arrive_refusal p s charge) 0) _ _ (arrive_keeps s charge tag) g
-    became_keeps charge tag Unbound = either Leaves (eqb (best_effort_refusal p charge) 0) _ _ (best_effort_keeps charge tag) g
+    became_keeps : (charge tag : ℕ) (found : Option ℕ) → Leaves (becomes p m charge tag found)
+    became_keeps charge tag (Some s) = either Leaves (eqb (arrive_refusal p s charge) 0) _ _ (arrive_keeps s charge tag) g
+    became_keeps charge tag None = either Leaves (eqb (best_effort_refusal p charge) 0) _ _ (best_effort_keeps charge tag) g
 
     -- every step, where Open's does
     step_keeps : (c : Call) → ((t : Terms) → c ≡ opening t → Leaves (step_of c p m)) → Leaves (step_of c p m)

@@ -26,15 +26,14 @@ use Rattle.steps.specs.Roles.{role_at}
 use Rattle.steps.specs.Moves.{moved}
 use Rattle.arriving.specs.Arriving.{arrived, arrive_step}
 use Rattle.best_effort.specs.BestEffort.{best_effort_step}
-use Rattle.binding.specs.declared.Lookup.{Lookup}
-use Rattle.binding.specs.declared.Lookup.TheVariants.{Bound, Unbound}
+use Rattle.std.specs.Prelude.{Option, Some, None}
 use Rattle.binding.specs.Finding.{frame_lookup}
 use Rattle.gates.specs.Refusals.{arrive_refusal, best_effort_refusal}
 use Rattle.gates.specs.FrameRefusals.{frame_refusal}
 use Rattle.gates.proofs.NumberLaws.{Outside, outside_low, outside_high, low_test, high_test}
 use Rattle.gates.specs.Becoming.{becoming, becomes, frame_step}
 use Rattle.gates.specs.Table.{refusal_of, step_of}
-use Rattle.port.specs.Calls.{called}
+use Rattle.port.specs.Calls.{called_by, called}
 use Rattle.port.specs.Quick.{length_refusal, quickly_called}
 
 -- what a call does where 18 and 19 refuse nothing
@@ -42,10 +41,10 @@ abbrev made : Call → List ℕ → List ℕ → Outcome
 made c = performed (refusal_of c) (step_of c)
 
 -- a closed port refuses with 1 what a frame becomes
-becomes_closed : (p m : List ℕ) (charge tag : ℕ) (found : Lookup) → open_at p ≡ false → becomes p m charge tag found ≡ refused 1 p m
+becomes_closed : (p m : List ℕ) (charge tag : ℕ) (found : Option ℕ) → open_at p ≡ false → becomes p m charge tag found ≡ refused 1 p m
 unfolding arrive_refusal best_effort_refusal
-becomes_closed p m charge tag (Bound s) closed = rw closed
-becomes_closed p m charge tag Unbound closed = rw closed
+becomes_closed p m charge tag (Some s) closed = rw closed
+becomes_closed p m charge tag None closed = rw closed
 
 -- so a frame whose length is in its range does what it becomes, on every record
 frames_becomes : (p m octets : List ℕ) (tag : ℕ) → length_fits octets ≡ true → gated (frame_refusal p octets) p m (frame_step p m octets tag) ≡ frame_step p m octets tag
@@ -62,18 +61,23 @@ becomes_behind : (g : ℕ) (p m octets : List ℕ) (tag : ℕ) → length_fits o
     → gated g p m (made (framing octets tag) p m) ≡ gated g p m (made (becoming octets tag (frame_lookup p octets)) p m)
 becomes_behind g p m octets tag fits = ap (gated g p m) (frames_becomes p m octets tag fits) ∙ told (frame_lookup p octets)
   where
-    told : (found : Lookup) → gated g p m (becomes p m (charge_of octets) tag found) ≡ gated g p m (made (becoming octets tag found) p m)
-    told (Bound s) = refl
-    told Unbound = refl
+    told : (found : Option ℕ) → gated g p m (becomes p m (charge_of octets) tag found) ≡ gated g p m (made (becoming octets tag found) p m)
+    told (Some s) = refl
+    told None = refl
+
+-- by every way to look at what is lent
+pub frame_becomes_by : (lent : List ℕ → List ℕ → ℕ) (p m octets : List ℕ) (tag : ℕ) → length_fits octets ≡ true
+    → called_by lent (framing octets tag) p m ≡ called_by lent (becoming octets tag (frame_lookup p octets)) p m
+frame_becomes_by lent p m = becomes_behind (lent p m) p m
 
 -- by a call and by a quick call
 pub frame_becomes : (p m octets : List ℕ) (tag : ℕ) → length_fits octets ≡ true
     → called (framing octets tag) p m ≡ called (becoming octets tag (frame_lookup p octets)) p m
-frame_becomes p m = becomes_behind (lent_refusal p m) p m
+frame_becomes = frame_becomes_by lent_refusal
 
 pub quick_frame_becomes : (p m octets : List ℕ) (tag : ℕ) → length_fits octets ≡ true
     → quickly_called (framing octets tag) p m ≡ quickly_called (becoming octets tag (frame_lookup p octets)) p m
-quick_frame_becomes p m = becomes_behind (length_refusal p m) p m
+quick_frame_becomes = frame_becomes_by length_refusal
 
 -- and an open port refuses any other frame with 17
 pub frame_refused : (p octets : List ℕ) → open_at p ≡ true → length_fits octets ≡ false → frame_refusal p octets ≡ 17
@@ -105,13 +109,13 @@ arrived_not_17 p m s f (Joined place next) = told (leb place_count (queue_at p (
     told false = inl (omega arith)
 arrived_not_17 p m s f (Discarded spent) = inl (omega arith)
 
-becomes_not_17 : (p m : List ℕ) (charge tag : ℕ) (found : Lookup) → Not17 (becomes p m charge tag found).reply.refusal
+becomes_not_17 : (p m : List ℕ) (charge tag : ℕ) (found : Option ℕ) → Not17 (becomes p m charge tag found).reply.refusal
 unfolding arrive_refusal best_effort_refusal arrive_step best_effort_step
-becomes_not_17 p m charge tag (Bound s) =
+becomes_not_17 p m charge tag (Some s) =
     gated_not_17 (arrive_refusal p s charge) p m (arrive_step p m s charge tag)
     (search (low_test, high_test, outside_low, rules) depth 9)
     (arrived_not_17 p m s (record { stream = s; charge = charge; tag = tag }) (arrive_of (last_place_at p) (stream_at p s) charge))
-becomes_not_17 p m charge tag Unbound =
+becomes_not_17 p m charge tag None =
     gated_not_17 (best_effort_refusal p charge) p m (best_effort_step p m charge tag)
     (search (low_test, high_test, outside_low, rules) depth 9)
     (inl (omega arith))

@@ -16,8 +16,7 @@ use Rattle.ranges.specs.Ranges.{vid_fits}
 use Rattle.fitness.specs.Clauses.{unlike_earlier}
 use Rattle.fitness.specs.Fit.{record_fits}
 use Rattle.fitness.proofs.FitLaws.{fit_record}
-use Rattle.binding.specs.declared.Lookup.{Lookup}
-use Rattle.binding.specs.declared.Lookup.TheVariants.{Bound, Unbound}
+use Rattle.std.specs.Prelude.{Option, Some, None}
 use Rattle.binding.specs.Finding.{lookup}
 use Rattle.binding.specs.LookupClaims.{bound_to}
 use Rattle.binding.proofs.FindingLaws.{finds, finds_only}
@@ -68,17 +67,17 @@ module _ (p m address : List ℕ) (vid : ℕ) (fit : record_fits p m ≡ true) w
       less x y a n = ⊎_elim (λ (h : y ≤ x). absurd (n (omega arith))) (λ (h : x < y). h) (le_or_lt y x)
 
   -- the stream that is bound to them is found
-  pub bound_found : (s : ℕ) → BoundTo p s address vid → (lookup p address vid).found ≡ Bound s
+  pub bound_found : (s : ℕ) → BoundTo p s address vid → (lookup p address vid).found ≡ Some s
   bound_found s h = finds_only p address vid s h.below (tested p s address vid h) (λ t b also. one_stream s t h (bound_to_lem p t address vid b also))
 
   -- what is found is bound to them
-  pub found_bound : (s : ℕ) → (lookup p address vid).found ≡ Bound s → BoundTo p s address vid
+  pub found_bound : (s : ℕ) → (lookup p address vid).found ≡ Some s → BoundTo p s address vid
   found_bound s e = let f = finds p address vid s e in bound_to_lem p s address vid f.0 f.1.0
 
   -- and none is found where none is
-  pub none_found : ((s : ℕ) → BoundTo p s address vid → ⊥) → (lookup p address vid).found ≡ Unbound
+  pub none_found : ((s : ℕ) → BoundTo p s address vid → ⊥) → (lookup p address vid).found ≡ None
   none_found none = told (lookup p address vid).found refl
     where
-      told : (found : Lookup) → (lookup p address vid).found ≡ found → found ≡ Unbound
-      told (Bound s) e = absurd (none s (found_bound s e))
-      told Unbound e = refl
+      told : (found : Option ℕ) → (lookup p address vid).found ≡ found → found ≡ None
+      told (Some s) e = absurd (none s (found_bound s e))
+      told None e = refl

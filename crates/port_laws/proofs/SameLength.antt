@@ -28,8 +28,7 @@ use Rattle.ticking.specs.Ticking.{ticked_at, tick_step}
 use Rattle.sending.specs.Sending.{transmit_step}
 use Rattle.best_effort.specs.BestEffort.{best_effort_frame, best_effort_step}
 use Rattle.header.specs.Header.{charge_of}
-use Rattle.binding.specs.declared.Lookup.{Lookup}
-use Rattle.binding.specs.declared.Lookup.TheVariants.{Bound, Unbound}
+use Rattle.std.specs.Prelude.{Option, Some, None}
 use Rattle.binding.specs.Finding.{frame_lookup}
 use Rattle.gates.specs.Refusals.{arrive_refusal, best_effort_refusal}
 use Rattle.gates.specs.Becoming.{becomes}
@@ -93,9 +92,9 @@ module _ (p m : List ℕ) where
   unfolding tick_step
   tick_length = refl
 
-  became_length : (charge tag : ℕ) (found : Lookup) → AsLong (becomes p m charge tag found)
-  became_length charge tag (Bound s) = either AsLong (eqb (arrive_refusal p s charge) 0) _ _ (arrive_length s charge tag) refl
-  became_length charge tag Unbound = either AsLong (eqb (best_effort_refusal p charge) 0) _ _ (best_effort_length charge tag) refl
+  became_length : (charge tag : ℕ) (found : Option ℕ) → AsLong (becomes p m charge tag found)
+  became_length charge tag (Some s) = either AsLong (eqb (arrive_refusal p s charge) 0) _ _ (arrive_length s charge tag) refl
+  became_length charge tag None = either AsLong (eqb (best_effort_refusal p charge) 0) _ _ (best_effort_length charge tag) refl
 
   step_length : (c : Call) → AsLong (step_of c p m)
   step_length (opening t) = refl

@@ -16,8 +16,7 @@ use Rattle.arriving.specs.Arriving.{arrive_step}
 use Rattle.ticking.specs.Ticking.{tick_step}
 use Rattle.best_effort.specs.BestEffort.{best_effort_step}
 use Rattle.header.specs.Header.{charge_of}
-use Rattle.binding.specs.declared.Lookup.{Lookup}
-use Rattle.binding.specs.declared.Lookup.TheVariants.{Bound, Unbound}
+use Rattle.std.specs.Prelude.{Option, Some, None}
 use Rattle.binding.specs.Finding.{frame_lookup}
 use Rattle.gates.specs.Refusals.{open_refusal, arrive_refusal, best_effort_refusal}
 use Rattle.gates.specs.Becoming.{becomes}
@@ -26,7 +25,7 @@ use Rattle.gates.proofs.GateLaws.{open_allowed, reserve_allowed, withdraw_allowe
 use Rattle.gates.proofs.FrameGateLaws.{bind_allowed}
 use Rattle.port.specs.Calls.{called}
 use Rattle.port.specs.Quick.{length_refusal, quickly_called}
-use Rattle.port.proofs.LengthLaws.{long_enough}
+use Rattle.port.specs.Enough.{long_enough}
 use Rattle.port_laws.specs.Lists.{replies}
 use Rattle.port_laws.proofs.OpenFit.{open_fits_lem}
 use Rattle.port_laws.proofs.ReserveFit.{reserve_fits}
@@ -58,9 +57,9 @@ module _ (p m : List ℕ) (fit : record_fits p m ≡ true) (room : HasMemory p m
   joined_fits charge tag e = let a = best_effort_allowed p charge e in best_effort_fits p m charge tag room fit a.charge_fits_lem a.free
 
   -- a frame, as the call that it becomes
-  became_fits : (charge tag : ℕ) (found : Lookup) → LeavesFit (becomes p m charge tag found)
-  became_fits charge tag (Bound s) = gated_fits (arrive_refusal p s charge) p m (arrive_step p m s charge tag) fit (arrived_fits s charge tag)
-  became_fits charge tag Unbound = gated_fits (best_effort_refusal p charge) p m (best_effort_step p m charge tag) fit (joined_fits charge tag)
+  became_fits : (charge tag : ℕ) (found : Option ℕ) → LeavesFit (becomes p m charge tag found)
+  became_fits charge tag (Some s) = gated_fits (arrive_refusal p s charge) p m (arrive_step p m s charge tag) fit (arrived_fits s charge tag)
+  became_fits charge tag None = gated_fits (best_effort_refusal p charge) p m (best_effort_step p m charge tag) fit (joined_fits charge tag)
 
   -- the step of every call that its own refusals let through
   step_fits : (c : Call) → refusal_of c p ≡ 0 → LeavesFit (step_of c p m)

@@ -1,15 +1,15 @@
 -- A queue is first in first out: a frame that joins is the last that waits, the frame that is sent is the first, and the other queues'
 -- frames stay as they are. Over a ring that wraps. Assumes nothing.
 use Prim.Native.Nat.{ℕ, suc, ◌+◌, ◌-◌, ◌<◌}
-use mathlib.Core.Path.{◌≡◌, refl, ap, ap₂, ◌∙◌}
+use mathlib.Core.Path.{◌≡◌, refl, sym, ap, ap₂, ◌∙◌}
 use mathlib.Core.List.{List, [], ◌∷◌, ◌++◌}
 use native.Mathlib.Omega.{arith}
 use native.Mathlib.Numerals.{add-one}
 use lib.ListN.{length, get_or}
 use Rattle.lists.specs.Window.{Apart}
-use Rattle.lists.specs.Turns.{list_to}
+use Rattle.lists.specs.Turns.{list_to, sum_to}
 use Rattle.lists.proofs.WindowLaws.{get_or_put, length_put}
-use Rattle.lists.proofs.TurnLaws.{list_to_same, list_to_first, length_list_to, sum_of_snoc}
+use Rattle.lists.proofs.TurnLaws.{list_to_same, list_to_first, length_list_to, sum_of_snoc, sum_to_list}
 use Rattle.queue.specs.declared.Frame.{Frame}
 use Rattle.queue.specs.declared.Queue.{Queue}
 use Rattle.queue.specs.Place.{place_length, frame_octets, frame_at, with_frame}
@@ -60,6 +60,11 @@ pub joins_only : (m : List ℕ) (number : ℕ) (q : Queue) (f : Frame) (k : ℕ)
     → get_or (joined_memory m number q f) k 0 ≡ get_or m k 0
 unfolding joined_memory with_frame
 joins_only m number q f k h = get_or_put m (memory_offset number q q.count) (frame_octets f) k h
+
+-- the charges of the frames that wait, summed by their places
+pub charges_waiting : (m : List ℕ) (number : ℕ) (q : Queue) → charges_of (waiting m number q) ≡ sum_to (λ k. (frame_at m (memory_offset number q k)).charge) q.count
+unfolding waiting
+charges_waiting m number q = sym (sum_to_list (λ f. f.charge) (λ k. frame_at m (memory_offset number q k)) q.count)
 
 -- and the memory stays as long as it was
 pub joins_length : (m : List ℕ) (number : ℕ) (q : Queue) (f : Frame) → length (joined_memory m number q f) ≡ length m

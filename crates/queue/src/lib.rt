@@ -24,7 +24,8 @@ pub struct Frame {
     pub tag: u32,
 }
 
-// A queue: the place of its oldest frame, and how many frames wait.
+// A queue: the place of its oldest frame, and how many frames wait. It stays two numbers beside the memory, and no collection: the host lends both, and
+// nothing is allocated. Its number in the memory stays a parameter beside it: the record has start and count by that number, where they go back.
 #[derive(Clone, Copy, Drop)]
 pub struct Queue {
     pub start: u16,
@@ -85,6 +86,7 @@ fn join(part: &mut [u8], queue: Queue, frame: Frame)
 }
 
 // The frame joins the queue of this number in the whole memory, whose part of it is handed on: no octet of another place changes.
+#[tactic(auto, using(crate::proofs::PlaceLaws::frame_put_mid), unfolding(crate::specs::Ring::joined_memory))]
 pub fn join_at(memory: &mut [u8], number: u8, queue: Queue, frame: Frame)
     requires { HasPart memory.old number }
     ensures { memory.new ≡ joined_memory memory.old number queue frame }
@@ -103,6 +105,7 @@ pub fn frame_at(memory: &[u8], number: u8, queue: Queue, i: u16) -> Frame
 }
 
 // The oldest frame of the queue of this number in the whole memory.
+#[tactic(auto, unfolding(crate::specs::Ring::front_of))]
 pub fn front_at(memory: &[u8], number: u8, queue: Queue) -> Frame
     requires { HasPart memory.now number }
     ensures { result ≡ front_of memory.now number queue }
@@ -119,16 +122,14 @@ fn charge_at(memory: &[u8], number: u8, queue: Queue, i: u16) -> u16
 }
 
 // The sum of the charges that wait in the queue of this number in the whole memory.
+#[tactic(auto, using(crate::proofs::WaitingLaws::charges_waiting), unfolding(lists::specs::Turns::sum_to))]
 pub fn charges(memory: &[u8], number: u8, queue: Queue) -> u32
     requires { HasPart memory.now number }
     ensures { result ≡ charges_of (waiting memory.now number queue) }
 {
-    let count = queue.count;
     let mut sum: u32 = 0;
-    let mut i: u16 = 0;
-    while i < count {
+    for i in 0..queue.count {
         sum += charge_at(memory, number, queue, i) as u32;
-        i += 1;
     }
     sum
 }

@@ -1,4 +1,4 @@
-// A frame in its place: 8 octets, high octet first.
+// A frame in its place: 8 octets, high octet first. A place stays an index into the lent memory with a clause that it ends there: it is read where it stands.
 ghost use Rattle.std.specs.Prelude.{◌≡◌, ◌+◌, ◌≤◌, length};
 ghost use Rattle.queue.specs.Place.{place_length, frame_at, with_frame};
 
@@ -14,6 +14,7 @@ const CHARGE: usize = 2;
 const TAG: usize = 4;
 
 // The charge of the frame whose place begins at `at`.
+#[tactic(auto, using(crate::proofs::PlaceLaws::charge_at))]
 pub(crate) fn charge(memory: &[u8], at: usize) -> u16
     requires { at + place_length ≤ length memory.now }
     ensures { result ≡ (frame_at memory.now at).charge }
@@ -22,6 +23,7 @@ pub(crate) fn charge(memory: &[u8], at: usize) -> u16
 }
 
 // The frame whose place begins at `at`.
+#[tactic(auto, using(crate::proofs::PlaceLaws::stream_at_lem, crate::proofs::PlaceLaws::tag_at, crate::proofs::PlaceLaws::same_fields))]
 pub(crate) fn read(memory: &[u8], at: usize) -> Frame
     requires { at + place_length ≤ length memory.now }
     ensures { result ≡ frame_at memory.now at }
@@ -34,6 +36,7 @@ pub(crate) fn read(memory: &[u8], at: usize) -> Frame
 }
 
 // Writes the frame into the place that begins at `at`.
+#[tactic(auto, using(crate::proofs::PlaceLaws::fields_written))]
 pub(crate) fn write(memory: &mut [u8], at: usize, frame: Frame)
     requires { at + place_length ≤ length memory.old }
     ensures { memory.new ≡ with_frame memory.old at frame }

@@ -31,13 +31,10 @@ const GREATEST_VID: u32 = 4094;
 pub fn within(number: u32, least: u32, greatest: u32) -> bool
     ensures { result ≡ within least greatest number }
 {
-    if number < least {
-        return false;
-    }
-    number <= greatest
+    (least..=greatest).contains(&number)
 }
 
-// Whether the charge is in its range.
+// Whether the charge is in its range. Each range stays a function beside `within`: it has its ends in one place, and the name of its definition.
 pub fn charge_fits(charge: u32) -> bool
     ensures { result ≡ charge_fits charge }
 {
@@ -76,9 +73,5 @@ pub fn vid_fits(vid: u32) -> bool
 pub fn share(link: u16) -> u32
     ensures { result ≡ share_of link }
 {
-    let octets = link as u32;
-    if octets < GREATEST_CHARGE {
-        return 0;
-    }
-    octets - GREATEST_CHARGE
+    (link as u32).saturating_sub(GREATEST_CHARGE)
 }

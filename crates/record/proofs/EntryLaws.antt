@@ -1,11 +1,12 @@
 -- Laws of an entry's fields: a stream's reservation and its binding by their octets. Assumes nothing.
 use Prim.Native.Nat.{ℕ, ◌+◌}
-use mathlib.Core.Bool.{cond}
-use mathlib.Core.Path.{◌≡◌, sym, ap, ap₂, ◌∙◌}
+use mathlib.Core.Bool.{Bool, true, false, cond}
+use mathlib.Core.Path.{◌≡◌, refl, sym, ap, ap₂, ◌∙◌}
 use mathlib.Core.List.{List, [], ◌∷◌, ◌++◌}
 use native.Mathlib.Omega.{arith}
 use lib.ListN.{length, get_or, set}
 use lib.Dec.{eqb}
+use mir.Val.{bool_byte}
 use Rattle.lists.specs.Window.{put, get}
 use Rattle.lists.proofs.WindowLaws.{get_get, put_append}
 use Rattle.octets.specs.Numbers.{two_of, two_octets, four_of, four_octets}
@@ -45,6 +46,11 @@ four_writes l i j k n vs ws xs ys a b c =
     ∙ sym (put_append (put l i vs) j ws (xs ++ ys))
     ∙ ap (λ (at : ℕ). put (put l i vs) at (ws ++ (xs ++ ys))) (sym a)
     ∙ sym (put_append l i vs (ws ++ (xs ++ ys)))
+
+-- the octet of a mark: 1 is yes, 0 is no
+pub mark_octet : (b : Bool) → bool_byte b ≡ cond b 1 0
+mark_octet true = refl
+mark_octet false = refl
 
 -- the mark, then place and left, then P, then the draining count written are the reservation written
 pub stream_written : (l : List ℕ) (s : ℕ) (x : Stream)

@@ -1,5 +1,8 @@
-// The fields of a stream's entry: its reservation, how long it still drains, and its binding.
-ghost use Rattle.std.specs.Prelude.{◌≡◌, cond, ◌≤◌, ◌<◌, length, get_or};
+// The fields of a stream's entry: its reservation, how long it still drains, and its binding. Each stays a function of its own, for the reason that the
+// fields of the head give.
+#![tactic(auto, unfolding(crate::specs::Entry::drain_at, crate::specs::Entry::with_drain, crate::specs::Entry::drains_at, crate::specs::Entry::bound_at, crate::specs::Entry::vid_at, crate::specs::PairNumber::pair_at))]
+
+ghost use Rattle.std.specs.Prelude.{◌≡◌, ◌≤◌, ◌<◌, length, get_or};
 ghost use Rattle.record.specs.Layout.{Whole, stream_count, entry_offset, address_length};
 ghost use Rattle.record.specs.Entry.{stream_at, with_stream, with_place, drain_at, with_drain, drains_at, bound_at, vid_at, address_at, with_binding, dropped};
 ghost use Rattle.record.specs.PairNumber.{pair_at};
@@ -37,6 +40,7 @@ fn start(stream: u8) -> usize
 }
 
 // The stream's reservation.
+#[tactic(auto, using(crate::proofs::EntryLaws::stream_read))]
 pub fn stream_at(port: &[u8], stream: u8) -> Stream
     requires { Whole port.now × (stream < stream_count) }
     ensures { result ≡ stream_at port.now stream }
@@ -50,29 +54,21 @@ pub fn stream_at(port: &[u8], stream: u8) -> Stream
     }
 }
 
-// The octet of a mark.
-fn mark(yes: bool) -> u8
-    ensures { result ≡ cond yes 1 0 }
-{
-    if yes {
-        return crate::YES;
-    }
-    crate::NO
-}
-
 // Writes the stream's reservation; it does not drain.
+#[tactic(auto, using(crate::proofs::EntryLaws::mark_octet, crate::proofs::EntryLaws::stream_written))]
 pub fn put_stream(port: &mut [u8], stream: u8, reservation: Stream)
     requires { Whole port.old × (stream < stream_count) }
     ensures { port.new ≡ with_stream port.old stream reservation }
 {
     let at = start(stream);
-    crate::put_octet(port, at, mark(reservation.reserved));
+    crate::put_octet(port, at, u8::from(reservation.reserved));
     put_place(port, stream, reservation.place, reservation.left);
     octets::put_two(port, at + PERMITTED, reservation.permitted);
     crate::put_octet(port, at + DRAIN, 0);
 }
 
 // Writes the stream's place and what is left there.
+#[tactic(auto, using(crate::proofs::EntryLaws::place_written))]
 pub fn put_place(port: &mut [u8], stream: u8, place: u8, left: u16)
     requires { Whole port.old × (stream < stream_count) }
     ensures { port.new ≡ with_place port.old stream place left }
@@ -123,6 +119,7 @@ pub fn vid(port: &[u8], stream: u8) -> u16
 }
 
 // An octet of the address of the stream's binding.
+#[tactic(auto, using(lists::proofs::WindowLaws::get_or_get), unfolding(crate::specs::Entry::address_at))]
 pub fn address_octet(port: &[u8], stream: u8, index: usize) -> u8
     requires { Whole port.now × ((stream < stream_count) × (index < address_length)) }
     ensures { result ≡ get_or (address_at port.now stream) index 0 }
@@ -139,6 +136,7 @@ pub fn pair(port: &[u8], stream: u8) -> u64
 }
 
 // Binds the stream to an address, the first six of the octets, and a VID.
+#[tactic(auto, using(crate::proofs::EntryLaws::binding_written))]
 pub fn put_binding(port: &mut [u8], stream: u8, address: &[u8], vid: u16)
     requires { Whole port.old × ((stream < stream_count) × (address_length ≤ length address.now)) }
     ensures { port.new ≡ with_binding port.old stream address.now vid }
@@ -151,6 +149,7 @@ pub fn put_binding(port: &mut [u8], stream: u8, address: &[u8], vid: u16)
 }
 
 // Drops the stream's reservation and its binding, and ends its draining.
+#[tactic(auto, using(crate::proofs::EntryLaws::dropped_written))]
 pub fn drop_stream(port: &mut [u8], stream: u8)
     requires { Whole port.old × (stream < stream_count) }
     ensures { port.new ≡ dropped port.old stream }

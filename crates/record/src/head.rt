@@ -1,4 +1,7 @@
-// The fields of the record's head: open or closed, prior, K, L, W, the number of queues, and the start and count of each.
+// The fields of the record's head: open or closed, prior, K, L, W, the number of queues, and the start and count of each. Each stays a pair of
+// functions of its own, and no generic field by its place and width: the bodies are one line, and each contract says which field it is.
+#![tactic(auto, unfolding(crate::specs::Head::open_at, crate::specs::Head::with_open, crate::specs::Head::prior_at, crate::specs::Head::with_prior, crate::specs::Head::delay_at, crate::specs::Head::with_delay, crate::specs::Head::link_at, crate::specs::Head::with_link, crate::specs::Head::waits_at, crate::specs::Head::with_waits))]
+
 ghost use Rattle.std.specs.Prelude.{◌≡◌, ◌≤◌, ◌<◌};
 ghost use Rattle.stream.specs.State.{least_queues, most_queues};
 ghost use Rattle.record.specs.Layout.{Whole, memory_length, queue_room, queue_offset};
@@ -106,13 +109,14 @@ pub fn put_waits(port: &mut [u8], octets: u32)
 }
 
 // The queues for reserved traffic, of a slice of any length.
+#[tactic(auto, using(crate::proofs::QueueLaws::queues_least, crate::proofs::QueueLaws::queues_most), unfolding(crate::specs::Queues::queues_at))]
 pub fn lent_queues(port: &[u8]) -> u8
     ensures { (result ≡ queues_at port.now) × ((least_queues ≤ result) × (result ≤ most_queues)) }
 {
     crate::LEAST_QUEUES
 }
 
-// The queues for reserved traffic, of a whole record.
+// The queues for reserved traffic, of a whole record. It stays beside the one above, by which 18 goes: what is said of a whole record is asked of one.
 pub fn queues(port: &[u8]) -> u8
     requires { Whole port.now }
     ensures { (result ≡ queues_at port.now) × ((least_queues ≤ result) × (result ≤ most_queues)) }
@@ -143,6 +147,7 @@ fn queue_start(number: u8) -> usize
 }
 
 // The start and count of the queue of this number.
+#[tactic(auto, using(crate::proofs::HeadLaws::queue_read))]
 pub fn queue_at(port: &[u8], number: u8) -> Queue
     requires { Whole port.now × (number < queue_room) }
     ensures { result ≡ queue_at port.now number }
@@ -163,6 +168,7 @@ pub fn best_effort(port: &[u8]) -> Queue
 }
 
 // Writes the start and count of the queue of this number.
+#[tactic(auto, using(crate::proofs::HeadLaws::queue_written))]
 pub fn put_queue(port: &mut [u8], number: u8, queue: Queue)
     requires { Whole port.old × (number < queue_room) }
     ensures { port.new ≡ with_queue port.old number queue }

@@ -1,6 +1,7 @@
 -- The interrupt line is up exactly when flags and mask share a one. Assumes nothing.
-use Rattle.std.proofs.Common.{◌≡◌, ℕ, zero, suc, ◌+◌, ◌%◌, ◌^◌, ◌<◌, ◌≤◌, Bool, true, false, cond, ◌&&◌, ◌||◌, eqb, ◌⊎◌, List, sym, refl, ap, ◌∙◌, ap₂, inl, inr, ⊎_elim, arith}
+use Rattle.std.proofs.Common.{◌≡◌, ℕ, zero, suc, ◌+◌, ◌%◌, ◌^◌, ◌<◌, ◌≤◌, Bool, true, false, cond, ◌&&◌, ◌||◌, eqb, List, sym, refl, ap, ◌∙◌, ap₂, ⊎_elim, arith}
 use native.Mathlib.Nat.{div-eq_of_lt, pow-le-pow_right}
+use Rattle.std.proofs.lemmas.Bool.{or_left, or_right, or_cases}
 use Rattle.lists.proofs.EachLaws.{differ}
 use Rattle.lists.proofs.TurnLaws.{both}
 use Rattle.register_block.specs.Layout.{discard_flag, purge_flag, nothing_flag}
@@ -55,19 +56,6 @@ no_bit x y z n =
     let far : 2 ^ 3 ≤ 2 ^ suc (suc (suc n)) = pow-le-pow_right {n = 2} (omega arith) {i = 3} {j = suc (suc (suc n))} (omega arith) in
     ap (λ (k : ℕ). eqb (k % 2) 1) (div-eq_of_lt {n = three x y z} {m = 2 ^ suc (suc (suc n))} (omega (arith, below_eight x y z, far)))
 
--- of either test that is true, one is
-either_of : (x y : Bool) → (x || y) ≡ true → (x ≡ true) ⊎ (y ≡ true)
-either_of true y e = inl refl
-either_of false y e = inr e
-
--- a test that holds makes either true
-left_of : (x y : Bool) → x ≡ true → (x || y) ≡ true
-left_of x y e = ap (λ (t : Bool). t || y) e
-
-right_of : (x y : Bool) → y ≡ true → (x || y) ≡ true
-right_of true y e = refl
-right_of false y e = e
-
 module _ (b : List ℕ) where
   -- a flag that is up with its bit of the mask is a one that is shared
   at_flag : (flag weight n : ℕ) → weight ≡ 2 ^ n → bit_of (flags_of b) weight ≡ flag_at b flag → shares_one b flag weight ≡ true → ShareOne (flags_of b) (mask_of b)
@@ -98,14 +86,14 @@ module _ (b : List ℕ) where
   up_shares e =
       ⊎_elim
       (at_flag discard_flag bit0 0 refl discard_bit)
-      (λ rest. ⊎_elim (at_flag purge_flag bit1 1 refl purge_bit) (at_flag nothing_flag bit2 2 refl nothing_bit) (either_of (shares_one b purge_flag bit1) (shares_one b nothing_flag bit2) rest))
-      (either_of (shares_one b discard_flag bit0) (shares_one b purge_flag bit1 || shares_one b nothing_flag bit2) e)
+      (λ rest. ⊎_elim (at_flag purge_flag bit1 1 refl purge_bit) (at_flag nothing_flag bit2 2 refl nothing_bit) (or_cases (shares_one b purge_flag bit1) (shares_one b nothing_flag bit2) rest))
+      (or_cases (shares_one b discard_flag bit0) (shares_one b purge_flag bit1 || shares_one b nothing_flag bit2) e)
 
   shares_up : (n : ℕ) → bit_of (flags_of b) (2 ^ n) ≡ true → bit_of (mask_of b) (2 ^ n) ≡ true → line_up b ≡ true
   unfolding line_up flags_of
-  shares_up zero one mask = left_of (shares_one b discard_flag bit0) _ (from_bit discard_flag bit0 discard_bit one mask)
-  shares_up (suc zero) one mask = right_of (shares_one b discard_flag bit0) _ (left_of (shares_one b purge_flag bit1) (shares_one b nothing_flag bit2) (from_bit purge_flag bit1 purge_bit one mask))
-  shares_up (suc (suc zero)) one mask = right_of (shares_one b discard_flag bit0) _ (right_of (shares_one b purge_flag bit1) (shares_one b nothing_flag bit2) (from_bit nothing_flag bit2 nothing_bit one mask))
+  shares_up zero one mask = or_left (shares_one b discard_flag bit0) _ (from_bit discard_flag bit0 discard_bit one mask)
+  shares_up (suc zero) one mask = or_right (shares_one b discard_flag bit0) _ (or_left (shares_one b purge_flag bit1) (shares_one b nothing_flag bit2) (from_bit purge_flag bit1 purge_bit one mask))
+  shares_up (suc (suc zero)) one mask = or_right (shares_one b discard_flag bit0) _ (or_right (shares_one b purge_flag bit1) (shares_one b nothing_flag bit2) (from_bit nothing_flag bit2 nothing_bit one mask))
   shares_up (suc (suc (suc n))) one mask = differ (sym one ∙ no_bit (flag_at b discard_flag) (flag_at b purge_flag) (flag_at b nothing_flag) n)
 
 pub line_exactly : (b : List ℕ) → LineExactly b

@@ -21,8 +21,7 @@ use Rattle.opening.specs.Opening.{opened_record, open_step}
 use Rattle.gates.specs.Refusals.{open_refusal}
 use Rattle.gates.specs.Becoming.{becoming}
 use Rattle.header.specs.Header.{length_fits}
-use Rattle.binding.specs.declared.Lookup.{Lookup}
-use Rattle.binding.specs.declared.Lookup.TheVariants.{Bound, Unbound}
+use Rattle.std.specs.Prelude.{Option, Some, None}
 use Rattle.binding.specs.Finding.{frame_lookup}
 use Rattle.port.specs.Calls.{called}
 use Rattle.port_laws.specs.Counting.{counts_as}
@@ -65,9 +64,9 @@ call_no_open (joining_best_effort charge tag) p m opened = refl
 call_no_open (binding s address vid) p m opened = refl
 call_no_open (framing octets tag) p m opened = by_found (length_fits octets) (frame_lookup p octets)
   where
-    by_found : (fits : Bool) (found : Lookup) → granted_open (sort_of (cond fits (becoming octets tag found) (framing octets tag))) (called (framing octets tag) p m).reply ≡ false
-    by_found true (Bound s) = refl
-    by_found true Unbound = refl
+    by_found : (fits : Bool) (found : Option ℕ) → granted_open (sort_of (cond fits (becoming octets tag found) (framing octets tag))) (called (framing octets tag) p m).reply ≡ false
+    by_found true (Some s) = refl
+    by_found true None = refl
     by_found false found = refl
 
 -- the port stays open in calls one after the other,

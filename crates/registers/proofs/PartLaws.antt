@@ -1,6 +1,6 @@
 -- The two parts of what the host lends for a port, the record and the register block: their lengths, and what is left of the slice when a part comes back.
 -- And what carries every call of both sorts: a refused one, and one that is made on the record and then noted in the block. Assumes nothing.
-use Prim.Native.Nat.{ℕ, ◌-◌}
+use Prim.Native.Nat.{ℕ, ◌+◌, ◌-◌, ◌≤◌}
 use mathlib.Core.Path.{◌≡◌, refl, sym, ap, ap₂, ◌∙◌}
 use mathlib.Core.Bool.{Bool, true, false, cond}
 use mathlib.Core.Logic.{⊎_elim}
@@ -8,12 +8,14 @@ use mathlib.Core.List.{List, [], ◌++◌, append-nil}
 use native.Mathlib.Omega.{arith}
 use lib.ListN.{length, length-append, length-drop, take-append-drop, drop_of_length-le}
 use lib.Seq.{length-take-le, take_at, drop_at}
-use lib.Dec.{ltb}
+use lib.Dec.{ltb, eqb}
 use Rattle.lists.proofs.Order.{eq_or_not}
 use borrow.Author.Tests.{ltb-false, eq-eqb, ne_eqb}
 use borrow.Rule.Slice.PartMut.{mid_of, put_mid, post_of}
 use Rattle.stream.specs.declared.Reply.{Reply}
-use Rattle.stream.specs.Replies.{refused_by}
+use Rattle.stream.specs.declared.answer.Refusal.{Refusal}
+use Rattle.stream.specs.Replies.{refused_by, number_of}
+use Rattle.stream.proofs.AnswerLaws.{number_some}
 use Rattle.record.specs.Layout.{record_length, memory_length}
 use Rattle.record.specs.Queues.{queues_at}
 use Rattle.steps.specs.Call.{Call}
@@ -21,7 +23,10 @@ use Rattle.port_laws.specs.Counting.{counts_as}
 use Rattle.steps.specs.Outcome.{Outcome, outcome, gated}
 use Rattle.steps.proofs.OutcomeLaws.{same_outcome, grants, refuses}
 use Rattle.registers.specs.Lent.{port_length, WholePort, record_part, block_part, in_block, short_refusal, port_refusal}
-use Rattle.registers.specs.Notes.{noted}
+use Rattle.sending.specs.Sending.{nothing}
+use Rattle.register_block.specs.Layout.{WholeBlock}
+use Rattle.register_block.specs.Events.{withdrawn, purged, sent, sent_nothing, zeroed}
+use Rattle.registers.specs.Notes.{open_noted, withdraw_noted, tick_noted, transmit_noted, noted}
 use Rattle.registers.specs.Calls.{with_note, registered}
 
 -- a slice that is not refused for its length is long enough
@@ -119,3 +124,58 @@ lent_enough refusal p m g zero e =
     (λ (fits : short_refusal p m ≡ 0). enough p m fits)
     (λ (some : short_refusal p m ≡ 0 → ⊥). absurd (some (lent_short refusal p m (short_refusal p m) some refl ∙ sym e ∙ zero)))
     (eq_or_not (short_refusal p m) 0)
+
+-- the slice is long enough where code finds no refusal of its length: the record's part ends in it, and the block's part is a block
+pub record_within : (p m : List ℕ) → 0 ≡ short_refusal p m → record_length ≤ length p
+record_within p m e = omega (arith, enough p m (sym e))
+
+pub block_whole : (p m back : List ℕ) → 0 ≡ short_refusal p m → length back + record_length ≡ length p → WholeBlock back
+block_whole p m back e long = omega (arith, enough p m (sym e), long)
+
+pub front_whole : (front : List ℕ) → length front ≡ record_length → record_length ≤ length front
+front_whole front long = omega (arith, long)
+
+module _ (call : Call → List ℕ → List ℕ → Outcome) (c : Call) (p m : List ℕ) where
+  -- a call whose slice is too short is refused, as code passes it on by `?`
+  pub refused_short : (refusal : Refusal) (r : Reply) → r ≡ refused_by (number_of refusal) → number_of refusal ≡ short_refusal p m → outcome r p m ≡ registered call c p m
+  refused_short refusal r told e = short call c p m (number_of refusal) r told (number_some refusal) e
+
+  -- any other is made on the record and noted in the block, of which the slice is then put together
+  module _ (front back : List ℕ) (e : 0 ≡ short_refusal p m) (front_so : front ≡ record_part p) (back_so : back ≡ block_part p) (q n : List ℕ) where
+    pub made_noted : (r : Reply) (b : List ℕ) → outcome r q n ≡ call c front m → b ≡ noted (counts_as (record_part p) c) r back → outcome r (q ++ b) n ≡ registered call c p m
+    made_noted r b made so =
+        done call c p m 0 r q (q ++ b) n refl e (made ∙ ap (λ (l : List ℕ). call c l m) front_so)
+        (ap (λ (l : List ℕ). q ++ l) (so ∙ ap (noted (counts_as (record_part p) c) r) back_so))
+
+    -- one that is refused leaves the block, where its refusals are not noted
+    pub made_refused : (refusal : Refusal) (r : Reply) → r ≡ refused_by (number_of refusal) → outcome (refused_by (number_of refusal)) q n ≡ call c front m
+        → noted (counts_as (record_part p) c) (refused_by (number_of refusal)) back ≡ back → outcome r (q ++ back) n ≡ registered call c p m
+    made_refused refusal r told made quiet =
+        ap (λ (x : Reply). outcome x (q ++ back) n) told ∙ made_noted (refused_by (number_of refusal)) back made (sym quiet)
+
+-- refusals of Open, Withdraw, Tick and Transmit are not noted
+module _ (refusal : Refusal) (b : List ℕ) where
+  pub open_quiet : open_noted (number_of refusal) b ≡ b
+  unfolding open_noted
+  open_quiet = ap (λ (t : Bool). cond t (zeroed b) b) (ne_eqb _ _ (number_some refusal))
+
+  pub withdraw_quiet : (s : ℕ) → withdraw_noted s (number_of refusal) b ≡ b
+  unfolding withdraw_noted
+  withdraw_quiet s = ap (λ (t : Bool). cond t (withdrawn s b) b) (ne_eqb _ _ (number_some refusal))
+
+  pub tick_quiet : (frames : ℕ) → tick_noted (number_of refusal) frames b ≡ b
+  unfolding tick_noted
+  tick_quiet frames = ap (λ (t : Bool). cond t (cond (eqb frames 0) b (purged b)) b) (ne_eqb _ _ (number_some refusal))
+
+  pub transmit_quiet : (stream : ℕ) → transmit_noted (number_of refusal) stream b ≡ b
+  unfolding transmit_noted
+  transmit_quiet stream = ap (λ (t : Bool). cond t (cond (eqb stream nothing) (sent_nothing b) (sent b)) b) (ne_eqb _ _ (number_some refusal))
+
+-- granted ones are
+pub open_told : (b : List ℕ) → zeroed b ≡ open_noted 0 b
+unfolding open_noted
+open_told b = refl
+
+pub withdraw_told : (s : ℕ) (b : List ℕ) → withdrawn s b ≡ withdraw_noted s 0 b
+unfolding withdraw_noted
+withdraw_told s b = refl

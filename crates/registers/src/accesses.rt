@@ -1,53 +1,37 @@
-// The register accesses: a read and a write by offset, and the quick ones, which scan nothing. None asks anything of its caller.
+// The register accesses: a read and a write by offset; `Scanned` makes them with the checks of a call, `Unscanned` with those of a quick call. None asks
+// anything of its caller.
 ghost use Rattle.std.specs.Prelude.{◌≡◌, []};
-ghost use Rattle.fitness.specs.Fit.{lent_refusal};
+ghost use Rattle.stream.specs.Replies.{given, answered, refusal_number};
+ghost use Rattle.record.specs.Head.{open_at};
 ghost use Rattle.steps.specs.Outcome.{outcome};
-ghost use Rattle.port.specs.Calls.{called};
-ghost use Rattle.port.specs.Quick.{length_refusal, quickly_called};
+ghost use Rattle.port.specs.Calls.{called_by};
 ghost use Rattle.register_block.specs.Layout.{control_offset};
 ghost use Rattle.register_block.specs.Shown.{register_at};
-ghost use Rattle.record.specs.Head.{open_at};
 ghost use Rattle.registers.specs.Lent.{WholePort, block_part, port_refusal};
-ghost use Rattle.registers.specs.Accesses.{offset_refusal, named, written_by, register_read, register_write, quick_register_read, quick_register_write};
+ghost use Rattle.registers.specs.Accesses.{offset_refusal, named, written_by, read_by, write_by};
 
-use stream::Reply;
+use port::Look;
+use stream::{Numbers, Refusal};
 
-// The refusal of an offset that is no register's.
-const OFFSET_RANGE: u8 = 26;
-
-// The refusal of an offset, or 0.
-fn offset_refusal(offset: u32) -> u8
-    ensures { result ≡ offset_refusal offset }
+// The refusal of an offset that is no register's, where it is none.
+fn register_offset(offset: u32) -> Result<(), Refusal>
+    ensures { refusal_number result ≡ offset_refusal offset }
 {
     if offset % register_block::REGISTER_LENGTH != 0 {
-        return OFFSET_RANGE;
+        return Err(Refusal::OffsetRange);
     }
     if register_block::LAST_OFFSET < offset {
-        return OFFSET_RANGE;
+        return Err(Refusal::OffsetRange);
     }
-    0
+    Ok(())
 }
 
-// The refusal, 18 or 19, of what is lent, or 0.
-fn lent(port: &[u8], memory: &[u8]) -> u8
-    ensures { result ≡ port_refusal lent_refusal port.now memory.now }
+// The refusal, 18 or 19, of what is lent, where it is refused.
+fn lent<L: Look>(port: &[u8], memory: &[u8]) -> Result<(), Refusal>
+    ensures { refusal_number result ≡ port_refusal L.lent port.now memory.now }
 {
-    let refusal = crate::lengths(port, memory);
-    if refusal != 0 {
-        return refusal;
-    }
-    fitness::refusal(&port[..record::RECORD_LENGTH], memory)
-}
-
-// The refusal, 18 or 19, of what is lent by its lengths alone, or 0.
-fn lent_lengths(port: &[u8], memory: &[u8]) -> u8
-    ensures { result ≡ port_refusal length_refusal port.now memory.now }
-{
-    let refusal = crate::lengths(port, memory);
-    if refusal != 0 {
-        return refusal;
-    }
-    port::quick::lengths(&port[..record::RECORD_LENGTH], memory)
+    crate::lengths(port, memory)?;
+    L::look(&port[..record::RECORD_LENGTH], memory)
 }
 
 // The register at an offset.
@@ -60,119 +44,59 @@ fn register_at(port: &[u8], offset: u32) -> u32
 }
 
 // A read of the register at an offset.
-pub fn read(port: &[u8], memory: &[u8], offset: u32) -> Reply
-    ensures { outcome result port.now memory.now ≡ register_read offset port.now memory.now }
+pub fn read<L: Look>(port: &[u8], memory: &[u8], offset: u32) -> Result<Numbers, Refusal>
+    ensures { outcome (answered result) port.now memory.now ≡ read_by L.lent offset port.now memory.now }
 {
-    let outside = offset_refusal(offset);
-    if outside != 0 {
-        return steps::refused(outside);
-    }
-    let refusal = lent(port, memory);
-    if refusal != 0 {
-        return steps::refused(refusal);
-    }
-    steps::granted(register_at(port, offset), 0)
-}
-
-// A quick read.
-pub fn quick_read(port: &[u8], memory: &[u8], offset: u32) -> Reply
-    ensures { outcome result port.now memory.now ≡ quick_register_read offset port.now memory.now }
-{
-    let outside = offset_refusal(offset);
-    if outside != 0 {
-        return steps::refused(outside);
-    }
-    let refusal = lent_lengths(port, memory);
-    if refusal != 0 {
-        return steps::refused(refusal);
-    }
-    steps::granted(register_at(port, offset), 0)
+    register_offset(offset)?;
+    lent::<L>(port, memory)?;
+    Ok(Numbers::new(register_at(port, offset), 0))
 }
 
 // A write that makes no call.
-fn put(port: &mut [u8], memory: &[u8], offset: u32, number: u32) -> Reply
-    ensures { outcome result port.new memory.now ≡ written_by called lent_refusal offset number port.old memory.now [] }
+fn put<L: Look>(
+    port: &mut [u8],
+    memory: &[u8],
+    offset: u32,
+    number: u32,
+) -> Result<Numbers, Refusal>
+    ensures { outcome (answered result) port.new memory.now ≡ written_by (called_by L.lent) L.lent offset number port.old memory.now [] }
 {
-    let refusal = lent(port, memory);
-    if refusal != 0 {
-        return steps::refused(refusal);
-    }
-    crate::notes::write(port, offset, number);
-    steps::granted(0, 0)
-}
-
-// A quick write that makes no call.
-fn quick_put(port: &mut [u8], memory: &[u8], offset: u32, number: u32) -> Reply
-    ensures { outcome result port.new memory.now ≡ written_by quickly_called length_refusal offset number port.old memory.now [] }
-{
-    let refusal = lent_lengths(port, memory);
-    if refusal != 0 {
-        return steps::refused(refusal);
-    }
-    crate::notes::write(port, offset, number);
-    steps::granted(0, 0)
+    lent::<L>(port, memory)?;
+    let (_, block) = port.split_at_mut(record::RECORD_LENGTH);
+    register_block::write_at(block, offset, number);
+    Ok(Numbers::new(0, 0))
 }
 
 // A control write: bit 0 ticks, then bit 1 transmits.
-fn control(port: &mut [u8], memory: &[u8], number: u32) -> Reply
-    ensures { outcome result port.new memory.now ≡ written_by called lent_refusal control_offset number port.old memory.now (named number) }
+fn control<L: Look>(port: &mut [u8], memory: &[u8], number: u32) -> Result<Numbers, Refusal>
+    ensures { outcome (answered result) port.new memory.now ≡ written_by (called_by L.lent) L.lent control_offset number port.old memory.now (named number) }
 {
     let transmits = register_block::bit_of(number, register_block::BIT_1);
     if register_block::bit_of(number, register_block::BIT_0) {
-        let reply = crate::tick(port, memory);
+        let ticked = crate::tick::<L>(port, memory);
         if transmits {
-            return crate::transmit(port, memory);
+            return crate::transmit::<L>(port, memory);
         }
-        return reply;
+        return ticked;
     }
     if transmits {
-        return crate::transmit(port, memory);
+        return crate::transmit::<L>(port, memory);
     }
-    put(port, memory, register_block::CONTROL_OFFSET, number)
-}
-
-// A quick control write.
-fn quick_control(port: &mut [u8], memory: &[u8], number: u32) -> Reply
-    ensures { outcome result port.new memory.now ≡ written_by quickly_called length_refusal control_offset number port.old memory.now (named number) }
-{
-    let transmits = register_block::bit_of(number, register_block::BIT_1);
-    if register_block::bit_of(number, register_block::BIT_0) {
-        let reply = crate::quick::tick(port, memory);
-        if transmits {
-            return crate::quick::transmit(port, memory);
-        }
-        return reply;
-    }
-    if transmits {
-        return crate::quick::transmit(port, memory);
-    }
-    quick_put(port, memory, register_block::CONTROL_OFFSET, number)
+    put::<L>(port, memory, register_block::CONTROL_OFFSET, number)
 }
 
 // A write to the register at an offset.
-pub fn write(port: &mut [u8], memory: &[u8], offset: u32, number: u32) -> Reply
-    ensures { outcome result port.new memory.now ≡ register_write offset number port.old memory.now }
+pub fn write<L: Look>(
+    port: &mut [u8],
+    memory: &[u8],
+    offset: u32,
+    number: u32,
+) -> Result<Numbers, Refusal>
+    ensures { outcome (answered result) port.new memory.now ≡ write_by (called_by L.lent) L.lent offset number port.old memory.now }
 {
-    let outside = offset_refusal(offset);
-    if outside != 0 {
-        return steps::refused(outside);
-    }
+    register_offset(offset)?;
     if offset == register_block::CONTROL_OFFSET {
-        return control(port, memory, number);
+        return control::<L>(port, memory, number);
     }
-    put(port, memory, offset, number)
-}
-
-// A quick write.
-pub fn quick_write(port: &mut [u8], memory: &[u8], offset: u32, number: u32) -> Reply
-    ensures { outcome result port.new memory.now ≡ quick_register_write offset number port.old memory.now }
-{
-    let outside = offset_refusal(offset);
-    if outside != 0 {
-        return steps::refused(outside);
-    }
-    if offset == register_block::CONTROL_OFFSET {
-        return quick_control(port, memory, number);
-    }
-    quick_put(port, memory, offset, number)
+    put::<L>(port, memory, offset, number)
 }

@@ -1,8 +1,5 @@
 -- What was read lies in the room that it was read into.
-use Rattle.std.specs.Prelude.{ℕ, ◌≤◌, List, length}
-use Rattle.replay.specs.declared.Input.{Input}
-use Rattle.replay.specs.declared.Input.TheVariants.{Octets, Failed}
+use Rattle.std.specs.Prelude.{ℕ, ◌≤◌, List, length, Result, IfOk}
 
-abbrev pub FitsRoom : Input → List ℕ → Type 0
-FitsRoom (Octets n) room = n ≤ length room
-FitsRoom (Failed error) room = Unit {0}
+abbrev pub FitsRoom : {E : Type 0} → Result ℕ E → List ℕ → Type 0
+FitsRoom read room = IfOk read (λ octets. octets ≤ length room)

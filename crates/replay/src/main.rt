@@ -14,14 +14,7 @@ use std::io::{Read, Write};
 // Room for the longest capture and one octet more, by which a longer file shows.
 const FILE_LENGTH: usize = capture_file::MOST_OCTETS + 1;
 
-// What came of reading: so many octets, or a read that failed.
-#[derive(Drop)]
-enum Input {
-    Octets(usize),
-    Failed(io::Error),
-}
-
-// Room for a file.
+// Room for a file. It stays an array beside the length that was read: nothing is allocated.
 fn file_room() -> [u8; FILE_LENGTH]
     ensures { most_octets + 1 ≡ length result }
 {
@@ -36,48 +29,45 @@ fn text_room() -> [u8; capture::TEXT_LENGTH]
 }
 
 // Reads standard input until it ends, a read fails, or there is no room left.
-fn read_input(rt: &HostRuntime, file: &mut [u8]) -> Input
+fn read_input(rt: &HostRuntime, file: &mut [u8]) -> io::Result<usize>
     ensures { FitsRoom result file.new }
 {
     let mut input = rt.stdin();
     let mut done: usize = 0;
+    // Stays a `while`: each read says how many octets it gave, and `read_to_end` would need a heap.
     while done < file.len() {
-        match input.read(&mut file[done..]) {
-            Err(error) => return Input::Failed(error),
-            Ok(more) => {
-                if more == 0 {
-                    return Input::Octets(done);
-                }
-                done += more;
-            }
+        let more = input.read(&mut file[done..])?;
+        if more == 0 {
+            return Ok(done);
         }
+        done += more;
     }
-    Input::Octets(done)
+    Ok(done)
 }
 
-// Puts the output of the file at the front of the room, and returns its length. The room is long enough, so 18 is not replied.
+// Puts the output of the file at the front of the room, and returns its length. The room is long enough, so nothing is refused.
+#[tactic(auto, unfolding(capture::specs::Output::replay_of), using(lists::proofs::WindowLaws::take_put))]
 fn put_output(file: &[u8], text: &mut [u8]) -> usize
     requires { text_length ≤ length text.old }
     ensures { (result ≤ length text.new) × (take result text.new ≡ output file.now) }
 {
-    let reply = capture::replay(file, text);
-    reply.first as usize
+    let numbers = capture::replay(file, text).unwrap();
+    numbers.first as usize
 }
 
 // Writes the output of the file.
 fn write_output(rt: &HostRuntime, file: &[u8]) -> anyhow::Result<()> {
     let mut text = text_room();
     let end = put_output(file, &mut text);
-    match io::writer(rt).write_all(&text[..end]) {
-        Ok(()) => Ok(()),
-        Err(error) => Err(anyhow!("replay: standard output: {error}")),
-    }
+    io::writer(rt)
+        .write_all(&text[..end])
+        .map_err(|error| anyhow!("replay: standard output: {error}"))
 }
 
 fn main(rt: HostRuntime) -> anyhow::Result<()> {
     let mut file = file_room();
-    match read_input(&rt, &mut file) {
-        Input::Octets(length) => write_output(&rt, &file[..length]),
-        Input::Failed(error) => Err(anyhow!("replay: standard input: {error}")),
-    }
+    let length = read_input(&rt, &mut file).map_err(|error| anyhow!(
+        "replay: standard input: {error}"
+    ))?;
+    write_output(&rt, &file[..length])
 }

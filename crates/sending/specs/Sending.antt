@@ -1,7 +1,8 @@
 -- Transmit.
-use Rattle.std.specs.Prelude.{ℕ, ◌-◌, cond, List, eqb}
+use Rattle.std.specs.Prelude.{ℕ, ◌-◌, cond, List, eqb, Option, Some, None}
 use Rattle.stream.specs.Replies.{granted}
 use Rattle.stream.specs.declared.Reply.{Reply}
+use Rattle.queue.specs.declared.Frame.{Frame}
 use Rattle.queue.specs.declared.Queue.{Queue}
 use Rattle.queue.specs.Ring.{front_of, sent_queue}
 use Rattle.record.specs.Queues.{best_effort_at}
@@ -28,6 +29,11 @@ sent_best_effort p m number q =
 -- "254 nothing"
 abbrev pub nothing : ℕ
 nothing = 254
+
+-- the reply of the frame that is sent, or of none
+abbrev pub sent_answer : Option Frame → Reply
+sent_answer (Some frame) = granted frame.stream frame.tag
+sent_answer None = granted nothing 0
 
 -- what is done where a frame waits in the queue, and what else
 abbrev pub if_waiting : Queue → Outcome → Outcome → Outcome

@@ -7,7 +7,9 @@ use mathlib.Core.List.{List}
 use borrow.Author.Tests.{eq-eqb, ne_eqb}
 use Rattle.lists.proofs.Order.{eq_or_not}
 use Rattle.stream.specs.declared.Reply.{Reply}
-use Rattle.stream.specs.Replies.{refused_by}
+use Rattle.stream.specs.declared.answer.Refusal.{Refusal}
+use Rattle.stream.specs.Replies.{refused_by, number_of}
+use Rattle.stream.proofs.AnswerLaws.{number_some}
 use Rattle.steps.specs.Outcome.{Outcome, outcome, refused, gated}
 
 pub same_outcome : (r s : Reply) (p q m n : List ℕ) → r ≡ s → p ≡ q → m ≡ n → outcome r p m ≡ outcome s q n
@@ -42,3 +44,14 @@ passed r g p m left done does zero e = does ∙ sym (grants r p m done zero) ∙
 -- also where it writes no memory, and its contract tells reply and record apart
 pub passed_record : (r g : ℕ) (p q k m : List ℕ) (reply told : Reply) → reply ≡ told → q ≡ k → r ≡ 0 → r ≡ g → outcome reply q m ≡ gated g p m (outcome told k m)
 passed_record r g p q k m reply told replies writes zero e = passed r g p m _ _ (same_outcome reply told q k m m replies writes refl) zero e
+
+-- code that passes a refusal on by `?` replies it,
+pub refused_on : (refusal : Refusal) (g : ℕ) (p m : List ℕ) (done : Outcome) → number_of refusal ≡ g → outcome (refused_by (number_of refusal)) p m ≡ gated g p m done
+refused_on refusal g p m done e = stopped (number_of refusal) g _ p m done refl (number_some refusal) e
+
+-- and where there is none it goes on, with an answer of its own or with two numbers
+pub went_on : (g : ℕ) (p m : List ℕ) (left done : Outcome) → left ≡ done → 0 ≡ g → left ≡ gated g p m done
+went_on g p m left done does e = passed 0 g p m left done does refl e
+
+pub went_on_record : (g : ℕ) (p q k m : List ℕ) (reply told : Reply) → reply ≡ told → q ≡ k → 0 ≡ g → outcome reply q m ≡ gated g p m (outcome told k m)
+went_on_record g p q k m reply told replies writes e = passed_record 0 g p q k m reply told replies writes refl e

@@ -7,3 +7,4 @@ pub mod Used
 pub mod AloneLaws
 pub mod CasesHold
 pub mod RoomExamples
+pub mod AnswerLaws

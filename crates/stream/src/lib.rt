@@ -2,19 +2,21 @@
 // back, with the answer. The definitions are in specs/, in document 01's order.
 #![tactic(auto)]
 
+pub mod answer;
+
 ghost use Rattle.std.specs.Prelude.{◌≡◌, ◌≤◌, ◌<◌};
 ghost use Rattle.stream.specs.State.{at_place, full_at, reserve_of};
 ghost use Rattle.stream.specs.Steps.{advanced, advanced_if_spent, joined, discarded, arrive_of, tick_of};
-ghost use Rattle.stream.specs.Replies.{reply_of, stream_of};
+ghost use Rattle.stream.specs.Replies.{answered, reply_of, stream_of};
 
-// The first place, current.
+pub use answer::{Numbers, Refusal};
+
+// The first place, current: a number and no enum, since the later places and the queues' roles are counted on from it.
 pub const CURRENT: u8 = 1;
-
-// The refusal of a discarded frame.
-pub const DISCARD: u8 = 14;
 
 // One stream: whether it is reserved, its permitted octets per epoch (P), its place, and the octets still free there (left). The methods
 // below neither read nor change whether it is reserved: that is for the port to ask. Those of an arrival take the port's last place.
+// Reserved stays a flag beside the numbers, and no Option of them: the layout is that of an export (`bunnysolder_stream_arrive`).
 #[repr(C)]
 #[derive(Clone, Copy, Drop)]
 pub struct Stream {
@@ -24,14 +26,15 @@ pub struct Stream {
     pub left: u16,
 }
 
-// What becomes of an arriving frame: it joins the queue at a place, or it is discarded. The stream's new record comes with it.
+// What becomes of an arriving frame: it joins the queue at a place, or it is discarded. The stream's new record comes with it. It stays an enum of its own,
+// and no Result: a discard has a record that the caller stores, which `?` would pass by.
 #[derive(Clone, Copy, Drop)]
 pub enum Arrival {
     Joined(u8, Stream),
     Discarded(Stream),
 }
 
-// The reply of a call: its refusal, or 0, and two numbers.
+// The reply of a call: its refusal, or 0, and two numbers. It stays numbers: C is handed them so, and the definitions speak of them. Code answers a Result.
 #[derive(Clone, Copy, Drop)]
 pub struct Reply {
     pub refusal: u8,
@@ -165,21 +168,13 @@ impl Arrival {
         }
     }
 
-    // The reply to the arrival.
-    pub fn reply(self) -> Reply
-        ensures { result ≡ reply_of self }
+    // What the arrival answers: the place and what is left, or that the frame is discarded.
+    pub fn answer(self) -> Result<Numbers, Refusal>
+        ensures { answered result ≡ reply_of self }
     {
         match self {
-            Arrival::Joined(place, stream) => Reply {
-                refusal: 0,
-                first: place as u32,
-                second: stream.left as u32,
-            },
-            Arrival::Discarded(_) => Reply {
-                refusal: DISCARD,
-                first: 0,
-                second: 0,
-            },
+            Arrival::Joined(place, stream) => Ok(Numbers::new(place as u32, stream.left as u32)),
+            Arrival::Discarded(_) => Err(Refusal::Discard),
         }
     }
 }

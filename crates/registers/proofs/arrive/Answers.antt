@@ -1,22 +1,27 @@
 -- `registers::arrive` meets its contract. The call on the record; then its note in the block. Assumes nothing.
-use native.Mathlib.Omega.{arith}
-use mathlib.Core.Path.{◌∙◌}
-use Rattle.port.specs.Calls.{called}
+use Prim.Native.Nat.{ℕ}
+use mathlib.Core.Path.{◌≡◌, ap, ◌∙◌}
+use borrow.Author.Rules.{rules}
+use Rattle.stream.specs.Replies.{answered, refused_by, number_of}
+use Rattle.stream.proofs.AnswerLaws.{answered_number}
+use Rattle.port.specs.Calls.{called_by}
 use Rattle.registers.specs.Notes.{arrival_noted}
-use Rattle.registers.proofs.PartLaws.{whole_port, part_long, replaced_long, replaced_in, short, done}
+use Rattle.registers.proofs.PartLaws.{record_within, block_whole, refused_short, made_noted}
 use Rattle.registers.proofs.arrive.Goals as goal
 
-pub returns-then-refusal-ne0 : goal.returns-then-refusal-ne0
-returns-then-refusal-ne0 c = short called _ _ _ _ _ c.refused.ensures c.if-refusal-ne0.true c.lengths-refusal.ensures
+pub returns-in_err-lengths : goal.returns-in_err-lengths
+returns-in_err-lengths g c =
+    let told : answered c.from_residual.result ≡ refused_by (number_of c.in_err-lengths.field-0.0) = search rules in
+    refused_short (called_by g.L.Look.lent) _ _ _ _ _ told c.in_err-lengths.ensures
 
-pub slice_bounds-arrive-end : goal.slice_bounds-arrive-end
-slice_bounds-arrive-end c = let long = whole_port _ _ _ c.if-refusal-ne0.false c.lengths-refusal.ensures in omega (arith, long)
-
-pub slice_bounds-arrive-end-2 : goal.slice_bounds-arrive-end-2
-slice_bounds-arrive-end-2 c = part_long _ _ _ c.if-refusal-ne0.false c.lengths-refusal.ensures
+pub split_at_mut-record-requires : goal.split_at_mut-record-requires
+split_at_mut-record-requires g c = record_within _ _ c.in_ok-lengths.ensures
 
 pub arrive-requires : goal.arrive-requires
-arrive-requires c = replaced_long _ _ _ c.if-refusal-ne0.false c.lengths-refusal.ensures c.arrive-reply.new.port c.arrive-reply.auto.port
+arrive-requires g c = block_whole _ _ _ c.in_ok-lengths.ensures c.split_at_mut-record.ensures.back_len
 
 pub returns : goal.returns
-returns c = done called _ _ _ _ _ _ _ _ c.if-refusal-ne0.false c.lengths-refusal.ensures c.arrive-reply.ensures (c.arrive.ensures ∙ replaced_in _ _ _ c.if-refusal-ne0.false c.lengths-refusal.ensures c.arrive-reply.new.port c.arrive-reply.auto.port (arrival_noted _ _))
+returns g c =
+    let s = c.split_at_mut-record.ensures in
+    made_noted (called_by g.L.Look.lent) _ _ _ _ _ c.in_ok-lengths.ensures s.front s.back _ _ _ _ c.arrive-answer.ensures
+    (c.arrive.ensures ∙ ap (λ (n : ℕ). arrival_noted c.args.stream n c.split_at_mut-record.result.1.now) (answered_number c.arrive-answer.result))

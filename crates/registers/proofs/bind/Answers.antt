@@ -1,18 +1,20 @@
 -- `registers::bind` meets its contract. The call on the record. Assumes nothing.
-use native.Mathlib.Omega.{arith}
-use mathlib.Core.Path.{refl}
-use Rattle.registers.proofs.PartLaws.{whole_port, part_long, short, done}
-use Rattle.port.specs.Calls.{called}
+use mathlib.Core.Path.{◌≡◌, refl}
+use borrow.Author.Rules.{rules}
+use Rattle.stream.specs.Replies.{answered, refused_by, number_of}
+use Rattle.port.specs.Calls.{called_by}
+use Rattle.registers.proofs.PartLaws.{record_within, refused_short, made_noted}
 use Rattle.registers.proofs.bind.Goals as goal
 
-pub returns-then-refusal-ne0 : goal.returns-then-refusal-ne0
-returns-then-refusal-ne0 c = short called _ _ _ _ _ c.refused.ensures c.if-refusal-ne0.true c.lengths-refusal.ensures
+pub returns-in_err-lengths : goal.returns-in_err-lengths
+returns-in_err-lengths g c =
+    let told : answered c.from_residual.result ≡ refused_by (number_of c.in_err-lengths.field-0.0) = search rules in
+    refused_short (called_by g.L.Look.lent) _ _ _ _ _ told c.in_err-lengths.ensures
 
-pub slice_bounds-bind-end : goal.slice_bounds-bind-end
-slice_bounds-bind-end c = let long = whole_port _ _ _ c.if-refusal-ne0.false c.lengths-refusal.ensures in omega (arith, long)
-
-pub slice_bounds-bind-end-2 : goal.slice_bounds-bind-end-2
-slice_bounds-bind-end-2 c = part_long _ _ _ c.if-refusal-ne0.false c.lengths-refusal.ensures
+pub split_at_mut-record-requires : goal.split_at_mut-record-requires
+split_at_mut-record-requires g c = record_within _ _ c.in_ok-lengths.ensures
 
 pub returns : goal.returns
-returns c = done called _ _ _ _ _ _ _ _ c.if-refusal-ne0.false c.lengths-refusal.ensures c.bind.ensures refl
+returns g c =
+    let s = c.split_at_mut-record.ensures in
+    made_noted (called_by g.L.Look.lent) _ _ _ _ _ c.in_ok-lengths.ensures s.front s.back _ _ _ _ c.bind.ensures refl

@@ -1,22 +1,29 @@
--- `registers::open_port` meets its contract. The call on the record; then its note in the block. Assumes nothing.
-use native.Mathlib.Omega.{arith}
-use mathlib.Core.Path.{◌∙◌}
-use Rattle.registers.specs.Notes.{open_noted}
-use Rattle.registers.proofs.PartLaws.{whole_port, part_long, replaced_long, replaced_in, short, done}
-use Rattle.port.specs.Calls.{called}
+-- `registers::open_port` meets its contract. The call on the record; then the block, which is zeroed. Assumes nothing.
+use mathlib.Core.Path.{◌≡◌, ◌∙◌}
+use borrow.Author.Rules.{rules}
+use Rattle.stream.specs.Replies.{answered, refused_by, number_of}
+use Rattle.port.specs.Calls.{called_by}
+use Rattle.registers.proofs.PartLaws.{record_within, block_whole, refused_short, made_noted, made_refused, open_quiet, open_told}
 use Rattle.registers.proofs.open_port.Goals as goal
 
-pub returns-then-refusal-ne0 : goal.returns-then-refusal-ne0
-returns-then-refusal-ne0 c = short called _ _ _ _ _ c.refused.ensures c.if-refusal-ne0.true c.lengths-refusal.ensures
+pub returns-in_err-lengths : goal.returns-in_err-lengths
+returns-in_err-lengths g c =
+    let told : answered c.from_residual.result ≡ refused_by (number_of c.in_err-lengths.field-0.0) = search rules in
+    refused_short (called_by g.L.Look.lent) _ _ _ _ _ told c.in_err-lengths.ensures
 
-pub slice_bounds-open_port-end : goal.slice_bounds-open_port-end
-slice_bounds-open_port-end c = let long = whole_port _ _ _ c.if-refusal-ne0.false c.lengths-refusal.ensures in omega (arith, long)
+pub split_at_mut-record-requires : goal.split_at_mut-record-requires
+split_at_mut-record-requires g c = record_within _ _ c.in_ok-lengths.ensures
 
-pub slice_bounds-open_port-end-2 : goal.slice_bounds-open_port-end-2
-slice_bounds-open_port-end-2 c = part_long _ _ _ c.if-refusal-ne0.false c.lengths-refusal.ensures
+pub returns-in_err-numbers : goal.returns-in_err-numbers
+returns-in_err-numbers g c =
+    let s = c.split_at_mut-record.ensures in
+    let told : answered c.from_residual-in_err-numbers.result ≡ refused_by (number_of c.in_err-numbers.field-0.0) = search rules in
+    made_refused (called_by g.L.Look.lent) _ _ _ _ _ c.in_ok-lengths.ensures s.front s.back _ _ _ _ told c.in_err-numbers.ensures (open_quiet _ _)
 
-pub open-requires : goal.open-requires
-open-requires c = replaced_long _ _ _ c.if-refusal-ne0.false c.lengths-refusal.ensures c.open_port-reply.new.port c.open_port-reply.auto.port
+pub clear-requires : goal.clear-requires
+clear-requires g c = block_whole _ _ _ c.in_ok-lengths.ensures c.split_at_mut-record.ensures.back_len
 
 pub returns : goal.returns
-returns c = done called _ _ _ _ _ _ _ _ c.if-refusal-ne0.false c.lengths-refusal.ensures c.open_port-reply.ensures (c.open.ensures ∙ replaced_in _ _ _ c.if-refusal-ne0.false c.lengths-refusal.ensures c.open_port-reply.new.port c.open_port-reply.auto.port (open_noted _))
+returns g c =
+    let s = c.split_at_mut-record.ensures in
+    made_noted (called_by g.L.Look.lent) _ _ _ _ _ c.in_ok-lengths.ensures s.front s.back _ _ _ _ c.in_ok-numbers.ensures (c.clear.ensures ∙ open_told _)

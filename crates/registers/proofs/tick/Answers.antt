@@ -1,22 +1,29 @@
 -- `registers::tick` meets its contract. The call on the record; then its note in the block. Assumes nothing.
-use native.Mathlib.Omega.{arith}
-use mathlib.Core.Path.{◌∙◌}
-use Rattle.registers.specs.Notes.{tick_noted}
-use Rattle.registers.proofs.PartLaws.{whole_port, part_long, replaced_long, replaced_in, short, done}
-use Rattle.port.specs.Calls.{called}
+use mathlib.Core.Path.{◌≡◌}
+use borrow.Author.Rules.{rules}
+use Rattle.stream.specs.Replies.{answered, refused_by, number_of}
+use Rattle.port.specs.Calls.{called_by}
+use Rattle.registers.proofs.PartLaws.{record_within, block_whole, refused_short, made_noted, made_refused, tick_quiet}
 use Rattle.registers.proofs.tick.Goals as goal
 
-pub returns-then-refusal-ne0 : goal.returns-then-refusal-ne0
-returns-then-refusal-ne0 c = short called _ _ _ _ _ c.refused.ensures c.if-refusal-ne0.true c.lengths-refusal.ensures
+pub returns-in_err-lengths : goal.returns-in_err-lengths
+returns-in_err-lengths g c =
+    let told : answered c.from_residual.result ≡ refused_by (number_of c.in_err-lengths.field-0.0) = search rules in
+    refused_short (called_by g.L.Look.lent) _ _ _ _ _ told c.in_err-lengths.ensures
 
-pub slice_bounds-tick-end : goal.slice_bounds-tick-end
-slice_bounds-tick-end c = let long = whole_port _ _ _ c.if-refusal-ne0.false c.lengths-refusal.ensures in omega (arith, long)
+pub split_at_mut-record-requires : goal.split_at_mut-record-requires
+split_at_mut-record-requires g c = record_within _ _ c.in_ok-lengths.ensures
 
-pub slice_bounds-tick-end-2 : goal.slice_bounds-tick-end-2
-slice_bounds-tick-end-2 c = part_long _ _ _ c.if-refusal-ne0.false c.lengths-refusal.ensures
+pub returns-in_err-purged : goal.returns-in_err-purged
+returns-in_err-purged g c =
+    let s = c.split_at_mut-record.ensures in
+    let told : answered c.from_residual-in_err-purged.result ≡ refused_by (number_of c.in_err-purged.field-0.0) = search rules in
+    made_refused (called_by g.L.Look.lent) _ _ _ _ _ c.in_ok-lengths.ensures s.front s.back _ _ _ _ told c.in_err-purged.ensures (tick_quiet _ _ _)
 
-pub tick-requires : goal.tick-requires
-tick-requires c = replaced_long _ _ _ c.if-refusal-ne0.false c.lengths-refusal.ensures c.tick-reply.new.port c.tick-reply.auto.port
+pub tick-requires-2 : goal.tick-requires-2
+tick-requires-2 g c = block_whole _ _ _ c.in_ok-lengths.ensures c.split_at_mut-record.ensures.back_len
 
 pub returns : goal.returns
-returns c = done called _ _ _ _ _ _ _ _ c.if-refusal-ne0.false c.lengths-refusal.ensures c.tick-reply.ensures (c.tick.ensures ∙ replaced_in _ _ _ c.if-refusal-ne0.false c.lengths-refusal.ensures c.tick-reply.new.port c.tick-reply.auto.port (tick_noted _ _))
+returns g c =
+    let s = c.split_at_mut-record.ensures in
+    made_noted (called_by g.L.Look.lent) _ _ _ _ _ c.in_ok-lengths.ensures s.front s.back _ _ _ _ c.in_ok-purged.ensures c.tick-2.ensures

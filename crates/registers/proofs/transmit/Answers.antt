@@ -1,22 +1,29 @@
 -- `registers::transmit` meets its contract. The call on the record; then its note in the block. Assumes nothing.
-use native.Mathlib.Omega.{arith}
-use mathlib.Core.Path.{◌∙◌}
-use Rattle.registers.specs.Notes.{transmit_noted}
-use Rattle.registers.proofs.PartLaws.{whole_port, part_long, replaced_long, replaced_in, short, done}
-use Rattle.port.specs.Calls.{called}
+use mathlib.Core.Path.{◌≡◌}
+use borrow.Author.Rules.{rules}
+use Rattle.stream.specs.Replies.{answered, refused_by, number_of}
+use Rattle.port.specs.Calls.{called_by}
+use Rattle.registers.proofs.PartLaws.{record_within, block_whole, refused_short, made_noted, made_refused, transmit_quiet}
 use Rattle.registers.proofs.transmit.Goals as goal
 
-pub returns-then-refusal-ne0 : goal.returns-then-refusal-ne0
-returns-then-refusal-ne0 c = short called _ _ _ _ _ c.refused.ensures c.if-refusal-ne0.true c.lengths-refusal.ensures
+pub returns-in_err-lengths : goal.returns-in_err-lengths
+returns-in_err-lengths g c =
+    let told : answered c.from_residual.result ≡ refused_by (number_of c.in_err-lengths.field-0.0) = search rules in
+    refused_short (called_by g.L.Look.lent) _ _ _ _ _ told c.in_err-lengths.ensures
 
-pub slice_bounds-transmit-end : goal.slice_bounds-transmit-end
-slice_bounds-transmit-end c = let long = whole_port _ _ _ c.if-refusal-ne0.false c.lengths-refusal.ensures in omega (arith, long)
+pub split_at_mut-record-requires : goal.split_at_mut-record-requires
+split_at_mut-record-requires g c = record_within _ _ c.in_ok-lengths.ensures
 
-pub slice_bounds-transmit-end-2 : goal.slice_bounds-transmit-end-2
-slice_bounds-transmit-end-2 c = part_long _ _ _ c.if-refusal-ne0.false c.lengths-refusal.ensures
+pub returns-in_err-sent : goal.returns-in_err-sent
+returns-in_err-sent g c =
+    let s = c.split_at_mut-record.ensures in
+    let told : answered c.from_residual-in_err-sent.result ≡ refused_by (number_of c.in_err-sent.field-0.0) = search rules in
+    made_refused (called_by g.L.Look.lent) _ _ _ _ _ c.in_ok-lengths.ensures s.front s.back _ _ _ _ told c.in_err-sent.ensures (transmit_quiet _ _ _)
 
-pub transmit-requires : goal.transmit-requires
-transmit-requires c = replaced_long _ _ _ c.if-refusal-ne0.false c.lengths-refusal.ensures c.transmit-reply.new.port c.transmit-reply.auto.port
+pub transmit-requires-2 : goal.transmit-requires-2
+transmit-requires-2 g c = block_whole _ _ _ c.in_ok-lengths.ensures c.split_at_mut-record.ensures.back_len
 
 pub returns : goal.returns
-returns c = done called _ _ _ _ _ _ _ _ c.if-refusal-ne0.false c.lengths-refusal.ensures c.transmit-reply.ensures (c.transmit.ensures ∙ replaced_in _ _ _ c.if-refusal-ne0.false c.lengths-refusal.ensures c.transmit-reply.new.port c.transmit-reply.auto.port (transmit_noted _ _))
+returns g c =
+    let s = c.split_at_mut-record.ensures in
+    made_noted (called_by g.L.Look.lent) _ _ _ _ _ c.in_ok-lengths.ensures s.front s.back _ _ _ _ c.in_ok-sent.ensures c.transmit-2.ensures

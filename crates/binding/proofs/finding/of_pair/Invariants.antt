@@ -9,6 +9,3 @@ abbrev pub invariant-loop-s : goal.invariant-loop-s
 invariant-loop-s l =
     (l.s ≤ stream_count)
     × ((l.compared ≤ address_length * l.s) × (lookup l.port l.address l.vid ≡ lookup_from l.port l.address l.vid l.s (stream_count - l.s) l.compared))
-
-abbrev pub decreases-loop-s : goal.decreases-loop-s
-decreases-loop-s l = stream_count - l.s

@@ -1,29 +1,12 @@
--- `fitness::queues::fit` meets its contract. The loop's invariant: what the turns done so far answer. Assumes nothing.
-use Prim.Native.Nat.{◌+◌}
-use mathlib.Core.Bool.{◌&&◌}
-use mathlib.Core.Path.{◌≡◌, ◌∙◌, ap, ap₂}
-use native.Mathlib.Numerals.{add-one}
-use native.Mathlib.Omega.{arith}
+-- `fitness::queues::fit` meets its contract. What `all` answers over the queues is the definition by turns. Assumes nothing.
+use mathlib.Core.Path.{refl, sym}
 use borrow.Author.Rules.{rules}
-use Rattle.lists.specs.Turns.{all_to}
+use borrow.Author.Tests.{tests}
+use Rattle.record.specs.Head.{queue_at}
 use Rattle.fitness.specs.Clauses.{queue_fits}
+use Rattle.fitness.proofs.AllLaws.{all_below}
 use Rattle.fitness.proofs.queues.fit.Goals as goal
-
--- `fitness::queues::fit` meets its contract. The loop's invariant: what the turns done so far answer. Assumes nothing.
-
-pub loop-q-init : goal.loop-q-init
-unfolding all_to
-loop-q-init c = search rules
-
-pub loop-q-preserved : goal.loop-q-preserved
-unfolding all_to
-loop-q-preserved c =
-    let l = c.loop-q in
-    (omega arith, rw (add-one l.q) (c.both-ok.ensures ∙ ap₂ ◌&&◌ (c.queue_fits.ensures ∙ ap queue_fits c.queue_at.ensures) l.invariant.1))
 
 pub returns : goal.returns
 returns c =
-    let l = c.loop-q in
-    let best = c.queues-best in
-    let all : l.q ≡ best.result + 1 = omega arith in
-    rw best.ensures.0 at (rw all at l.invariant.1)
+    rw (sym c.queues-best.ensures.0) (all_below (λ q. queue_fits (queue_at c.args.port.now q)) _ _ _ _ refl c.all.ensures.ran (λ x b q k. search (rules, tests)))

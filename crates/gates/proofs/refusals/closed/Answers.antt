@@ -1,4 +1,4 @@
--- `gates::refusals::closed` meets its contract. Test after test. Assumes nothing.
+-- `gates::refusals::closed` meets its contract. Assumes nothing.
 use Rattle.gates.specs.Refusals.{closed_refusal}
 use Rattle.gates.proofs.TestLaws.{tests}
 use Rattle.gates.proofs.refusals.closed.Goals as goal

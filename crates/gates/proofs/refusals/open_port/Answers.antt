@@ -1,4 +1,4 @@
--- `gates::refusals::open_port` meets its contract. Test after test. Assumes nothing.
+-- `gates::refusals::open_port` meets its contract. Check after check. Assumes nothing.
 use Rattle.gates.specs.Refusals.{open_refusal}
 use Rattle.gates.proofs.TestLaws.{tests}
 use Rattle.gates.proofs.refusals.open_port.Goals as goal

@@ -15,21 +15,17 @@ use Rattle.registers.proofs.lookup.of_pair.Goals as goal
 pub returns-then-port-lt-PORT_LENGTH : goal.returns-then-port-lt-PORT_LENGTH
 unfolding port_lookup
 returns-then-port-lt-PORT_LENGTH c =
-    let a = c.args in
-    let short : ltb (length a.port.now) port_length ≡ true = lt-ltb _ _ c.if-port-lt-PORT_LENGTH.true in
-    simp (short, c.refused.ensures)
+    let short : ltb (length c.args.port.now) port_length ≡ true = lt-ltb _ _ c.if-port-lt-PORT_LENGTH.true in
+    simp short
 
 pub slice_bounds-of_pair-end : goal.slice_bounds-of_pair-end
 slice_bounds-of_pair-end c = sym (record_long c.args.port.now c.if-port-lt-PORT_LENGTH.false)
 
-pub of_pair-requires : goal.of_pair-requires
-of_pair-requires c =
-    let a = c.args in
-    (omega (arith, record_long a.port.now c.if-port-lt-PORT_LENGTH.false), search rules)
+pub of_pair-answer-requires : goal.of_pair-answer-requires
+of_pair-answer-requires c = (omega (arith, record_long c.args.port.now c.if-port-lt-PORT_LENGTH.false), search rules)
 
 pub returns : goal.returns
 unfolding port_lookup
 returns c =
-    let a = c.args in
-    let long : ltb (length a.port.now) port_length ≡ false = le-ltb _ _ c.if-port-lt-PORT_LENGTH.false in
-    simp long (c.reply.ensures ∙ ap lookup_reply c.of_pair.ensures)
+    let long : ltb (length c.args.port.now) port_length ≡ false = le-ltb _ _ c.if-port-lt-PORT_LENGTH.false in
+    simp long (c.from.ensures ∙ ap lookup_reply c.of_pair-answer.ensures)

@@ -1,6 +1,0 @@
--- `registers::notes::open` meets its contract. The block lent out of the slice, and put back. Assumes nothing.
-use Rattle.registers.proofs.PartLaws.{block_back}
-use Rattle.registers.proofs.notes.open.Goals as goal
-
-pub returns : goal.returns
-returns c = block_back _ _ _ c.open_in.ensures

@@ -1,6 +1,0 @@
--- `registers::notes::write` meets its contract. The block lent out of the slice, and put back. Assumes nothing.
-use Rattle.registers.proofs.PartLaws.{block_back}
-use Rattle.registers.proofs.notes.write.Goals as goal
-
-pub returns : goal.returns
-returns c = block_back _ _ _ c.write_at.ensures
