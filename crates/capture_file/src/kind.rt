@@ -1,5 +1,6 @@
 // The kinds of events.
-ghost use Rattle.capture_file.specs.Kinds.{Names};
+ghost use Rattle.std.specs.Prelude.{◌≡◌};
+ghost use Rattle.capture_file.specs.Kinds.{Names, kind_number};
 
 // What a record of a chain asks of its port, each kind with its number.
 #[derive(Clone, Copy, Debug, PartialEq, Eq, Drop)]
@@ -34,5 +35,14 @@ impl TryFrom<u8> for Kind {
             7 => Ok(Kind::Withdraw),
             _ => Err(UnknownKind(number)),
         }
+    }
+}
+
+impl From<Kind> for u8 {
+    ghost from_gives = { λ kind number. number ≡ kind_number kind };
+
+    // The kind's number.
+    fn from(kind: Kind) -> u8 {
+        kind as u8
     }
 }
