@@ -86,16 +86,19 @@ fn programs(text: &str) -> Result<Vec<WrongProgram>, String> {
         begun.take(line)?;
     }
     programs.push(begun.whole()?);
-    match named_twice(&programs) {
-        Some(law) => Err(format!("{law} is to show that two wrong programs are wrong, which are proved together")),
-        None => Ok(programs),
+    if let Some(law) = named_twice(programs.iter().flat_map(WrongProgram::shown_by)) {
+        return Err(format!("{law} is to show that two wrong programs are wrong, which are proved together"));
     }
+    if let Some(function) = named_twice(programs.iter().flat_map(WrongProgram::changed)) {
+        return Err(format!("{function} is changed by two wrong programs, which are proved together"));
+    }
+    Ok(programs)
 }
 
-/// A law that two of these wrong programs are to be shown by.
-fn named_twice(programs: &[WrongProgram]) -> Option<&String> {
-    let laws: Vec<&String> = programs.iter().flat_map(WrongProgram::shown_by).collect();
-    laws.iter().enumerate().find(|(at, law)| laws[..*at].contains(law)).map(|(_, law)| *law)
+/// A name that is among these twice.
+fn named_twice<'a>(names: impl Iterator<Item = &'a String>) -> Option<&'a String> {
+    let names: Vec<&String> = names.collect();
+    names.iter().enumerate().find(|(at, name)| names[..*at].contains(name)).map(|(_, name)| *name)
 }
 
 impl Begun {
@@ -158,6 +161,14 @@ impl WrongProgram {
     fn shown_by(&self) -> &[String] {
         match &self.evidence {
             Evidence::Shown(laws) => laws,
+            _ => &[],
+        }
+    }
+
+    /// The functions that are refused where code alone is changed: each is changed itself.
+    fn changed(&self) -> &[String] {
+        match &self.evidence {
+            Evidence::Cases => &self.refused,
             _ => &[],
         }
     }
@@ -231,6 +242,14 @@ mod tests {
         assert!(programs(&[one("so"), one("so-too")].concat()).is_ok());
         let why = "so is to show that two wrong programs are wrong, which are proved together";
         assert_eq!(wrong(&[one("so"), one("not so")].concat()), why);
+    }
+
+    #[test]
+    fn a_function_is_changed_by_one_wrong_program_of_a_file() {
+        let one = |names: &str, file: &str| format!("# words\n# refused: {names}\nfile: {file}\nold: a\nnew: b\n");
+        assert!(programs(&[one("a", "src/lib.rt"), one("b", "src/lib.rt"), one("a", "specs/A.antt")].concat()).is_ok());
+        let why = "a is changed by two wrong programs, which are proved together";
+        assert_eq!(wrong(&[one("a", "src/lib.rt"), one("b a", "src/lib.rt")].concat()), why);
     }
 
     #[test]
