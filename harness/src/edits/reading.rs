@@ -89,8 +89,8 @@ fn programs(text: &str) -> Result<Vec<WrongProgram>, String> {
     if let Some(law) = named_twice(programs.iter().flat_map(WrongProgram::shown_by)) {
         return Err(format!("{law} is to show that two wrong programs are wrong, which are proved together"));
     }
-    if let Some(function) = named_twice(programs.iter().flat_map(WrongProgram::changed)) {
-        return Err(format!("{function} is changed by two wrong programs, which are proved together"));
+    if let Some(function) = named_twice(programs.iter().flat_map(WrongProgram::named_of_code)) {
+        return Err(format!("{function} is named by two wrong programs of code, which are proved together"));
     }
     Ok(programs)
 }
@@ -165,8 +165,8 @@ impl WrongProgram {
         }
     }
 
-    /// The functions that are refused where code alone is changed: each is changed itself.
-    fn changed(&self) -> &[String] {
+    /// The functions that it names where it changes code alone: an error in one of them could be another wrong program's.
+    fn named_of_code(&self) -> &[String] {
         match &self.evidence {
             Evidence::Cases => &self.refused,
             _ => &[],
@@ -245,10 +245,10 @@ mod tests {
     }
 
     #[test]
-    fn a_function_is_changed_by_one_wrong_program_of_a_file() {
+    fn a_function_is_named_by_one_wrong_program_of_code_in_a_file() {
         let one = |names: &str, file: &str| format!("# words\n# refused: {names}\nfile: {file}\nold: a\nnew: b\n");
         assert!(programs(&[one("a", "src/lib.rt"), one("b", "src/lib.rt"), one("a", "specs/A.antt")].concat()).is_ok());
-        let why = "a is changed by two wrong programs, which are proved together";
+        let why = "a is named by two wrong programs of code, which are proved together";
         assert_eq!(wrong(&[one("a", "src/lib.rt"), one("b a", "src/lib.rt")].concat()), why);
     }
 
